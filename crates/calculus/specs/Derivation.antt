@@ -1,0 +1,51 @@
+-- Derivations: source document 000, Figure 1, cut to the kinds of 01. A scope is one list, so that an entry's number is its place in it.
+use Prim.Native.Nat.{ℕ}
+use mathlib.Core.Path.{_≡_}
+use mathlib.Core.Bool.{Bool, true, false}
+use mathlib.Core.List.{List, [], _∷_, _++_}
+use lib.ListN.{length, getD}
+use Rattle.calculus.specs.Formula.{Goal, Clause, atomᴳ, topᴳ, oneᴳ, tensor, with, lolliᴳ, topᴰ, residual}
+use Rattle.calculus.specs.Items.{Items, _∪_, _∖_, only, Empty, Splits}
+
+-- An entry of the scope: a clause that stays when used (a rule) or is gone when used (linear: a line or a lent clause).
+pub record Entry : Type 0 where
+  pub clause : Clause
+  pub linear : Bool
+
+-- "Entries are numbered: rules from 0, lines from P, lent clauses from P + T by how many lent clauses already stand in scope".
+abbrev pub Scope : Type 0
+Scope = List Entry
+
+-- Out of scope there is nothing to use: ⊤ has no head.
+abbrev pub noEntry : Entry
+noEntry = record { clause = topᴰ; linear = false }
+
+unfoldable pub clauseAt : Scope → ℕ → Clause
+clauseAt es e = getD es e noEntry .clause
+
+unfoldable pub linearAt : Scope → ℕ → Bool
+linearAt es e = getD es e noEntry .linear
+
+-- "lend: the clause joins the items for that goal alone": a lent clause takes the next number.
+unfoldable pub lend : Scope → Clause → Scope
+lend es D = es ++ (record { clause = D; linear = true } ∷ [])
+
+-- Derives es I G: the goal G is derived in the scope es from the items I, each of them spent. "Items are the tray lines and lent
+-- clauses at hand; rules are no items." The rules bear their names in Figure 1.
+pub data Derives : Scope → Items → Goal → Type 0 where
+  -- "done: from no items"
+  res-1 : {es : Scope} {I : Items} → Empty I → Derives es I oneᴳ
+  -- "rest: from any items"
+  res-⊤ : {es : Scope} {I : Items} → Derives es I topᴳ
+  -- "both: the items are divided in two, one share for each part"
+  res-⊗ : {es : Scope} {I J K : Items} {G H : Goal} → Splits I J K → Derives es J G → Derives es K H → Derives es I (tensor G H)
+  -- "either way: each part is derived from all the items"
+  res-& : {es : Scope} {I : Items} {G H : Goal} → Derives es I G → Derives es I H → Derives es I (with G H)
+  -- "lend: the clause joins the items for that goal alone and counts as must there"
+  res-⊸ : {es : Scope} {I : Items} {D : Clause} {G : Goal} → Derives (lend es D) (I ∪ only (length es)) G → Derives es I (lolliᴳ D G)
+  -- "name: one entry whose head is this name is used. A rule stays"
+  res-atm-int : {es : Scope} {I : Items} {a : ℕ} (e : ℕ) → linearAt es e ≡ false → Derives es I (residual a (clauseAt es e))
+      → Derives es I (atomᴳ a)
+  -- "a line or lent clause is gone. The recipe's conditions are then derived, dividing what remains; none may remain over."
+  res-atm-lin : {es : Scope} {I : Items} {a : ℕ} (e : ℕ) → linearAt es e ≡ true → I e ≡ true
+      → Derives es (I ∖ only e) (residual a (clauseAt es e)) → Derives es I (atomᴳ a)

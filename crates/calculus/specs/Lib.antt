@@ -1,0 +1,6 @@
+-- What a reader must believe of the calculus, in the order of document 01.
+pub mod Formula
+pub mod Items
+pub mod Derivation
+pub mod Steps
+pub mod Job

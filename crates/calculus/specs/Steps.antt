@@ -1,0 +1,95 @@
+-- What is read off a derivation: its step list, its nesting, its needs with their places; and the order of lists.
+use Prim.Native.Nat.{ℕ, zero, suc, pred, max, _<_}
+use mathlib.Core.Path.{_≡_}
+use mathlib.Core.Logic.{_↔_}
+use mathlib.Core.Bool.{Bool, false, _||_}
+use mathlib.Core.List.{List, [], _∷_, _++_, map, List·Memᴰ}
+use lib.Dec.{eqb}
+use Rattle.calculus.specs.Formula.{Goal, Clause, conditions}
+use Rattle.calculus.specs.Items.{Items}
+use Rattle.calculus.specs.Derivation.{Scope, Derives, clauseAt, res-1, res-⊤, res-⊗, res-&, res-⊸, res-atm-int, res-atm-lin}
+
+-- "The step list writes the entry used at each name, in walking order: left part before right, a clause's use before its conditions."
+unfoldable pub steps : {es : Scope} {I : Items} {G : Goal} → Derives es I G → List ℕ
+steps (res-1 n) = []
+steps res-⊤ = []
+steps (res-⊗ s l r) = steps l ++ steps r
+steps (res-& l r) = steps l ++ steps r
+steps (res-⊸ d) = steps d
+steps (res-atm-int e n d) = e ∷ steps d
+steps (res-atm-lin e n h d) = e ∷ steps d
+
+-- the entry stands in the list
+unfoldable pub stands : ℕ → List ℕ → Bool
+stands e [] = false
+stands e (x ∷ l) = eqb e x || stands e l
+
+-- "A step's nesting is 1 plus the number of uses it stands inside": the greatest nesting of any step.
+unfoldable pub nesting : {es : Scope} {I : Items} {G : Goal} → Derives es I G → ℕ
+nesting (res-1 n) = zero
+nesting res-⊤ = zero
+nesting (res-⊗ s l r) = max (nesting l) (nesting r)
+nesting (res-& l r) = max (nesting l) (nesting r)
+nesting (res-⊸ d) = nesting d
+nesting (res-atm-int e n d) = suc (nesting d)
+nesting (res-atm-lin e n h d) = suc (nesting d)
+
+-- "left or right at each both and either way, into the goal of each lend, and at a use which condition, counted from the head"
+pub data Turn : Type 0 where
+  left right into : Turn
+  condition : ℕ → Turn
+
+-- "A need is a name met as a goal": the path to it, and the entry that serves it.
+pub record Need : Type 0 where
+  pub place : List Turn
+  pub entry : ℕ
+
+unfoldable pub under : List Turn → List Need → List Need
+under p = map (λ n. record { place = p ++ n .place; entry = n .entry })
+
+-- Where a walk stands: at a goal of the card, or at the residual of a clause with so many conditions still to be walked. A residual
+-- ((1 ⊗ G₀) ⊗ G₁) ⊗ G₂ is a row of conditions, counted from the head, and its ⊗ are no part of a place.
+pub data Mode : Type 0 where
+  plain : Mode
+  row : ℕ → Mode
+
+unfoldable pub mode-left : Mode → Mode
+mode-left plain = plain
+mode-left (row n) = row (pred n)
+
+unfoldable pub turn-left : Mode → List Turn
+turn-left plain = left ∷ []
+turn-left (row n) = []
+
+unfoldable pub turn-right : Mode → List Turn
+turn-right plain = right ∷ []
+turn-right (row n) = condition (pred n) ∷ []
+
+-- the needs in walking order, with their places
+unfoldable pub needs : {es : Scope} {I : Items} {G : Goal} → Mode → Derives es I G → List Need
+needs m (res-1 n) = []
+needs m res-⊤ = []
+needs m (res-⊗ s l r) = under (turn-left m) (needs (mode-left m) l) ++ under (turn-right m) (needs plain r)
+needs m (res-& l r) = under (left ∷ []) (needs plain l) ++ under (right ∷ []) (needs plain r)
+needs m (res-⊸ d) = under (into ∷ []) (needs plain d)
+needs m (res-atm-int {es} e n d) = record { place = []; entry = e } ∷ needs (row (conditions (clauseAt es e))) d
+needs m (res-atm-lin {es} e n h d) = record { place = []; entry = e } ∷ needs (row (conditions (clauseAt es e))) d
+
+-- the derivation has a need at this place, and this entry serves it
+unfoldable pub Serves : {es : Scope} {I : Items} {G : Goal} → Derives es I G → List Turn → ℕ → Type 0
+Serves d p e = List·Memᴰ (record { place = p; entry = e }) (needs plain d)
+
+-- the derivation has a need at this place
+unfoldable pub Needed : {es : Scope} {I : Items} {G : Goal} → Derives es I G → List Turn → Type 0
+Needed d p = (e : ℕ) × Serves d p e
+
+-- "The same entry serves every need in two derivations if both have needs at the same places and at each the same entry number".
+pub record SameService {es : Scope} {I J : Items} {G : Goal} (c : Derives es I G) (d : Derives es J G) : Type 0 where
+  pub places : (p : List Turn) → Needed c p ↔ Needed d p
+  pub entries : (p : List Turn) (e f : ℕ) → Serves c p e → Serves d p f → e ≡ f
+
+-- "at the first place where two differ, the lower number wins": the first list comes before the second. It never holds between
+-- a list and a beginning of it.
+pub data Before : List ℕ → List ℕ → Type 0 where
+  here : {x y : ℕ} {l m : List ℕ} → x < y → Before (x ∷ l) (y ∷ m)
+  there : {x : ℕ} {l m : List ℕ} → Before l m → Before (x ∷ l) (x ∷ m)

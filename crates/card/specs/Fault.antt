@@ -1,0 +1,105 @@
+-- The refusals 1 to 9 (01, "Refused, and where") and soundness.
+use Prim.Native.Nat.{ℕ, _+_, _*_, _≤_, _<_, max}
+use mathlib.Core.Path.{_≡_}
+use mathlib.Core.Bool.{Bool, true, false, not, cond, _&&_, _||_}
+use mathlib.Core.List.{List}
+use lib.ListN.{length, getD, take}
+use lib.Dec.{leb, ltb, eqb}
+use Rattle.card.specs.Format.{lengthField, version, ruleCount, lineCount, nodeCount, goalNode, depthLimit, kindAt, leftAt, rightAt, ruleNode, lineNode, lineByte, cardLength, grow}
+use Rattle.card.specs.declared.checks.Built.{Built}
+use Rattle.card.specs.declared.checks.Built.the-variants.{Height, Faulty}
+use Rattle.card.specs.Verdict.{Verdict, Where, sound, card, node, rule, line, refuse, _▹_, firstOf}
+
+-- Refusals 1 to 5: the card's front.
+unfoldable pub inRange : List ℕ → Bool
+inRange bs =
+    leb (ruleCount bs) 64 && (leb (lineCount bs) 64 && (leb 1 (nodeCount bs) && (leb (nodeCount bs) 512 && leb (depthLimit bs) 16)))
+
+unfoldable pub frontFault : List ℕ → Verdict
+frontFault bs =
+    refuse (ltb (length bs) 11) 1 card
+    ▹ refuse (not (eqb (lengthField bs) (length bs))) 2 card
+    ▹ refuse (not (eqb (version bs) 1)) 3 card
+    ▹ refuse (not (inRange bs)) 4 card
+    ▹ refuse (not (eqb (cardLength bs) (length bs))) 5 card
+
+-- "reads as": kinds 1 to 6 as goals; kinds 1, 2 and 7 as clauses
+unfoldable pub isGoal : ℕ → Bool
+isGoal k = leb 1 k && leb k 6
+
+unfoldable pub isClause : ℕ → Bool
+isClause k = eqb k 1 || (eqb k 2 || eqb k 7)
+
+-- "A part's node number is lower than that of the node holding it", and the part has the reading asked for.
+unfoldable pub goalPart : List ℕ → ℕ → ℕ → Bool
+goalPart bs i part = ltb part i && isGoal (kindAt bs part)
+
+unfoldable pub clausePart : List ℕ → ℕ → ℕ → Bool
+clausePart bs i part = ltb part i && isClause (kindAt bs part)
+
+-- The table of kinds: a known kind, a name of at most 999, unused fields 0, and parts as the kind asks.
+unfoldable pub wellBuilt : List ℕ → ℕ → Bool
+wellBuilt bs i =
+    let k = kindAt bs i in
+    let l = leftAt bs i in
+    let r = rightAt bs i in
+    cond (eqb k 1) (leb l 999 && eqb r 0)
+    (cond (eqb k 2 || eqb k 3) (eqb l 0 && eqb r 0)
+    (cond (eqb k 4 || eqb k 5) (goalPart bs i l && goalPart bs i r)
+    (cond (eqb k 6) (clausePart bs i l && goalPart bs i r)
+    (cond (eqb k 7) (goalPart bs i l && clausePart bs i r) false))))
+
+-- "Height is 1 for kinds 1 to 3, else 1 plus the greater of the parts' heights": of node i, from the heights of the nodes before it.
+unfoldable pub heightStep : List ℕ → List ℕ → ℕ → ℕ
+heightStep bs t i = cond (leb (kindAt bs i) 3) 1 (max (getD t (leftAt bs i) 0) (getD t (rightAt bs i) 0) + 1)
+
+unfoldable pub heightAt : List ℕ → ℕ → ℕ
+heightAt bs i = heightStep bs (grow (heightStep bs) i) i
+
+-- Refusal 6, "height ..; at most 8".
+unfoldable pub nodeFault : List ℕ → ℕ → Verdict
+nodeFault bs i = refuse (not (wellBuilt bs i && leb (heightAt bs i) 8)) 6 (node i)
+
+-- What the check of node i answers.
+unfoldable pub builtAt : List ℕ → ℕ → Built
+builtAt bs i = cond (wellBuilt bs i && leb (heightAt bs i) 8) (Height (heightAt bs i)) Faulty
+
+-- Refusals 7 to 9: the roots.
+unfoldable pub goalFault : List ℕ → Verdict
+goalFault bs = refuse (not (goalPart bs (nodeCount bs) (goalNode bs))) 7 card
+
+unfoldable pub ruleFault : List ℕ → ℕ → Verdict
+ruleFault bs i = refuse (not (clausePart bs (nodeCount bs) (ruleNode bs i))) 8 (rule i)
+
+unfoldable pub lineGood : List ℕ → ℕ → Bool
+lineGood bs i = clausePart bs (nodeCount bs) (lineNode bs i) && leb (lineByte bs i) 1
+
+unfoldable pub lineFault : List ℕ → ℕ → Verdict
+lineFault bs i = refuse (not (lineGood bs i)) 9 (line i)
+
+-- The first of 1 to 9 that applies, with its place.
+unfoldable pub firstFault : List ℕ → Verdict
+firstFault bs =
+    frontFault bs
+    ▹ firstOf (nodeCount bs) (nodeFault bs)
+    ▹ goalFault bs
+    ▹ firstOf (ruleCount bs) (ruleFault bs)
+    ▹ firstOf (lineCount bs) (lineFault bs)
+
+-- "A card is sound if it meets none of 1 to 9 below."
+pub record Sound (bs : List ℕ) : Type 0 where
+  pub faultless : firstFault bs ≡ sound
+
+-- What later checks ask of the card, once the front has passed.
+pub record Framed (bs : List ℕ) : Type 0 where
+  pub whole : cardLength bs ≡ length bs
+  pub few : nodeCount bs ≤ 512
+  pub rules : ruleCount bs ≤ 64
+  pub lines : lineCount bs ≤ 64
+
+-- Node i stands on the card, and t begins with the heights of the nodes before it.
+pub record Tabled (bs : List ℕ) (i : ℕ) (t : List ℕ) : Type 0 where
+  pub here : 16 + 5 * i ≤ length bs
+  pub few : i < 512
+  pub size : length t ≡ 512
+  pub heights : take i t ≡ grow (heightStep bs) i

@@ -1,0 +1,24 @@
+-- Marks and the sheet's bytes (01, "Steps, nesting, order, marks" and "The sheet").
+use Prim.Native.Nat.{ℕ, _+_, _/_, _%_}
+use mathlib.Core.Path.{_≡_}
+use mathlib.Core.Bool.{cond}
+use mathlib.Core.List.{List, [], _∷_, _++_}
+use lib.ListN.{length}
+use lib.Dec.{eqb}
+use Rattle.calculus.specs.Steps.{stands}
+use Rattle.card.specs.Format.{ruleCount, lineCount, lineByte, listing}
+
+-- "1 = stands in the step list; 2 = must, not in the list (some rest covers it); 0 = may, not in the list."
+unfoldable pub markOf : List ℕ → List ℕ → ℕ → ℕ
+markOf bs l i = cond (stands (ruleCount bs + i) l) 1 (cond (eqb (lineByte bs i) 1) 2 0)
+
+unfoldable pub marksOf : List ℕ → List ℕ → List ℕ
+marksOf bs l = listing (lineCount bs) (markOf bs l)
+
+-- a number of two bytes, big-endian
+unfoldable pub word : ℕ → List ℕ
+word n = n / 256 % 256 ∷ n % 256 ∷ []
+
+-- "Length (2 bytes), version 1, step count k, T, then k steps, then T marks: 5 + k + T bytes."
+unfoldable pub sheetOf : List ℕ → List ℕ → List ℕ
+sheetOf bs l = word (5 + length l + lineCount bs) ++ (1 ∷ length l ∷ lineCount bs ∷ (l ++ marksOf bs l))

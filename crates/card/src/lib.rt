@@ -1,0 +1,53 @@
+// The card (01, "The card"): access to its bytes, and the checks 1 to 9.
+mod checks;
+pub mod format;
+
+ghost use mathlib.Core.Path.{_≡_};
+ghost use Rattle.card.specs.Verdict.{told};
+ghost use Rattle.card.specs.Fault.{firstFault};
+
+// 01: "the place names its thing".
+pub enum Place {
+    Card,
+    Node(u16),
+    Rule(u16),
+    Line(u16),
+    Sheet,
+    Steps,
+    Mark(u16),
+}
+
+// 01: "A refusal is a number with a place".
+pub struct Refusal {
+    pub number: u8,
+    pub place: Place,
+}
+
+// What a check of the card finds.
+pub enum Checked {
+    Sound,
+    Refused(Refusal),
+}
+
+// The first of 1 to 9 that applies, or that the card is sound.
+pub fn check(card: &[u8]) -> Checked
+    ensures { λ r. ⌜ told r ≡ firstFault (now (card .entry)) ⌝ }
+{
+    let front = checks::front_check(card);
+    let Checked::Sound = front else {
+        return front;
+    };
+    let nodes = checks::nodes_check(card);
+    let Checked::Sound = nodes else {
+        return nodes;
+    };
+    let goal = checks::goal_check(card);
+    let Checked::Sound = goal else {
+        return goal;
+    };
+    let rules = checks::rules_check(card);
+    let Checked::Sound = rules else {
+        return rules;
+    };
+    checks::lines_check(card)
+}

@@ -1,0 +1,2 @@
+-- What the contracts of the line set cite.
+pub mod Set
