@@ -132,7 +132,7 @@ pub data Find : ℕ → Scope → Goal → Items → Items → List ℕ → Item
       → Find (suc n) es (atomᴳ a) S L (e ∷ l) U v
 
 -- Laws of the right part's window.
-tensor-bound : (v : Bool) (S L U : Items) → Within (tensor-strict v S U ∪ tensor-lax v S L U) (S ∪ L)
+pub tensor-bound : (v : Bool) (S L U : Items) → Within (tensor-strict v S U ∪ tensor-lax v S L U) (S ∪ L)
 unfolding tensor-strict tensor-lax ∅ _∪_ _∖_
 tensor-bound v S L U = record {
   kept = λ i. table 4 (λ v s l u. cond v false (s && not u) || cond v ((s || l) && not u) (l && not u) ⊑ s || l) refl
@@ -172,7 +172,7 @@ tensor-covers {T} {U} {W} {x} {w} v S e s c = record {
       x v w (S i) (T i) (U i) (W i) e (s .whole i) (c .cover i);
 }
 
-with-bound : {U : Items} (v : Bool) (S L : Items) → Within U (S ∪ L) → Within (with-strict v S U ∪ with-lax v L U) (S ∪ L)
+pub with-bound : {U : Items} (v : Bool) (S L : Items) → Within U (S ∪ L) → Within (with-strict v S U ∪ with-lax v L U) (S ∪ L)
 unfolding with-strict with-lax ∅ _∪_ _∖_
 with-bound {U} v S L p = record {
   kept = λ i. table 4 (λ v s l u. u ⊑ s || l ⟹ cond v (s || u) u || cond v (l && not u) false ⊑ s || l) refl
@@ -265,10 +265,10 @@ in-item {e} {S} {L} {W} r h s x = record {
     apart : Within W ((S ∪ L) ∖ only e)
     apart = within-trans (x .within) (∖-gather S L (only e))
 
-bounded-⊸ : {es : Scope} (S L : Items) (D : Clause) → Bounded es (S ∪ L) → Bounded (lend es D) (S ∪ only (length es) ∪ L)
+pub bounded-⊸ : {es : Scope} (S L : Items) (D : Clause) → Bounded es (S ∪ L) → Bounded (lend es D) (S ∪ only (length es) ∪ L)
 bounded-⊸ {es} S L D b = bounded-within (∪-swap S (only (length es)) L) (bounded-lend D b)
 
-bounded-item : {es : Scope} (S L : Items) (e : ℕ) → Bounded es (S ∪ L) → Bounded es (S ∖ only e ∪ L ∖ only e)
+pub bounded-item : {es : Scope} (S L : Items) (e : ℕ) → Bounded es (S ∪ L) → Bounded es (S ∖ only e ∪ L ∖ only e)
 bounded-item S L e b = bounded-within (within-trans (∖-gather S L (only e)) (∖-within (S ∪ L) (only e))) b
 
 -- what is found is in the window

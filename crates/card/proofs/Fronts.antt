@@ -103,4 +103,5 @@ module _ (bs : List ℕ) where
         few = leb-true _ _ (both-left (leb (nodeCount bs) 512) (leb (depthLimit bs) 16) r₄);
         rules = leb-true _ _ (both-left (leb (ruleCount bs) 64) (leb (lineCount bs) 64 && counts) ranged);
         lines = leb-true _ _ (both-left (leb (lineCount bs) 64) counts r₂);
+        depth = leb-true _ _ (both-right (leb (nodeCount bs) 512) (leb (depthLimit bs) 16) r₄);
       }

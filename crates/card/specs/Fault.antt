@@ -96,6 +96,7 @@ pub record Framed (bs : List ℕ) : Type 0 where
   pub few : nodeCount bs ≤ 512
   pub rules : ruleCount bs ≤ 64
   pub lines : lineCount bs ≤ 64
+  pub depth : depthLimit bs ≤ 16
 
 -- Node i stands on the card, and t begins with the heights of the nodes before it.
 pub record Tabled (bs : List ℕ) (i : ℕ) (t : List ℕ) : Type 0 where

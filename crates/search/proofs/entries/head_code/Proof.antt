@@ -1,0 +1,132 @@
+-- The node goes down the right parts of recipes: it stays a clause of the card and keeps its head.
+use Prim.Native.Nat.{ℕ, _+_, _*_, _<_, _≤_}
+use mathlib.Core.Path.{_≡_, refl, sym, _∙_, ap}
+use mathlib.Core.Logic.{⊎-elim}
+use mathlib.Core.Bool.{true}
+use mathlib.Core.List.{List}
+use native.Mathlib.Omega.{arith}
+use borrow.Author.Needs.{needs}
+use lib.ListN.{length}
+use Rattle.calculus.specs.Formula.{head}
+use Rattle.card.specs.Format.{nodeCount, kindAt, rightAt}
+use Rattle.card.specs.Fault.{Sound, clausePart}
+use Rattle.card.specs.Decode.{clauseOf}
+use Rattle.search.specs.Entries.{headCode}
+use Rattle.search.proofs.Nodes.{clause-lower, clause-kind, clause-above, node-here, parts-below, recipe-parts, head-recipe, head-name, head-rest}
+use Rattle.search.proofs.entries.head_code.Statement.{statement}
+use Rattle.search.proofs.entries.head_code.Tie as tie
+
+module _ {bs : List ℕ} (s : Sound bs) (i : ℕ) (p : clausePart bs (nodeCount bs) i ≡ true) where
+  below : i < nodeCount bs
+  below = clause-lower bs (nodeCount bs) i p
+
+  here : 16 + 5 * i ≤ length bs
+  here = node-here s i below
+
+  -- the right part of a recipe
+  module _ (j : ℕ) (k : kindAt bs i ≡ 7) (e : j ≡ rightAt bs i) where
+    lower : j < i
+    lower = let q = parts-below s i below (omega arith) in omega (arith, q .1)
+
+    clause : clausePart bs (nodeCount bs) j ≡ true
+    clause = rw e (clause-above bs i (rightAt bs i) (nodeCount bs) (omega (arith, below)) (recipe-parts s i below k .1))
+
+    same : head (clauseOf bs j) ≡ head (clauseOf bs i)
+    same = ap (λ n. head (clauseOf bs n)) e ∙ sym (head-recipe s i below k)
+
+  -- a clause that is neither a name nor a recipe has no head
+  headless : (kindAt bs i ≡ 7 → ⊥) → (kindAt bs i ≡ 1 → ⊥) → 1000 ≡ headCode (head (clauseOf bs i))
+  unfolding headCode
+  headless n m =
+      ⊎-elim (λ k. absurd (m k)) (⊎-elim (λ k. ap headCode (sym (head-rest bs i k))) (λ k. absurd (n k))) (clause-kind bs (nodeCount bs) i p)
+
+abbrev Inv-loop : tie.InvT-loop
+Inv-loop card node at₀ k₀ at k =
+    (k ≡ kindAt card at) × ((clausePart card (nodeCount card) at ≡ true) × (head (clauseOf card at) ≡ head (clauseOf card node)))
+
+abbrev μ-loop : tie.MeasureT-loop
+μ-loop card node at₀ k₀ at k = at
+
+kind-requires : tie.Need-kind-requires Inv-loop μ-loop
+kind-requires c κs =
+    let start = c .before in
+    here (start .pre .0) (start .args .node) (start .pre .1)
+
+loop-holds : tie.Need-loop-holds Inv-loop μ-loop
+loop-holds c =
+    let start = c .before .before in
+    (c .kind .ensures .0, (start .pre .1, refl))
+
+right-requires : tie.Need-right-requires Inv-loop μ-loop
+right-requires c κs =
+    let start = c .before .before .before .before in
+    here (start .pre .0) (c .before .loop .at) (c .before .loop .inv .1 .0)
+
+kind-requires-2 : tie.Need-kind-requires-2 Inv-loop μ-loop
+kind-requires-2 c κs =
+    let start = c .before .before .before .before .before in
+    let turn = c .before .before .loop in
+    let inv = turn .inv in
+    here (start .pre .0) (c .right .result)
+    (clause (start .pre .0) (turn .at) (inv .1 .0) (c .right .result) (omega arith) (c .right .ensures .0))
+
+loop-less : tie.Need-loop-less Inv-loop μ-loop
+loop-less c =
+    let start = c .before .before .before .before .before .before in
+    let turn = c .before .before .before .loop in
+    let inv = turn .inv in
+    lower (start .pre .0) (turn .at) (inv .1 .0) (c .before .right .result) (omega arith) (c .before .right .ensures .0)
+
+loop-again : tie.Need-loop-again Inv-loop μ-loop
+loop-again c =
+    let start = c .before .before .before .before .before .before in
+    let turn = c .before .before .before .loop in
+    let inv = turn .inv in
+    let k : kindAt (start .args .card .now) (turn .at) ≡ 7 = omega arith in (
+      c .kind2 .ensures .0,
+      (
+        clause (start .pre .0) (turn .at) (inv .1 .0) (c .before .right .result) k (c .before .right .ensures .0),
+        same (start .pre .0) (turn .at) (inv .1 .0) (c .before .right .result) k (c .before .right .ensures .0) ∙ inv .1 .1,
+      ),
+    )
+
+left-requires : tie.Need-left-requires Inv-loop μ-loop
+left-requires c κs =
+    let start = c .before .before .before .before .before in
+    let turn = c .before .before .loop in
+    here (start .pre .0) (turn .at) (turn .inv .1 .0)
+
+cast-result : tie.Need-cast-result Inv-loop μ-loop
+cast-result c = search needs
+
+returns : tie.Need-returns Inv-loop μ-loop
+unfolding headCode
+returns c =
+    let start = c .before .before .before .before .before .before in
+    let turn = c .before .before .before .loop in
+    let inv = turn .inv in
+    c .left .ensures .0 ∙ ap headCode (sym (head-name (start .args .card .now) (turn .at) (omega arith)) ∙ inv .1 .1)
+
+returns-2 : tie.Need-returns-2 Inv-loop μ-loop
+returns-2 c =
+    let start = c .before .before .before .before .before in
+    let turn = c .before .before .loop in
+    let inv = turn .inv in
+    headless (start .pre .0) (turn .at) (inv .1 .0) (λ k. omega arith) (λ k. omega arith) ∙ ap headCode (inv .1 .1)
+
+pub head-code-spec : {M : Type 1} → statement M
+head-code-spec =
+    tie.close
+    (tie.spec
+    Inv-loop
+    μ-loop
+    kind-requires
+    loop-holds
+    right-requires
+    kind-requires-2
+    loop-less
+    loop-again
+    left-requires
+    cast-result
+    returns
+    returns-2)

@@ -1,0 +1,66 @@
+use Prim.Native.Nat.{_+_}
+use native.Mathlib.Omega.{arith}
+use lib.ListN.{take}
+use lib.Seq.{length-take-le}
+use borrow.Author.Needs.{needs}
+use Rattle.card.specs.Format.{lineCount}
+use Rattle.card.specs.Sheet.{marksOf}
+use Rattle.sheet.proofs.Laws.{part-back, whole-sheet}
+use Rattle.sheet.proofs.write.Statement.{statement}
+use Rattle.sheet.proofs.write.Tie as tie
+
+byte-requires : tie.Need-byte-requires
+byte-requires c κs = search needs
+
+write-front-requires : tie.Need-write-front-requires
+write-front-requires c κs = search needs
+
+write-steps-requires : tie.Need-write-steps-requires
+write-steps-requires c κs = search needs
+
+add-start : tie.Need-add-start
+add-start c = search needs
+
+sub-write-marks : tie.Need-sub-write-marks
+sub-write-marks c = search needs
+
+part-write-marks-start : tie.Need-part-write-marks-start
+part-write-marks-start c = search needs
+
+part-write-marks-end : tie.Need-part-write-marks-end
+part-write-marks-end c = search needs
+
+write-marks-requires : tie.Need-write-marks-requires
+write-marks-requires c κs = search needs
+
+same-length : tie.Need-same-length
+same-length c = search needs
+
+returns : tie.Need-returns
+returns c =
+    let s = c .before .before .before .before .before .before .before .before .before .before .before .before .before .before .before .args in
+    let l = take (s .k) (s .steps .now) in
+    let front = c .before .before .before .before .before .before .before .before .before .before .write-front in
+    let steps = c .before .before .before .before .before .before .write-steps in
+    let t = c .before .before .before .before .before .before .before .before .before .before .before .before .byte in
+    let marks = c .before .before .write-marks in
+    whole-sheet (s .card .now) l (s .sheet .now) (front .last .1 .1 .0) (steps .last .1 .1 .0) _ (s .k)
+    (length-take-le (s .k) (s .steps .now) (omega arith))
+    (rw (t .ensures .0) at (front .ensures))
+    (steps .ensures)
+    (part-back (5 + s .k) (lineCount (s .card .now)) (steps .last .1 .1 .0) (marksOf (s .card .now) l) (marks .last .1 .1 .1 .0) (omega arith) (marks .ensures))
+
+pub write-spec : {M : Type 1} → statement M
+write-spec =
+    tie.close
+    (tie.spec
+    byte-requires
+    write-front-requires
+    write-steps-requires
+    add-start
+    sub-write-marks
+    part-write-marks-start
+    part-write-marks-end
+    write-marks-requires
+    same-length
+    returns)

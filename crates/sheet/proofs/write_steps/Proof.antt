@@ -1,0 +1,70 @@
+use Prim.Native.Nat.{_≤_, _-_}
+use native.Mathlib.Omega.{arith}
+use native.Mathlib.Numerals.{add-one}
+use mathlib.Core.Path.{_≡_, _∙_, ap}
+use lib.ListN.{length}
+use lib.Seq.{paste, paste-zero, paste-suc, length-paste}
+use borrow.Author.Needs.{needs}
+use Rattle.sheet.proofs.write_steps.Statement.{statement}
+use Rattle.sheet.proofs.write_steps.Tie as tie
+
+abbrev Inv-loop : tie.InvT-loop
+Inv-loop steps k sheet₀ i₀ sheet i = (i ≤ k) × (sheet ≡ paste sheet₀ 5 steps i)
+
+abbrev μ-loop : tie.MeasureT-loop
+μ-loop steps k sheet₀ i₀ sheet i = k - i
+
+loop-holds : tie.Need-loop-holds Inv-loop μ-loop
+loop-holds c = (search needs, paste-zero (c .args .sheet .now) 5 (c .args .steps .now))
+
+element-copy-out-sheet : tie.Need-element-copy-out-sheet Inv-loop μ-loop
+element-copy-out-sheet c = search needs
+
+add-sheet : tie.Need-add-sheet Inv-loop μ-loop
+add-sheet c = search needs
+
+slice-write-sheet : tie.Need-slice-write-sheet Inv-loop μ-loop
+slice-write-sheet c =
+    let s = c .before .before .before .args in
+    let i = c .before .before .loop .i in
+    omega (arith, ap length (c .before .before .loop .inv .1), length-paste (s .sheet .now) 5 (s .steps .now) i (omega arith) (omega arith))
+
+add-i : tie.Need-add-i Inv-loop μ-loop
+add-i c = search needs
+
+loop-less : tie.Need-loop-less Inv-loop μ-loop
+loop-less c = search needs
+
+loop-again : tie.Need-loop-again Inv-loop μ-loop
+loop-again c =
+    let s = c .before .before .before .args in
+    let i = c .before .before .loop .i in
+    let more = paste-suc (s .sheet .now) 5 (s .steps .now) i 0 (omega arith) (omega arith) in
+    (search needs, rw (c .before .before .loop .inv .1, add-one) more)
+
+same-length : tie.Need-same-length Inv-loop μ-loop
+same-length c =
+    let s = c .before .before .args in
+    ap length (c .before .loop .inv .1) ∙ length-paste (s .sheet .now) 5 (s .steps .now) (c .before .loop .i) (omega arith) (omega arith)
+
+returns : tie.Need-returns Inv-loop μ-loop
+returns c =
+    let s = c .before .before .args in
+    let e : c .before .loop .i ≡ s .k = omega arith in
+    rw e at (c .before .loop .inv .1)
+
+pub write-steps-spec : {M : Type 1} → statement M
+write-steps-spec =
+    tie.close
+    (tie.spec
+    Inv-loop
+    μ-loop
+    loop-holds
+    element-copy-out-sheet
+    add-sheet
+    slice-write-sheet
+    add-i
+    loop-less
+    loop-again
+    same-length
+    returns)

@@ -1,0 +1,113 @@
+#!/usr/bin/env python3
+"""Writes the input of the program `trays`, the cards of document 01's table of trays and more, and what it must print of them.
+
+Usage: trays.py            writes crates/trays/stdin and crates/trays/stdout
+       trays.py --check    exits 1 if those files are not what this script writes
+"""
+import pathlib
+import sys
+
+from cards import card, word
+
+# Formulas as nested tuples: a name is a string; ("rest",), ("done",), ("both", G, H), ("either", G, H), ("lend", D, G), ("gives", G, D).
+REST, DONE = ("rest",), ("done",)
+
+
+def both(g, h):
+    return ("both", g, h)
+
+
+def either(g, h):
+    return ("either", g, h)
+
+
+def lend(d, g):
+    return ("lend", d, g)
+
+
+def gives(g, d):
+    return ("gives", g, d)
+
+
+def all_of(parts):
+    """A balanced "both" of the parts."""
+    if len(parts) == 1:
+        return parts[0]
+    half = (len(parts) + 1) // 2
+    return both(all_of(parts[:half]), all_of(parts[half:]))
+
+
+def tray(goal, rules=(), must=(), may=(), lines=None, d=4, s=8):
+    """The card of a tray; lines, where given, is a list of (formula, must/may byte) in the card's order."""
+    if lines is None:
+        lines = [(f, 1) for f in must] + [(f, 0) for f in may]
+    return card(goal, list(rules), list(lines), d, s)
+
+
+def planned(steps, marks):
+    return "plan " + " ".join([str(len(steps))] + [str(e) for e in steps]) + " marks" + "".join(f" {m}" for m in marks)
+
+
+A, B, C = "a", "b", "c"
+ELEVEN = "refused 11 card"
+RULES = [A, B, gives(A, gives(B, C))]
+
+TRAYS = [
+    ("nothing, done", tray(DONE), planned([], [])),
+    ("must a, done", tray(DONE, must=[A]), ELEVEN),
+    ("may a, done", tray(DONE, may=[A]), planned([], [0])),
+    ("must a, rest", tray(REST, must=[A]), planned([], [2])),
+    ("must a, a both a", tray(both(A, A), must=[A]), ELEVEN),
+    ("must a, must a, a both a", tray(both(A, A), must=[A, A]), planned([0, 1], [1, 1])),
+    ("must a, a either way a", tray(either(A, A), must=[A]), planned([0, 0], [1])),
+    ("must a, a either way rest", tray(either(A, REST), must=[A]), planned([0], [1])),
+    ("must a, must b, rest both a", tray(both(REST, A), must=[A, B]), planned([0], [1, 2])),
+    ("may a, must a, a", tray(A, lines=[(A, 0), (A, 1)]), planned([1], [0, 1])),
+    ("must a, must b, both orders", tray(either(both(A, B), both(B, A)), must=[A, B]), planned([0, 1, 1, 0], [1, 1])),
+    ("rules a, b, a gives (b gives c); c", tray(C, rules=RULES), planned([2, 1, 0], [])),
+    ("the same with d 1", tray(C, rules=RULES, d=1), ELEVEN),
+    ("lend a to a", tray(lend(A, A)), planned([0], [])),
+    ("(lend a to done) both rest", tray(both(lend(A, DONE), REST)), ELEVEN),
+    ("lend a to rest", tray(lend(A, REST)), planned([], [])),
+    ("rules a gives a, a; a with d 3", tray(A, rules=[gives(A, A), A], d=3), planned([0, 0, 1], [])),
+    ("the same with s 2", tray(A, rules=[gives(A, A), A], d=3, s=2), planned([0, 1], [])),
+    ("may a, a either way done", tray(either(A, DONE), may=[A]), ELEVEN),
+    ("rest in one way excuses nothing in the other", tray(either(REST, A), must=[A, B]), ELEVEN),
+    ("rest on both ways", tray(either(both(A, REST), both(B, REST)), must=[A, B]), planned([0, 1], [1, 1])),
+    ("d 0, a", tray(A, must=[A], d=0), ELEVEN),
+    ("d 0, rest", tray(REST, must=[A], d=0), planned([], [2])),
+    ("s 0, a", tray(A, must=[A], s=0), ELEVEN),
+    ("s 0, done", tray(DONE, s=0), planned([], [])),
+    ("a clause with no head is of no use", tray(A, must=[gives(A, REST)], may=[A]), ELEVEN),
+    ("a clause with no head under rest", tray(both(A, REST), lines=[(gives(A, REST), 1), (A, 0)]), planned([1], [2, 1])),
+    ("sibling lends share a number", tray(both(lend(A, A), lend(B, B))), planned([0, 0], [])),
+    ("nested lends go on counting", tray(lend(A, lend(B, both(B, A)))), planned([1, 0], [])),
+    ("a lent clause serves in a rule's conditions", tray(lend(A, C), rules=[gives(A, C)]), planned([0, 1], [])),
+    ("a later choice gives the first list", tray(both(A, B), lines=[(A, 1), (gives(C, A), 1), (B, 1), (C, 1)]), ELEVEN),
+    ("a must line that only a later choice uses", tray(both(A, both(B, REST)), lines=[(A, 0), (gives(B, A), 1), (B, 1), (B, 0)]),
+        planned([0, 2], [1, 2, 1, 0])),
+    ("the condition nearest the head first", tray(C, must=[gives(A, gives(B, C)), A, B]), planned([0, 2, 1], [1, 1, 1])),
+    ("equal lines with different bytes", tray(both(A, A), lines=[(A, 0), (A, 1), (A, 0)]), planned([0, 1], [1, 1, 0])),
+]
+for n in (8, 32, 64):
+    TRAYS.append((f"{n} equal must lines, {n} wanted", tray(all_of([A] * n), must=[A] * n, s=255), planned(list(range(n)), [1] * n)))
+    TRAYS.append((f"{n} equal must lines, {n - 1} wanted", tray(all_of([A] * (n - 1)), must=[A] * n, s=255), ELEVEN))
+    TRAYS.append((f"{n - 1} equal must lines, {n} wanted", tray(all_of([A] * n), must=[A] * (n - 1), s=255), ELEVEN))
+
+
+def main():
+    cards, found = bytearray(), bytearray()
+    for label, data, outcome in TRAYS:
+        text = label.encode()
+        cards += bytes([len(text)]) + text + word(len(data)) + data
+        found += f"{label}: {outcome}\n".encode()
+    folder = pathlib.Path(__file__).resolve().parent.parent / "crates" / "trays"
+    files = [(folder / "stdin", cards), (folder / "stdout", found)]
+    if "--check" in sys.argv:
+        sys.exit(0 if all(path.read_bytes() == text for path, text in files) else 1)
+    folder.mkdir(exist_ok=True)
+    for path, text in files:
+        path.write_bytes(text)
+
+
+main()
