@@ -7,11 +7,9 @@ Usage: edges.py            writes crates/edges/stdin and crates/edges/stdout
 import pathlib
 import sys
 
+from cards import word
+
 ATOM, TOP, ONE, TENSOR, WITH, LOLLI_GOAL, LOLLI_CLAUSE = range(1, 8)
-
-
-def word(n):
-    return bytes([n // 256 % 256, n % 256])
 
 
 def node(kind, left=0, right=0):

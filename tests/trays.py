@@ -1,6 +1,8 @@
 #!/usr/bin/env python3
 """Writes the input of the program `trays`, the cards of document 01's table of trays and more, and what it must print of them.
 
+A record is a label, the length of the buffer to be lent, and a card.
+
 Usage: trays.py            writes crates/trays/stdin and crates/trays/stdout
        trays.py --check    exits 1 if those files are not what this script writes
 """
@@ -49,7 +51,8 @@ def planned(steps, marks):
 
 
 A, B, C = "a", "b", "c"
-ELEVEN = "refused 11 card"
+TEN, ELEVEN = "refused 10 sheet", "refused 11 card"
+ANY = 0xFFFF  # a buffer with room for any sheet
 RULES = [A, B, gives(A, gives(B, C))]
 
 TRAYS = [
@@ -94,12 +97,31 @@ for n in (8, 32, 64):
     TRAYS.append((f"{n} equal must lines, {n - 1} wanted", tray(all_of([A] * (n - 1)), must=[A] * n, s=255), ELEVEN))
     TRAYS.append((f"{n - 1} equal must lines, {n} wanted", tray(all_of([A] * n), must=[A] * (n - 1), s=255), ELEVEN))
 
+TWO_OF_A = tray(both(A, A), must=[A, A])  # s 8, T 2
+LARGEST = tray(REST, must=[A] * 64, s=255)
+# label, card, outcome, length of the buffer
+BUFFERS = [
+    ("buffer of exactly 5 + s + T", TWO_OF_A, planned([0, 1], [1, 1]), 15),
+    ("buffer of one byte less", TWO_OF_A, TEN, 14),
+    ("buffer of one byte more", TWO_OF_A, planned([0, 1], [1, 1]), 16),
+    ("buffer of exactly 5 + k + T", TWO_OF_A, TEN, 9),
+    ("no buffer", TWO_OF_A, TEN, 0),
+    ("least buffer of all", tray(DONE, s=0), planned([], []), 5),
+    ("one less than the least", tray(DONE, s=0), TEN, 4),
+    ("buffer of exactly 5 + 255 + 64", LARGEST, planned([], [2] * 64), 324),
+    ("buffer of one less than 5 + 255 + 64", LARGEST, TEN, 323),
+    ("not derivable, buffer of exactly 5 + s + T", tray(DONE, must=[A]), ELEVEN, 14),
+    ("not derivable, buffer of one byte less", tray(DONE, must=[A]), TEN, 13),
+    ("no card and no buffer", b"", "refused 1 card", 0),
+    ("card at fault and buffer of one byte less", tray(DONE, d=17), "refused 4 card", 12),
+]
+
 
 def main():
     cards, found = bytearray(), bytearray()
-    for label, data, outcome in TRAYS:
+    for label, data, outcome, room in [(*t, ANY) for t in TRAYS] + BUFFERS:
         text = label.encode()
-        cards += bytes([len(text)]) + text + word(len(data)) + data
+        cards += bytes([len(text)]) + text + word(room) + word(len(data)) + data
         found += f"{label}: {outcome}\n".encode()
     folder = pathlib.Path(__file__).resolve().parent.parent / "crates" / "trays"
     files = [(folder / "stdin", cards), (folder / "stdout", found)]

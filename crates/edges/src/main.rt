@@ -1,47 +1,13 @@
 // Runs the checks 1 to 9 over the cards of standard input and prints what each finds. A record of the input is a label (its length in
 // one byte, then its bytes) and a card (its length in two bytes, then its bytes).
 use card::Checked;
-use card::Place;
-use card::Refusal;
-use libc::STDOUT_FILENO;
 ghost use Prim.Native.Nat.{_≤_, _<_};
 ghost use lib.ListN.{length};
 
-// A place's word, and its index where it has one.
-fn print_place(place: Place) {
-    match place {
-        Place::Card => print_thing(b"card"),
-        Place::Node(i) => print_indexed(b"node ", i),
-        Place::Rule(i) => print_indexed(b"rule ", i),
-        Place::Line(i) => print_indexed(b"line ", i),
-        Place::Sheet => print_thing(b"sheet"),
-        Place::Steps => print_thing(b"steps"),
-        Place::Mark(i) => print_indexed(b"mark ", i),
-    }
-}
-
-fn print_thing(word: &[u8]) {
-    io::write_all(STDOUT_FILENO, word);
-}
-
-fn print_indexed(word: &[u8], i: u16) {
-    io::write_all(STDOUT_FILENO, word);
-    io::print_decimal(STDOUT_FILENO, i as u64);
-}
-
-fn print_refusal(refusal: Refusal) {
-    let number = refusal.number;
-    let place = refusal.place;
-    io::write_all(STDOUT_FILENO, b"refused ");
-    io::print_decimal(STDOUT_FILENO, number as u64);
-    io::write_all(STDOUT_FILENO, b" ");
-    print_place(place);
-}
-
 fn print_checked(found: Checked) {
     match found {
-        Checked::Sound => print_thing(b"sound"),
-        Checked::Refused(r) => print_refusal(r),
+        Checked::Sound => show::print_word(b"sound"),
+        Checked::Refused(r) => show::print_refusal(r),
     }
 }
 
@@ -69,10 +35,10 @@ fn record(input: &[u8], at: usize) -> usize
     let n = card::format::word(input, head);
     let start = head + 2;
     let end = part_end(input, start, n);
-    io::write_all(STDOUT_FILENO, &input[label..head]);
-    io::write_all(STDOUT_FILENO, b": ");
+    show::print_word(&input[label..head]);
+    show::print_word(b": ");
     print_checked(card::check(&input[start..end]));
-    io::write_all(STDOUT_FILENO, b"\n");
+    show::print_word(b"\n");
     end
 }
 
