@@ -96,6 +96,10 @@ lines-items bs s b h = fun-ext (λ e. rw (h (e - ruleCount bs)) (at e (leb (rule
             let l = leb-true (ruleCount bs) e q in let h = ltb-false (e - ruleCount bs) (lineCount bs) f in
             f ∙ sym (le-ltb e (ruleCount bs + lineCount bs) (omega arith))
 
+-- where a walk of the job begins: the given steps, the floor behind them, and the room
+abbrev pub opening : Job → List ℕ → ℕ → ℕ → State
+opening j F f n = record { done = []; ahead = F; floor = f; strict = j .strict; lax = j .lax; room = n }
+
 module _ {bs : List ℕ} (s : Sound bs) where
   lines-few : lineCount bs ≤ 64
   lines-few = sound-front bs s .lines
@@ -119,10 +123,11 @@ module _ {bs : List ℕ} (s : Sound bs) where
           other x h (yes q) = rw (eq-eqb x 1 q, ne-eqb x 0 (omega arith)) refl
           other x h (no q) = rw (ne-eqb x 1 q, eq-eqb x 0 (omega arith)) refl
 
-  module _ {twins : List ℕ} (tw : Twinned bs twins) (g : Given) (rules : g .rules ≡ ruleCount bs) (limit : g .limit ≡ stepLimit bs) (tape nodes : List ℕ)
+  -- the walk from the card's goal, in the model's terms
+  module _ (g : Given) (rules : g .rules ≡ ruleCount bs) (tape nodes : List ℕ)
       (scope : scopeIn bs nodes (ruleCount bs + lineCount bs) ≡ jobOf bs .scope) where
-    start-state : stateOf g (startB bs) tape ≡ start (jobOf bs) (take (g .fixed) tape) (g .from)
-    unfolding stateOf startB start jobOf
+    start-state : stateOf g (startB bs) tape ≡ opening (jobOf bs) (take (g .fixed) tape) (g .from) (g .limit)
+    unfolding stateOf startB jobOf
     start-state = λ i. record {
       done = [];
       ahead = take (g .fixed) tape;
@@ -135,20 +140,20 @@ module _ {bs : List ℕ} (s : Sound bs) where
         low : cond (leb 0 (g .fixed)) (g .from) 0 ≡ g .from
         low = rw (le-leb 0 (g .fixed) (omega arith)) refl
 
-        room : g .limit - 0 ≡ stepLimit bs
+        room : g .limit - 0 ≡ g .limit
         room = omega arith
 
-    -- the walk from the card's goal is the loop's walk
-    pub start-walk : goalWalk bs twins tape nodes g (goalNode bs) (startB bs)
-        ≡ walk (eligible bs) (jobOf bs .depth) (jobOf bs .goal) (jobOf bs .scope) (start (jobOf bs) (take (g .fixed) tape) (g .from))
+    pub start-walk : (twins : List ℕ) {by : List ℕ → ℕ → Bool} → eligibleBy bs twins ≡ by
+        → goalWalk bs twins tape nodes g (goalNode bs) (startB bs)
+        ≡ walk by (jobOf bs .depth) (jobOf bs .goal) (jobOf bs .scope) (opening (jobOf bs) (take (g .fixed) tape) (g .from) (g .limit))
     unfolding goalWalk startB jobOf
-    start-walk =
-        ap (λ el. walk el (depthLimit bs) (goalAt bs (goalNode bs)) (scopeIn bs nodes (ruleCount bs + lineCount bs)) (stateOf g (startB bs) tape)) (eligible-twins tw)
-        ∙ ap₂ (λ sc st. walk (eligible bs) (depthLimit bs) (goalAt bs (goalNode bs)) sc st) scope start-state
+    start-walk twins {by} e =
+        ap (λ el. walk el (depthLimit bs) (goalAt bs (goalNode bs)) (scopeIn bs nodes (ruleCount bs + lineCount bs)) (stateOf g (startB bs) tape)) e
+        ∙ ap₂ (λ sc st. walk by (depthLimit bs) (goalAt bs (goalNode bs)) sc st) scope start-state
 
   -- what the walk asks at the card's goal
-  module _ {twins : List ℕ} (tw : Twinned bs twins) (g : Given) (rules : g .rules ≡ ruleCount bs) (lines : g .lines ≡ lineCount bs)
-      (limit : g .limit ≡ stepLimit bs) (small : g .limit ≤ 255) (fixed : g .fixed ≤ 255) (tape nodes heads : List ℕ) (size : length tape ≡ 255)
+  module _ (twins : List ℕ) (twin-room : length twins ≡ 64) (g : Given) (rules : g .rules ≡ ruleCount bs) (lines : g .lines ≡ lineCount bs)
+      (small : g .limit ≤ 255) (fixed : g .fixed ≤ 255) (tape nodes heads : List ℕ) (size : length tape ≡ 255)
       (entered : Entered bs nodes heads (ruleCount bs + lineCount bs))
       (scope : scopeIn bs nodes (ruleCount bs + lineCount bs) ≡ jobOf bs .scope) where
     pub start-ready : Ready bs twins tape nodes heads g (startB bs)
@@ -157,7 +162,7 @@ module _ {bs : List ℕ} (s : Sound bs) where
       sound = s;
       rules = rules;
       lines = lines;
-      twin-room = tw .room;
+      twin-room = twin-room;
       tape-room = size;
       entered = entered;
       scoped = omega arith;
@@ -281,8 +286,8 @@ module _ {bs twins : List ℕ} (s : Sound bs) (tw : Twinned bs twins) {tape node
 
   pub loop-call : Ready bs twins tape nodes heads g b × GoalReady bs g goal b
   loop-call = rw (eb, eg) (
-    start-ready s tw g rules lines limit small fixed-small tape nodes heads (I .size) (I .entered) (I .scope),
-    start-goal s tw g rules lines limit small fixed-small tape nodes heads (I .size) (I .entered) (I .scope),
+    start-ready s twins (tw .room) g rules lines small fixed-small tape nodes heads (I .size) (I .entered) (I .scope),
+    start-goal s twins (tw .room) g rules lines small fixed-small tape nodes heads (I .size) (I .entered) (I .scope),
   )
 
   module _ {tape′ nodes′ heads′ : List ℕ} (r : Walked)
@@ -292,8 +297,10 @@ module _ {bs twins : List ℕ} (s : Sound bs) (tw : Twinned bs twins) {tape node
 
     answer : found (g .rules) 0 tape′ r
         ≡ walk (eligible bs) (jobOf bs .depth) (jobOf bs .goal) (jobOf bs .scope) (start (jobOf bs) (take (g .fixed) tape) (g .from))
-    unfolding startB
-    answer = W₀ .outcome ∙ start-walk s tw g rules limit tape nodes (I .scope)
+    unfolding startB start jobOf
+    answer =
+        W₀ .outcome ∙ start-walk s g rules tape nodes (I .scope) twins (eligible-twins tw)
+        ∙ ap (λ n. walk (eligible bs) (jobOf bs .depth) (jobOf bs .goal) (jobOf bs .scope) (opening (jobOf bs) (take (g .fixed) tape) (g .from) n)) limit
 
     pub loop-size : length tape′ ≡ 255
     loop-size = W₀ .before .size ∙ I .size

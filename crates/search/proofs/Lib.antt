@@ -12,3 +12,4 @@ pub mod Calls
 pub mod Members
 pub mod Seeks
 pub mod Beginning
+pub mod Following

@@ -24,6 +24,11 @@ unfoldable pub Finds : List ℕ → List ℕ → Found → Type 0
 Finds bs tape (ListOf k) = FirstOn bs tape k
 Finds bs tape Nothing = (l : List ℕ) → Listed (jobOf bs) l → ⊥
 
+-- what each answer says of a list: it is the list of a derivation within limits, or it is not
+unfoldable pub ListedSays : List ℕ → List ℕ → Bool → Type 0
+ListedSays bs l true = Listed (jobOf bs) l
+ListedSays bs l false = Listed (jobOf bs) l → ⊥
+
 -- the must lines among the first n
 unfoldable pub strictBelow : List ℕ → ℕ → LineSet
 strictBelow bs zero = emptyS

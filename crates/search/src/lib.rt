@@ -1,5 +1,6 @@
 // The search: the walk, and the first list (01, "Steps, nesting, order, marks").
 pub mod entries;
+pub mod follow;
 pub mod walk;
 
 use lines::LineSet;

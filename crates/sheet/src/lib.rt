@@ -4,6 +4,7 @@ use card::Place;
 use card::Refusal;
 use card::format::byte;
 use card::format::line_byte;
+use card::format::word as number;
 ghost use mathlib.Core.Path.{_≡_};
 ghost use mathlib.Core.List.{_∷_, _++_};
 ghost use Prim.Native.Nat.{_+_, _≤_, _<_};
@@ -13,6 +14,7 @@ ghost use Rattle.card.specs.Format.{lineCount};
 ghost use Rattle.card.specs.Verdict.{told, firstOf};
 ghost use Rattle.card.specs.Fault.{Framed};
 ghost use Rattle.card.specs.Sheet.{markOf, marksOf, word, sheetOf};
+ghost use Rattle.sheet.specs.Front.{sheetFits, sheetFault};
 ghost use Rattle.sheet.specs.Marks.{markFault};
 
 // Entry e stands in the list.
@@ -110,6 +112,53 @@ pub fn write(card: &[u8], steps: &[u8; 255], k: usize, sheet: &mut [u8])
     write_steps(steps, k, sheet);
     let start = 5 + k;
     write_marks(card, steps, k, &mut sheet[start..]);
+}
+
+// The sheet has its own length, version 1, the card's T, and room for k steps and T marks and no more; k is within the step limit.
+fn fits(card: &[u8], sheet: &[u8]) -> bool
+    requires { ⌜ Framed (now card) ⌝ }
+    ensures { λ r. ⌜ r ≡ sheetFits (now (card .entry)) (now (sheet .entry)) ⌝ }
+{
+    let long = sheet.len();
+    if long < 5 {
+        return false;
+    }
+    let field = number(sheet, 0);
+    if field != long {
+        return false;
+    }
+    let version = byte(sheet, 2);
+    if version != 1 {
+        return false;
+    }
+    let t = byte(sheet, 4);
+    let lines = byte(card, 4);
+    if t != lines {
+        return false;
+    }
+    let k = byte(sheet, 3);
+    if 5 + k + t != long {
+        return false;
+    }
+    let limit = byte(card, 10);
+    if limit < k {
+        return false;
+    }
+    true
+}
+
+// 12.
+pub fn front_check(card: &[u8], sheet: &[u8]) -> Checked
+    requires { ⌜ Framed (now card) ⌝ }
+    ensures { λ r. ⌜ told r ≡ sheetFault (now (card .entry)) (now (sheet .entry)) ⌝ }
+{
+    if fits(card, sheet) {
+        return Checked::Sound;
+    }
+    Checked::Refused(Refusal {
+        number: 12,
+        place: Place::Sheet,
+    })
 }
 
 // 14, by rising index.

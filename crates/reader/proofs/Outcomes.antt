@@ -1,0 +1,87 @@
+-- What each way out of the reader's code shows of the outcome.
+use Prim.Native.Nat.{ℕ, suc, _+_, _-_, _≤_, _<_}
+use native.Mathlib.Omega.{arith}
+use mathlib.Core.Path.{_≡_, refl, sym, ap, _∙_}
+use mathlib.Core.Bool.{Bool, true, false, not}
+use mathlib.Core.List.{List}
+use lib.ListN.{length, getD, take, drop, set, length-drop}
+use lib.Seq.{take-suc, take-suc-set, take-all, getD-drop}
+use Rattle.calculus.specs.Job.{Listed}
+use Rattle.card.specs.declared.Checked.{Checked}
+use Rattle.card.specs.declared.Checked.the-variants.{Sound as SoundCard, Refused as RefusedCard}
+use Rattle.card.specs.declared.Refusal.{Refusal}
+use Rattle.card.specs.Format.{lineCount}
+use Rattle.card.specs.Verdict.{Verdict, sound, fault, firstOf, told, whereOf, steps}
+use Rattle.card.specs.Fault.{firstFault, Sound}
+use Rattle.card.specs.Decode.{jobOf}
+use Rattle.search.specs.Found.{ListedSays}
+use Rattle.sheet.specs.Front.{stepCount, stepsOf, sheetFault, Fitting}
+use Rattle.sheet.specs.Marks.{markFault}
+use Rattle.card.proofs.Stages.{passed}
+use Rattle.sheet.proofs.Fronts.{fitting, steps-length}
+use Rattle.reader.specs.Read.{accepted, refused, marksFault, Reading, no-list, wrong-mark, accepted-as}
+
+-- a check that refused, and the card's check that passed
+pub stopped : (v : Verdict) (a : Checked) (r : Refusal) → a ≡ RefusedCard r → told a ≡ v → v ≡ fault (r .number) (whereOf (r .place))
+unfolding told
+stopped v a r e t = sym t ∙ ap told e
+
+pub found-sound : (bs : List ℕ) (a : Checked) → a ≡ SoundCard → told a ≡ firstFault bs → Sound bs
+found-sound bs a e t = record { faultless = passed (firstFault bs) a e t }
+
+-- one more step is copied
+pub copied : (tape sh : List ℕ) (i : ℕ) → i < length tape → 5 + i < length sh → take i tape ≡ take i (drop 5 sh)
+    → take (suc i) (set tape i (getD sh (5 + i) 0)) ≡ take (suc i) (drop 5 sh)
+copied tape sh i h g e =
+    take-suc-set tape i (getD sh (5 + i) 0) h
+    ∙ rw (e, ← getD-drop 5 sh i 0) (sym (take-suc (drop 5 sh) i 0 (simp length-drop (omega arith))))
+
+-- Of a sheet that fits, the tape holds the steps as its first k.
+pub record Copied (bs sh : List ℕ) (k : ℕ) (tape : List ℕ) : Type 0 where
+  pub card : Sound bs
+  pub fits : sheetFault bs sh ≡ sound
+  pub count : k ≡ stepCount sh
+  pub same : take k tape ≡ take k (drop 5 sh)
+
+module _ {bs sh : List ℕ} {k : ℕ} {tape : List ℕ} (c : Copied bs sh k tape) where
+  fit : Fitting bs sh
+  fit = fitting bs sh (c .fits)
+
+  same-steps : take k tape ≡ stepsOf sh
+  same-steps = c .same ∙ ap (λ (n : ℕ). take n (drop 5 sh)) (c .count)
+
+  count-steps : length (stepsOf sh) ≡ k
+  count-steps = steps-length fit ∙ sym (c .count)
+
+  -- what is lent of the sheet from 5 + k on: its marks
+  lent-marks : take (length sh - (5 + k)) (drop (5 + k) sh) ≡ drop (5 + k) sh
+  lent-marks = take-all (length sh - (5 + k)) (drop (5 + k) sh) (simp length-drop (omega arith))
+
+  pub marks-room : lineCount bs ≤ length (take (length sh - (5 + k)) (drop (5 + k) sh))
+  marks-room =
+      let f = fit in
+      let e = c .count in
+      rw lent-marks (simp length-drop (omega arith))
+
+  pub found-list : (listed : Bool) → not listed ≡ false → ListedSays bs (take k tape) listed → Listed (jobOf bs) (stepsOf sh)
+  unfolding ListedSays
+  found-list true n h = rw same-steps at h
+  found-list false n h = absurd (let z : _≡_ {A = ℕ} 0 1 = cc in omega arith)
+
+  pub found-no-list : (listed : Bool) → not listed ≡ true → ListedSays bs (take k tape) listed → Reading bs sh (refused 13 steps)
+  unfolding ListedSays
+  found-no-list true n h = absurd (let z : _≡_ {A = ℕ} 0 1 = cc in omega arith)
+  found-no-list false n h = no-list (c .card) (c .fits) (rw same-steps at h)
+
+  module _ (tape′ : List ℕ) (kept : take k tape′ ≡ take k tape) (a : Checked)
+      (t : told a ≡ firstOf (lineCount bs) (markFault bs (take k tape′) (take (length sh - (5 + k)) (drop (5 + k) sh))))
+      (x : Listed (jobOf bs) (stepsOf sh)) where
+    told-marks : told a ≡ marksFault bs sh
+    unfolding marksFault
+    told-marks = t ∙ rw (kept, same-steps, lent-marks, c .count) refl
+
+    pub found-mark : (r : Refusal) → a ≡ RefusedCard r → Reading bs sh (refused (r .number) (whereOf (r .place)))
+    found-mark r e = wrong-mark (c .card) (c .fits) x (stopped (marksFault bs sh) a r e told-marks)
+
+    pub found-right : a ≡ SoundCard → Reading bs sh (accepted k)
+    found-right e = rw count-steps at (accepted-as (c .card) (c .fits) x (passed (marksFault bs sh) a e told-marks))

@@ -1,0 +1,116 @@
+-- `read_steps` meets its contract: the walk's answer is 13 or a list, and the marks' answer 14 or acceptance.
+use native.Mathlib.Omega.{arith}
+use mathlib.Core.Path.{refl}
+use borrow.Author.Needs.{needs}
+use Rattle.card.specs.Verdict.{whereOf}
+use Rattle.card.proofs.Stages.{sound-front}
+use Rattle.sheet.proofs.Fronts.{fitting}
+use Rattle.reader.specs.Read.{toldRead}
+use Rattle.reader.proofs.Outcomes.{Copied, marks-room, found-list, found-no-list, found-mark, found-right}
+use Rattle.reader.proofs.read_steps.Statement.{statement}
+use Rattle.reader.proofs.read_steps.Tie as tie
+
+byte-requires : tie.Need-byte-requires
+byte-requires c κs = let f = fitting _ _ (c .before .before .pre .1) in omega arith
+
+copy-steps-requires : tie.Need-copy-steps-requires
+copy-steps-requires c κs =
+    let f = fitting _ _ (c .before .before .before .before .pre .1) in
+    let b = c .before .byte .ensures in
+    (omega arith, (omega arith, refl))
+
+-- the function's entry, and the steps as copied
+abbrev start : (c : tie.After-tape2) → tie.Start
+start c = c .before .before .before .before .before .before
+
+steps : (c : tie.After-tape2)
+    → Copied (start c .args .card .now) (start c .args .sheet .now) (c .before .before .before .byte .result) (c .before .copy-steps .last .1 .1 .0)
+steps c = record {
+  card = start c .pre .0;
+  fits = start c .pre .1;
+  count = c .before .before .before .byte .ensures .0;
+  same = c .before .copy-steps .ensures .0;
+}
+
+follows-requires : tie.Need-follows-requires
+follows-requires c κs =
+    let f = fitting _ _ (start c .pre .1) in
+    let b = c .before .before .before .byte .ensures in
+    (start c .pre .0, (c .before .copy-steps .ensures .1, omega arith))
+
+returns : tie.Need-returns
+unfolding toldRead whereOf
+returns c = found-no-list (steps (c .before .before)) _ (c .if1 .taken) (c .before .follows .ensures .0)
+
+add-start : tie.Need-add-start
+add-start c = search needs
+
+sub-marks-check : tie.Need-sub-marks-check
+sub-marks-check c =
+    let f = fitting _ _ (start (c .before .before .before) .pre .1) in
+    let b = c .before .before .before .before .before .before .byte .ensures in
+    omega arith
+
+part-marks-check-start : tie.Need-part-marks-check-start
+part-marks-check-start c =
+    let f = fitting _ _ (start (c .before .before .before) .pre .1) in
+    let b = c .before .before .before .before .before .before .byte .ensures in
+    omega arith
+
+part-marks-check-end : tie.Need-part-marks-check-end
+part-marks-check-end c = search needs
+
+marks-check-requires : tie.Need-marks-check-requires
+marks-check-requires c κs =
+    let here = c .before .before .before .before in (
+      sound-front _ (start here .pre .0),
+      (
+        c .before .before .before .follows .ensures .1 .0,
+        (
+          search needs,
+          marks-room (steps here),
+        ),
+      ),
+    )
+
+enum-known-refusal : tie.Need-enum-known-refusal
+enum-known-refusal c = search needs
+
+enum-told : tie.Need-enum-told
+enum-told c = search needs
+
+cast-count : tie.Need-cast-count
+cast-count c = search needs
+
+returns-2 : tie.Need-returns-2
+unfolding toldRead
+returns-2 c =
+    let s = steps (c .before .before .before .before .before .before .before) in
+    let x = found-list s _ (c .before .before .before .before .before .if1 .left) (c .before .before .before .before .before .before .follows .ensures .0) in
+    found-right s _ (c .before .before .before .before .before .before .follows .ensures .1 .1) _ (c .before .before .marks-check .ensures) x (c .enum-told .given .1)
+
+returns-3 : tie.Need-returns-3
+unfolding toldRead
+returns-3 c =
+    let s = steps (c .before .before .before .before .before .before .before .before) in
+    let x = found-list s _ (c .before .before .before .before .before .before .if1 .left) (c .before .before .before .before .before .before .before .follows .ensures .0) in
+    found-mark s _ (c .before .before .before .before .before .before .before .follows .ensures .1 .1) _ (c .before .before .before .marks-check .ensures) x _ (c .before .refusal .given .1)
+
+pub read-steps-spec : {M : Type 1} → statement M
+read-steps-spec =
+    tie.close
+    (tie.spec
+    byte-requires
+    copy-steps-requires
+    follows-requires
+    returns
+    add-start
+    sub-marks-check
+    part-marks-check-start
+    part-marks-check-end
+    marks-check-requires
+    enum-known-refusal
+    enum-told
+    cast-count
+    returns-2
+    returns-3)

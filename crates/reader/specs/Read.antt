@@ -1,0 +1,44 @@
+-- What the reader answers (01, "Refused, and where"), in terms of derivations.
+use Prim.Native.Nat.{ℕ}
+use mathlib.Core.Path.{_≡_}
+use mathlib.Core.List.{List}
+use lib.ListN.{length}
+use Rattle.calculus.specs.Job.{Listed}
+use Rattle.card.specs.Format.{lineCount}
+use Rattle.card.specs.Verdict.{Verdict, Where, sound, fault, steps, firstOf, whereOf}
+use Rattle.card.specs.Fault.{firstFault, Sound}
+use Rattle.card.specs.Decode.{jobOf}
+use Rattle.sheet.specs.Front.{stepsOf, marksIn, sheetFault}
+use Rattle.sheet.specs.Marks.{markFault}
+use Rattle.reader.specs.declared.Answer.{Answer}
+use Rattle.reader.specs.declared.Answer.the-variants.{Accepted, Refused}
+
+-- "the reader answers accepted with k, or a refusal"
+pub data ReadVerdict : Type 0 where
+  accepted : ℕ → ReadVerdict
+  refused : ℕ → Where → ReadVerdict
+
+-- 01's number and values for each case of the enum `Answer`
+unfoldable pub toldRead : Answer → ReadVerdict
+toldRead (Accepted k) = accepted k
+toldRead (Refused r) = refused (r .number) (whereOf (r .place))
+
+-- 14, of the sheet's marks in their order
+unfoldable pub marksFault : List ℕ → List ℕ → Verdict
+marksFault bs sh = firstOf (lineCount bs) (markFault bs (stepsOf sh) (marksIn sh))
+
+-- The outcome: for the card bs and the sheet sh, the answer. "Each check is taken apart before the next begins, in this order ..; the
+-- first that applies ends the call".
+pub data Reading (bs sh : List ℕ) : ReadVerdict → Type 0 where
+  -- 1 to 9
+  faulty : {n : ℕ} {w : Where} → firstFault bs ≡ fault n w → Reading bs sh (refused n w)
+  -- 12
+  misfit : {n : ℕ} {w : Where} → Sound bs → sheetFault bs sh ≡ fault n w → Reading bs sh (refused n w)
+  -- 13, "steps are not the list of a derivation within limits"
+  no-list : Sound bs → sheetFault bs sh ≡ sound → (Listed (jobOf bs) (stepsOf sh) → ⊥) → Reading bs sh (refused 13 steps)
+  -- 14
+  wrong-mark : {n : ℕ} {w : Where} → Sound bs → sheetFault bs sh ≡ sound → Listed (jobOf bs) (stepsOf sh) → marksFault bs sh ≡ fault n w
+      → Reading bs sh (refused n w)
+  -- none of these
+  accepted-as : Sound bs → sheetFault bs sh ≡ sound → Listed (jobOf bs) (stepsOf sh) → marksFault bs sh ≡ sound
+      → Reading bs sh (accepted (length (stepsOf sh)))
