@@ -72,6 +72,7 @@ demand-2 s r (planned-as t h l f) = (λ q. (l, f .listed), λ q. (length l, refl
 -- Demand 2, the sheet. After planned with k, the buffer begins with the sheet of the card's first list, k is its length, the sheet lies
 -- within the buffer, and the bytes past it are the old ones.
 pub record Carries (bs old new : List ℕ) (k : ℕ) : Type 0 where
+  pub card : Sound bs
   pub list : List ℕ
   pub first : First (jobOf bs) list
   pub count : length list ≡ k
@@ -88,7 +89,7 @@ planned-sheet {k} p = at p refl
     at (planned-as s h l f) e =
         let c : length l ≡ k = cc in
         let few = counted _ l f in
-        record { list = l; first = f; count = c; within = omega arith; bytes = rw c }
+        record { card = s; list = l; first = f; count = c; within = omega arith; bytes = rw c }
 
 -- the step count and T, as they stand in the sheet
 pub count-byte : {bs old new : List ℕ} {k : ℕ} → Carries bs old new k → getD new 3 0 ≡ k

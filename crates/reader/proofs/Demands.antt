@@ -72,7 +72,7 @@ pub record Bytes (s : List ℕ) : Type 0 where
   pub byte : (i : ℕ) → byteAt s i < 256
 
 -- "no more than s steps"
-counted : (bs l : List ℕ) → Listed (jobOf bs) l → length l ≤ stepLimit bs
+pub counted : (bs l : List ℕ) → Listed (jobOf bs) l → length l ≤ stepLimit bs
 unfolding jobOf
 counted bs l x = subst (λ (m : List ℕ). length m ≤ stepLimit bs) (x .list) (x .limited .counted)
 
@@ -138,7 +138,7 @@ module _ {bs sh : List ℕ} (f : Fitting bs sh) where
 
 -- The sheet of a list fits and has no wrong mark.
 module _ (bs l : List ℕ) (few : length l < 256) where
-  sheet-length : Sound bs → length (sheetOf bs l) ≡ 5 + length l + lineCount bs
+  pub sheet-length : Sound bs → length (sheetOf bs l) ≡ 5 + length l + lineCount bs
   unfolding sheetOf word
   sheet-length s = omega (arith, length-append l (marksOf bs l), marks-length bs l)
 

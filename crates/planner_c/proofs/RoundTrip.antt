@@ -1,0 +1,28 @@
+-- What the planner writes, the reader accepts with the same k.
+use Prim.Native.Nat.{ℕ, _+_, _<_}
+use native.Mathlib.Omega.{arith}
+use mathlib.Core.Path.{_≡_, sym, _∙_, ap, subst}
+use mathlib.Core.List.{List}
+use lib.ListN.{length, take, drop}
+use lib.Seq.{take-at}
+use Rattle.card.specs.Format.{lineCount}
+use Rattle.card.specs.Sheet.{sheetOf}
+use Rattle.planner.specs.Plan.{Planning, planned}
+use Rattle.planner.proofs.Demands.{Carries, planned-sheet}
+use Rattle.reader.specs.Read.{Reading, accepted}
+use Rattle.reader.proofs.Demands.{Bytes, counted, sheet-length, round-trip}
+
+carried : {bs old new : List ℕ} {k : ℕ} → Bytes bs → Carries bs old new k → Reading bs (take (5 + k + lineCount bs) new) (accepted k)
+carried {bs} {old} {new} {k} b c =
+    let few : length (c .list) < 256 = omega (arith, counted bs (c .list) (c .first .listed), b .byte 10) in
+    let long : length (sheetOf bs (c .list)) ≡ 5 + k + lineCount bs =
+    sheet-length bs (c .list) few (c .card) ∙ ap (λ n. 5 + n + lineCount bs) (c .count) in
+    let cut : take (5 + k + lineCount bs) new ≡ sheetOf bs (c .list) =
+    ap (take (5 + k + lineCount bs)) (c .bytes)
+    ∙ take-at (sheetOf bs (c .list)) (drop (5 + k + lineCount bs) old) (5 + k + lineCount bs) long in
+    subst (λ s. Reading bs s (accepted k)) (sym cut)
+    (subst (λ n. Reading bs (sheetOf bs (c .list)) (accepted n)) (c .count) (round-trip bs (c .list) b (c .card) (c .first)))
+
+pub written-is-read : {bs old new : List ℕ} {k : ℕ} → Bytes bs → Planning bs old (planned k) new
+    → Reading bs (take (5 + k + lineCount bs) new) (accepted k)
+written-is-read b p = carried b (planned-sheet p)

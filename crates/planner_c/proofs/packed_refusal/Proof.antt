@@ -1,0 +1,102 @@
+use borrow.Author.Needs.{needs}
+use Rattle.card.specs.Verdict.{whereOf}
+use Rattle.planner_c.specs.Pack.{placeNumber, placeIndex}
+use Rattle.planner_c.proofs.Packs.{packs}
+use Rattle.planner_c.proofs.packed_refusal.Statement.{statement}
+use Rattle.planner_c.proofs.packed_refusal.Tie as tie
+
+enum-told : tie.Need-enum-told
+enum-told c = search needs
+
+packed-requires : tie.Need-packed-requires
+packed-requires c κs = search needs
+
+enum-known-place : tie.Need-enum-known-place
+enum-known-place c = search needs
+
+packed-requires-2 : tie.Need-packed-requires-2
+packed-requires-2 c κs = search needs
+
+enum-known-place-2 : tie.Need-enum-known-place-2
+enum-known-place-2 c = search needs
+
+packed-requires-3 : tie.Need-packed-requires-3
+packed-requires-3 c κs = search needs
+
+enum-known-place-3 : tie.Need-enum-known-place-3
+enum-known-place-3 c = search needs
+
+packed-requires-4 : tie.Need-packed-requires-4
+packed-requires-4 c κs = search needs
+
+enum-told-2 : tie.Need-enum-told-2
+enum-told-2 c = search needs
+
+packed-requires-5 : tie.Need-packed-requires-5
+packed-requires-5 c κs = search needs
+
+enum-told-3 : tie.Need-enum-told-3
+enum-told-3 c = search needs
+
+packed-requires-6 : tie.Need-packed-requires-6
+packed-requires-6 c κs = search needs
+
+enum-known-place-4 : tie.Need-enum-known-place-4
+enum-known-place-4 c = search needs
+
+packed-requires-7 : tie.Need-packed-requires-7
+packed-requires-7 c κs = search needs
+
+returns : tie.Need-returns
+unfolding whereOf placeNumber placeIndex
+returns c = packs _ _ _ (c .before .enum-told .given .1) (c .packed .ensures)
+
+returns-2 : tie.Need-returns-2
+unfolding whereOf placeNumber placeIndex
+returns-2 c = packs _ _ _ (c .before .before .place .given .1) (c .packed2 .ensures)
+
+returns-3 : tie.Need-returns-3
+unfolding whereOf placeNumber placeIndex
+returns-3 c = packs _ _ _ (c .before .before .place2 .given .1) (c .packed3 .ensures)
+
+returns-4 : tie.Need-returns-4
+unfolding whereOf placeNumber placeIndex
+returns-4 c = packs _ _ _ (c .before .before .place3 .given .1) (c .packed4 .ensures)
+
+returns-5 : tie.Need-returns-5
+unfolding whereOf placeNumber placeIndex
+returns-5 c = packs _ _ _ (c .before .enum-told2 .given .1) (c .packed5 .ensures)
+
+returns-6 : tie.Need-returns-6
+unfolding whereOf placeNumber placeIndex
+returns-6 c = packs _ _ _ (c .before .enum-told3 .given .1) (c .packed6 .ensures)
+
+returns-7 : tie.Need-returns-7
+unfolding whereOf placeNumber placeIndex
+returns-7 c = packs _ _ _ (c .before .before .place4 .given .1) (c .packed7 .ensures)
+
+pub packed-refusal-spec : {M : Type 1} → statement M
+packed-refusal-spec =
+    tie.close
+    (tie.spec
+    enum-told
+    packed-requires
+    enum-known-place
+    packed-requires-2
+    enum-known-place-2
+    packed-requires-3
+    enum-known-place-3
+    packed-requires-4
+    enum-told-2
+    packed-requires-5
+    enum-told-3
+    packed-requires-6
+    enum-known-place-4
+    packed-requires-7
+    returns
+    returns-2
+    returns-3
+    returns-4
+    returns-5
+    returns-6
+    returns-7)

@@ -1,0 +1,52 @@
+// The calls for C and Rust: each answer in one number (include/kit_planner.h).
+use card::Place;
+use card::Refusal;
+ghost use mathlib.Core.Path.{_≡_};
+ghost use Rattle.card.specs.Verdict.{whereOf};
+ghost use Rattle.planner_c.specs.Pack.{pack, packRefusal, PlanTold, ReadTold};
+
+fn packed(number: u8, place: u8, index: u16) -> u32
+    ensures { λ r. ⌜ r ≡ pack number place index ⌝ }
+{
+    number as u32 * 16777216 + place as u32 * 65536 + index as u32
+}
+
+fn packed_refusal(refusal: Refusal) -> u32
+    ensures { λ r. ⌜ r ≡ packRefusal (refusal .number) (whereOf (refusal .place)) ⌝ }
+{
+    let n = refusal.number;
+    let place = refusal.place;
+    match place {
+        Place::Card => packed(n, 0, 0),
+        Place::Node(i) => packed(n, 1, i),
+        Place::Rule(i) => packed(n, 2, i),
+        Place::Line(i) => packed(n, 3, i),
+        Place::Sheet => packed(n, 4, 0),
+        Place::Steps => packed(n, 5, 0),
+        Place::Mark(i) => packed(n, 6, i),
+    }
+}
+
+// Plans the card into the lent buffer: planner::plan, its answer packed.
+#[no_mangle]
+pub extern "C" fn kit_plan(card: &[u8], sheet: &mut [u8]) -> u32
+    ensures { λ r. ⌜ PlanTold (now (card .entry)) (now (sheet .entry)) r (now (sheet .exit)) ⌝ }
+{
+    let answer = planner::plan(card, sheet);
+    match answer {
+        planner::Answer::Planned(k) => packed(0, 0, k as u16),
+        planner::Answer::Refused(refusal) => packed_refusal(refusal),
+    }
+}
+
+// Reads the sheet against the card: reader::read, its answer packed.
+#[no_mangle]
+pub extern "C" fn kit_read(card: &[u8], sheet: &[u8]) -> u32
+    ensures { λ r. ⌜ ReadTold (now (card .entry)) (now (sheet .entry)) r ⌝ }
+{
+    let answer = reader::read(card, sheet);
+    match answer {
+        reader::Answer::Accepted(k) => packed(0, 0, k as u16),
+        reader::Answer::Refused(refusal) => packed_refusal(refusal),
+    }
+}

@@ -1,0 +1,206 @@
+//! Cards and damage from a fixed seed.
+#![allow(dead_code)]
+
+/// xorshift64*
+pub struct Random(u64);
+
+impl Random {
+    pub fn new(seed: u64) -> Random {
+        Random(seed * 2 + 1)
+    }
+
+    pub fn next(&mut self) -> u64 {
+        self.0 ^= self.0 >> 12;
+        self.0 ^= self.0 << 25;
+        self.0 ^= self.0 >> 27;
+        self.0.wrapping_mul(0x2545_f491_4f6c_dd1d) >> 16
+    }
+
+    /// Below n.
+    pub fn below(&mut self, n: usize) -> usize {
+        self.next() as usize % n
+    }
+
+    /// Once in n.
+    pub fn once_in(&mut self, n: usize) -> bool {
+        self.below(n) == 0
+    }
+
+    pub fn pick<T: Copy>(&mut self, from: &[T]) -> T {
+        from[self.below(from.len())]
+    }
+
+    pub fn bytes(&mut self, n: usize) -> Vec<u8> {
+        (0..n).map(|_| self.next() as u8).collect()
+    }
+}
+
+/// A card on the way, with what each node reads as and its height.
+#[derive(Clone, Default)]
+pub struct Draft {
+    pub nodes: Vec<(u8, usize, usize)>,
+    goals: Vec<usize>,
+    clauses: Vec<usize>,
+    heights: Vec<usize>,
+    pub goal: usize,
+    pub rules: Vec<usize>,
+    pub lines: Vec<(usize, u8)>,
+    pub d: u8,
+    pub s: u8,
+}
+
+fn push(bytes: &mut Vec<u8>, n: usize) {
+    bytes.extend([(n / 256) as u8, n as u8]);
+}
+
+impl Draft {
+    /// An empty card.
+    pub fn limits(d: u8, s: u8) -> Draft {
+        Draft { d, s, ..Draft::default() }
+    }
+
+    /// A node that holds lower ones, or a leaf.
+    pub fn add(&mut self, kind: u8, left: usize, right: usize) -> usize {
+        let i = self.nodes.len();
+        let height = if kind < 4 { 1 } else { 1 + self.heights[left].max(self.heights[right]) };
+        self.nodes.push((kind, left, right));
+        self.heights.push(height);
+        if kind != 7 {
+            self.goals.push(i);
+        }
+        if matches!(kind, 1 | 2 | 7) {
+            self.clauses.push(i);
+        }
+        i
+    }
+
+    pub fn name(&mut self, name: usize) -> usize {
+        self.add(1, name, 0)
+    }
+
+    pub fn bytes(&self) -> Vec<u8> {
+        let size = 11 + 5 * self.nodes.len() + 2 * self.rules.len() + 3 * self.lines.len();
+        let mut bytes = Vec::new();
+        push(&mut bytes, size);
+        bytes.extend([1, self.rules.len() as u8, self.lines.len() as u8]);
+        push(&mut bytes, self.nodes.len());
+        push(&mut bytes, self.goal);
+        bytes.extend([self.d, self.s]);
+        for &(kind, left, right) in &self.nodes {
+            bytes.push(kind);
+            push(&mut bytes, left);
+            push(&mut bytes, right);
+        }
+        self.rules.iter().for_each(|&r| push(&mut bytes, r));
+        for &(node, must) in &self.lines {
+            push(&mut bytes, node);
+            bytes.push(must);
+        }
+        bytes
+    }
+
+    fn low(&self, from: &[usize]) -> Vec<usize> {
+        from.iter().copied().filter(|&i| self.heights[i] < 8).collect()
+    }
+
+    fn grow(&mut self, r: &mut Random) {
+        let kind = r.pick(&[4, 4, 4, 5, 5, 6, 6, 7, 7, 7]);
+        let (goals, clauses) = (self.low(&self.goals), self.low(&self.clauses));
+        let left = if kind == 6 { r.pick(&clauses) } else { r.pick(&goals) };
+        let right = if kind == 7 { r.pick(&clauses) } else { r.pick(&goals) };
+        self.add(kind, left, right);
+    }
+
+    /// A clause: most often a name.
+    fn clause(&self, r: &mut Random, names: usize) -> usize {
+        if r.once_in(3) {
+            r.pick(&self.clauses)
+        } else {
+            r.below(names)
+        }
+    }
+
+    /// A sound card of at most so many rules and lines.
+    pub fn sound(r: &mut Random, rules: usize, lines: usize) -> Draft {
+        let mut c = Draft::default();
+        let names = 1 + r.below(3);
+        for i in 0..names {
+            c.name(i * 499 + 1);
+        }
+        for kind in [2, 3] {
+            if r.once_in(2) {
+                c.add(kind, 0, 0);
+            }
+        }
+        for _ in 0..r.below(12) {
+            c.grow(r);
+        }
+        let late = c.goals.len().saturating_sub(4);
+        c.goal = r.pick(&c.goals[late..]);
+        c.rules = (0..r.below(rules + 1)).map(|_| c.clause(r, names)).collect();
+        let must = r.pick(&[1, 2, 4]);
+        c.lines = (0..r.below(lines + 1)).map(|_| (c.clause(r, names), u8::from(r.once_in(must)))).collect();
+        c.d = r.pick(&[0, 1, 2, 3, 3, 4, 5]);
+        c.s = r.pick(&[0, 1, 2, 3, 4, 5, 6, 7, 8, 9, 10, 12]);
+        c
+    }
+}
+
+fn put_length(bytes: &mut [u8]) {
+    let n = bytes.len();
+    if n >= 2 {
+        bytes[0] = (n / 256) as u8;
+        bytes[1] = n as u8;
+    }
+}
+
+/// A fault, or none, in the front.
+fn damage_front(r: &mut Random, front: &mut [u8]) {
+    if r.once_in(2) {
+        front[r.below(10)] = r.next() as u8;
+        return;
+    }
+    let edges = [(3, 64), (3, 65), (4, 64), (4, 65), (5, 2), (6, 0), (9, 16), (9, 17), (8, 1), (8, 255)];
+    let (at, value) = r.pick(&edges);
+    front[at] = value;
+}
+
+/// A fault, or none, behind the front: anywhere, in a node's kind, or near the end.
+fn damage_body(r: &mut Random, body: &mut [u8]) {
+    let n = body.len();
+    let at = match r.below(3) {
+        0 => r.below(n),
+        1 => 5 * r.below(n.div_ceil(5)),
+        _ => n - 1 - r.below(n.min(12)),
+    };
+    body[at] = r.pick(&[0, 1, 2, 3, 4, 5, 6, 7, 8, 255]);
+}
+
+/// One fault, or none, anywhere in a card.
+pub fn damage(r: &mut Random, bytes: &mut Vec<u8>) {
+    let n = bytes.len();
+    match r.below(8) {
+        0 => bytes.truncate(r.below(n + 1)),
+        1 => {
+            let more = 1 + r.below(6);
+            bytes.extend(r.bytes(more));
+        }
+        2 | 3 if n > 10 => damage_front(r, bytes),
+        4..=6 if n > 11 => damage_body(r, &mut bytes[11..]),
+        _ if n > 0 => bytes[r.below(n)] ^= 1 << r.below(8),
+        _ => {}
+    }
+    if r.once_in(2) {
+        put_length(bytes);
+    }
+}
+
+/// A card of any kind: sound, with one fault, or with several.
+pub fn any_card(r: &mut Random) -> Vec<u8> {
+    let mut bytes = Draft::sound(r, 5, 7).bytes();
+    let faults = r.pick(&[0, 0, 0, 1, 1, 2, 3]);
+    for _ in 0..faults {
+        damage(r, &mut bytes);
+    }
+    bytes
+}

@@ -1,0 +1,181 @@
+//! The calls against the model on random cards and sheets, and on buffers of every size around the least.
+mod cards;
+mod model;
+
+use cards::{any_card, Draft, Random};
+use kit_planner::Refusal;
+use model::decode;
+
+const BUDGET: usize = 20_000;
+
+/// How often each refusal was met, and 0: no refusal.
+#[derive(Default, Debug)]
+struct Met([usize; 15]);
+
+impl Met {
+    fn count<T>(&mut self, answer: &Result<T, Refusal>) {
+        self.0[answer.as_ref().map_or_else(|r| usize::from(r.number), |_| 0)] += 1;
+    }
+
+    fn all(&self, numbers: &[usize]) {
+        for &n in numbers {
+            assert!(self.0[n] > 0, "{n} was never met: {self:?}");
+        }
+    }
+}
+
+/// Plans into a buffer of random bytes: the answer and every byte are as the model says.
+fn compare_plan(r: &mut Random, met: &mut Met, card: &[u8], size: usize) {
+    let Some(wanted) = model::plan(card, size, BUDGET) else {
+        return;
+    };
+    let old = r.bytes(size);
+    let mut buffer = old.clone();
+    let answer = kit_planner::plan(card, &mut buffer);
+    let mut after = old;
+    if let Ok(sheet) = &wanted {
+        after[..sheet.len()].copy_from_slice(sheet);
+    }
+    assert_eq!(answer, wanted.clone().map(|s| usize::from(s[3])), "card {card:02x?}, buffer of {size}");
+    assert_eq!(buffer, after, "card {card:02x?}, buffer of {size}");
+    met.count(&answer);
+    if let (Ok(k), Ok(sheet)) = (answer, wanted) {
+        assert_eq!(kit_planner::read(card, &sheet), Ok(k), "card {card:02x?}");
+    }
+}
+
+/// 5 + s + T, as far as the bytes go.
+fn room(card: &[u8]) -> usize {
+    let at = |i| usize::from(card.get(i).copied().unwrap_or(0));
+    5 + at(10) + at(4)
+}
+
+/// The card and the sheet that the format's description shows.
+#[test]
+fn shown_card() {
+    let card = [
+        0x00, 0x28, 0x01, 0x00, 0x03, 0x00, 0x04, 0x00, 0x01, 0x04, 0x08, 0x01, 0x00, 0x0a, 0x00, 0x00, 0x01,
+        0x00, 0x14, 0x00, 0x00, 0x07, 0x00, 0x00, 0x00, 0x01, 0x01, 0x00, 0x1e, 0x00, 0x00, 0x00, 0x00, 0x01,
+        0x00, 0x02, 0x01, 0x00, 0x03, 0x00,
+    ];
+    let mut buffer = [0xee; 20];
+    assert_eq!(kit_planner::plan(&card, &mut buffer), Ok(2));
+    assert_eq!(buffer[..10], [0x00, 0x0a, 0x01, 0x02, 0x03, 0x01, 0x00, 0x01, 0x01, 0x00]);
+    assert_eq!(buffer[10..], [0xee; 10]);
+    assert_eq!(kit_planner::read(&card, &buffer[..10]), Ok(2));
+}
+
+#[test]
+fn plans_agree() {
+    let mut r = Random::new(1);
+    let mut met = Met::default();
+    for _ in 0..120_000 {
+        let card = any_card(&mut r);
+        let size = room(&card) + r.below(8);
+        compare_plan(&mut r, &mut met, &card, size - 3);
+    }
+    println!("plans: {met:?}");
+    met.all(&[0, 1, 2, 3, 4, 5, 6, 7, 8, 9, 10, 11]);
+}
+
+#[test]
+fn buffers_of_every_size_agree() {
+    let mut r = Random::new(2);
+    let mut met = Met::default();
+    for _ in 0..500 {
+        let card = Draft::sound(&mut r, 3, 4).bytes();
+        for size in 0..=room(&card) + 3 {
+            compare_plan(&mut r, &mut met, &card, size);
+        }
+    }
+    println!("buffers: {met:?}");
+    met.all(&[0, 10, 11]);
+}
+
+/// The model's two ways to all lists of a card find the same, each of which its walk follows.
+#[test]
+fn models_agree() {
+    let mut r = Random::new(3);
+    let (mut cards, mut found) = (0, 0);
+    for _ in 0..6_000 {
+        let mut draft = Draft::sound(&mut r, 3, 4);
+        draft.s = draft.s.min(6);
+        let card = decode::card(&draft.bytes()).expect("a sound card");
+        let (Some(a), Some(b)) = (model::lists(&card, BUDGET), model::divide::lists(&card, BUDGET)) else {
+            continue;
+        };
+        assert_eq!(a, b, "card {:02x?}", draft.bytes());
+        assert!(a.iter().all(|l| model::listed(&card, l)));
+        cards += 1;
+        found += a.len();
+    }
+    println!("models: {cards} cards, {found} lists");
+    assert!(cards > 3_000 && found > 2_000);
+}
+
+mod reading {
+    use super::*;
+    use cards::damage;
+
+    fn compare_read(met: &mut Met, card: &[u8], sheet: &[u8]) {
+        let answer = kit_planner::read(card, sheet);
+        assert_eq!(answer, model::read(card, sheet), "card {card:02x?}, sheet {sheet:02x?}");
+        met.count(&answer);
+    }
+
+    /// One fault, or none, anywhere in a sheet.
+    fn damage_sheet(r: &mut Random, sheet: &mut Vec<u8>) {
+        let n = sheet.len();
+        match r.below(7) {
+            0 => sheet.truncate(r.below(n + 1)),
+            1 => sheet.push(r.below(3) as u8),
+            2 if n >= 5 => sheet[r.below(5)] = r.below(12) as u8,
+            3 if n > 5 => sheet[5 + r.below(n - 5)] = r.below(10) as u8,
+            4 if n > 5 => sheet[n - 1] = r.below(4) as u8,
+            5 if n > 6 => sheet.swap(5 + r.below(n - 5), 5 + r.below(n - 5)),
+            _ if n >= 5 => {
+                let k = r.below(10);
+                sheet.splice(3..4, [k as u8]);
+                sheet[1] = sheet[1].wrapping_add(1);
+            }
+            _ => sheet.extend(r.bytes(2)),
+        }
+        if r.once_in(2) && sheet.len() >= 2 {
+            sheet[0] = 0;
+            sheet[1] = sheet.len() as u8;
+        }
+    }
+
+    /// Any list of the card, or any bytes where it has none, with its marks.
+    fn any_sheet(r: &mut Random, bytes: &[u8]) -> Vec<u8> {
+        let Ok(card) = decode::card(bytes) else {
+            let n = r.below(20);
+            return r.bytes(n);
+        };
+        let lists = model::lists(&card, BUDGET).unwrap_or_default();
+        if lists.is_empty() {
+            let steps: Vec<u8> = (0..r.below(card.s.min(8) + 1)).map(|_| r.below(10) as u8).collect();
+            return model::sheet(&card, &steps);
+        }
+        model::sheet(&card, &lists[r.below(lists.len())])
+    }
+
+    #[test]
+    fn reads_agree() {
+        let mut r = Random::new(4);
+        let mut met = Met::default();
+        for _ in 0..40_000 {
+            let mut card = any_card(&mut r);
+            let mut sheet = any_sheet(&mut r, &card);
+            compare_read(&mut met, &card, &sheet);
+            for _ in 0..3 {
+                damage_sheet(&mut r, &mut sheet);
+                compare_read(&mut met, &card, &sheet);
+            }
+            damage(&mut r, &mut card);
+            compare_read(&mut met, &card, &sheet);
+        }
+        println!("reads: {met:?}");
+        met.all(&[0, 1, 2, 3, 4, 5, 6, 7, 8, 9, 12, 13, 14]);
+    }
+}

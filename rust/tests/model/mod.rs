@@ -1,0 +1,275 @@
+//! The rules for cards and sheets once more, in plain Rust and by other means than the planner's: formulas as
+//! trees, all lists of a goal at once with what each needs of the items, and a reader by a walk of its own.
+#![allow(dead_code)]
+pub mod decode;
+pub mod divide;
+
+use decode::{Card, Clause, Goal};
+use kit_planner::{Place, Refusal};
+use std::rc::Rc;
+
+/// A set of entries by their numbers.
+#[derive(Clone, Copy, PartialEq, Eq, Debug, Default)]
+pub struct Items([u128; 2]);
+
+impl Items {
+    pub fn one(e: usize) -> Items {
+        let mut s = Items::default();
+        s.0[e / 128] |= 1 << (e % 128);
+        s
+    }
+    pub fn has(self, e: usize) -> bool {
+        self.0[e / 128] >> (e % 128) & 1 == 1
+    }
+    pub fn with(self, o: Items) -> Items {
+        Items([self.0[0] | o.0[0], self.0[1] | o.0[1]])
+    }
+    pub fn without(self, o: Items) -> Items {
+        Items([self.0[0] & !o.0[0], self.0[1] & !o.0[1]])
+    }
+    pub fn within(self, o: Items) -> bool {
+        self.without(o) == Items::default()
+    }
+    pub fn apart(self, o: Items) -> bool {
+        self.without(o) == self
+    }
+}
+
+/// What stands in scope under an entry's number.
+#[derive(Clone)]
+pub struct Entry {
+    pub clause: Rc<Clause>,
+    pub stays: bool,
+}
+
+pub type Scope = Vec<Entry>;
+
+/// A list with the items it uses, and whether some rest takes any others.
+#[derive(Clone, Debug)]
+pub struct Way {
+    pub list: Vec<u8>,
+    pub used: Items,
+    pub slack: bool,
+}
+
+impl Way {
+    pub fn none(slack: bool) -> Way {
+        Way { list: Vec::new(), used: Items::default(), slack }
+    }
+
+    fn beside(&self, right: &Way, used: Items, slack: bool) -> Way {
+        Way { list: [&self.list[..], &right.list[..]].concat(), used, slack }
+    }
+
+    /// both: each item goes to one part.
+    pub fn both(&self, right: &Way) -> Option<Way> {
+        let slack = self.slack || right.slack;
+        let apart = self.used.apart(right.used);
+        apart.then(|| self.beside(right, self.used.with(right.used), slack))
+    }
+
+    /// either way: all items go to each part.
+    pub fn either(&self, right: &Way) -> Option<Way> {
+        let used = self.used.with(right.used);
+        let left_takes = self.slack || self.used == used;
+        let right_takes = right.slack || right.used == used;
+        let slack = self.slack && right.slack;
+        (left_takes && right_takes).then(|| self.beside(right, used, slack))
+    }
+
+    /// lend: the clause e is used inside, or some rest inside takes it.
+    pub fn lent(mut self, e: usize) -> Option<Way> {
+        let spent = self.slack || self.used.has(e);
+        self.used = self.used.without(Items::one(e));
+        spent.then_some(self)
+    }
+
+    /// name: entry e, then the way of its conditions.
+    pub fn using(mut self, e: usize, stays: bool) -> Option<Way> {
+        if !stays {
+            if self.used.has(e) {
+                return None;
+            }
+            self.used = self.used.with(Items::one(e));
+        }
+        self.list.insert(0, e as u8);
+        Some(self)
+    }
+}
+
+/// All ways within limits, unless they are more work than the budget allows.
+struct Ways {
+    budget: usize,
+    limit: usize,
+}
+
+impl Ways {
+    fn pay(&mut self, n: usize) -> Option<()> {
+        self.budget = self.budget.checked_sub(n)?;
+        Some(())
+    }
+
+    fn pairs(
+        &mut self,
+        left: &[Way],
+        right: &[Way],
+        join: fn(&Way, &Way) -> Option<Way>,
+    ) -> Option<Vec<Way>> {
+        self.pay(left.len() * right.len())?;
+        let limit = self.limit;
+        let pairs = left.iter().flat_map(|l| right.iter().filter_map(move |r| join(l, r)));
+        Some(pairs.filter(|w| w.list.len() <= limit).collect())
+    }
+
+    fn goal(&mut self, scope: &mut Scope, g: &Goal, depth: usize) -> Option<Vec<Way>> {
+        self.pay(1)?;
+        match g {
+            Goal::Done => Some(vec![Way::none(false)]),
+            Goal::Rest => Some(vec![Way::none(true)]),
+            Goal::Both(a, b) => {
+                let (l, r) = (self.goal(scope, a, depth)?, self.goal(scope, b, depth)?);
+                self.pairs(&l, &r, Way::both)
+            }
+            Goal::Either(a, b) => {
+                let (l, r) = (self.goal(scope, a, depth)?, self.goal(scope, b, depth)?);
+                self.pairs(&l, &r, Way::either)
+            }
+            Goal::Lend(d, g) => {
+                let e = scope.len();
+                scope.push(Entry { clause: d.clone(), stays: false });
+                let ways = self.goal(scope, g, depth);
+                scope.pop();
+                Some(ways?.into_iter().filter_map(|w| w.lent(e)).collect())
+            }
+            Goal::Name(a) => self.name(scope, *a, depth),
+        }
+    }
+
+    fn name(&mut self, scope: &mut Scope, a: u16, depth: usize) -> Option<Vec<Way>> {
+        let mut all = Vec::new();
+        if depth == 0 {
+            return Some(all);
+        }
+        for e in 0..scope.len() {
+            let entry = scope[e].clone();
+            if entry.clause.head != Some(a) {
+                continue;
+            }
+            let mut ways = vec![Way::none(false)];
+            for g in &entry.clause.conditions {
+                let more = self.goal(scope, g, depth - 1)?;
+                ways = self.pairs(&ways, &more, Way::both)?;
+            }
+            all.extend(ways.into_iter().filter_map(|w| w.using(e, entry.stays)));
+        }
+        all.retain(|w| w.list.len() <= self.limit);
+        Some(all)
+    }
+}
+
+/// All lists of a card's derivations within limits, in order; none where the budget is spent.
+pub fn lists(card: &Card, budget: usize) -> Option<Vec<Vec<u8>>> {
+    let mut ways = Ways { budget, limit: card.s };
+    let all = ways.goal(&mut card.scope(), &card.goal, card.d)?;
+    let must = card.must();
+    let good = all.into_iter().filter(|w| w.slack || must.within(w.used));
+    let mut lists: Vec<_> = good.map(|w| w.list).collect();
+    lists.sort();
+    lists.dedup();
+    Some(lists)
+}
+
+fn refused<T>(number: u8, place: Place) -> Result<T, Refusal> {
+    Err(Refusal { number, place })
+}
+
+/// The sheet of a list.
+pub fn sheet(card: &Card, list: &[u8]) -> Vec<u8> {
+    let size = 5 + list.len() + card.lines.len();
+    let mut bytes = vec![(size / 256) as u8, (size % 256) as u8, 1, list.len() as u8, card.lines.len() as u8];
+    bytes.extend(list);
+    bytes.extend((0..card.lines.len()).map(|i| card.mark(list, i)));
+    bytes
+}
+
+/// What planning a card into a buffer of so many bytes answers: the sheet or a refusal; none where the budget
+/// is spent.
+pub fn plan(bytes: &[u8], size: usize, budget: usize) -> Option<Result<Vec<u8>, Refusal>> {
+    let card = match decode::card(bytes) {
+        Ok(card) => card,
+        Err(refusal) => return Some(Err(refusal)),
+    };
+    if size < 5 + card.s + card.lines.len() {
+        return Some(refused(10, Place::Sheet));
+    }
+    let lists = lists(&card, budget)?;
+    Some(match lists.first() {
+        Some(list) => Ok(sheet(&card, list)),
+        None => refused(11, Place::Card),
+    })
+}
+
+/// Follows a list through a goal: the way it goes, and how many steps it takes.
+fn walk(scope: &mut Scope, g: &Goal, depth: usize, steps: &[u8]) -> Option<(Way, usize)> {
+    match g {
+        Goal::Done => Some((Way::none(false), 0)),
+        Goal::Rest => Some((Way::none(true), 0)),
+        Goal::Both(a, b) | Goal::Either(a, b) => {
+            let (l, n) = walk(scope, a, depth, steps)?;
+            let (r, m) = walk(scope, b, depth, &steps[n..])?;
+            let joined = if let Goal::Both(..) = g { l.both(&r) } else { l.either(&r) };
+            Some((joined?, n + m))
+        }
+        Goal::Lend(d, g) => {
+            let e = scope.len();
+            scope.push(Entry { clause: d.clone(), stays: false });
+            let walked = walk(scope, g, depth, steps);
+            scope.pop();
+            let (w, n) = walked?;
+            Some((w.lent(e)?, n))
+        }
+        Goal::Name(a) => {
+            let e = usize::from(*steps.first()?);
+            let entry = scope.get(e)?.clone();
+            if entry.clause.head != Some(*a) || depth == 0 {
+                return None;
+            }
+            let (mut way, mut n) = (Way::none(false), 1);
+            for g in &entry.clause.conditions {
+                let (w, m) = walk(scope, g, depth - 1, &steps[n..])?;
+                way = way.both(&w)?;
+                n += m;
+            }
+            Some((way.using(e, entry.stays)?, n))
+        }
+    }
+}
+
+/// The steps are the list of a derivation within limits.
+pub fn listed(card: &Card, steps: &[u8]) -> bool {
+    let walked = walk(&mut card.scope(), &card.goal, card.d, steps);
+    let enough = |w: &Way| w.slack || card.must().within(w.used);
+    steps.len() <= card.s && walked.is_some_and(|(w, n)| n == steps.len() && enough(&w))
+}
+
+/// What reading a sheet against a card answers.
+pub fn read(bytes: &[u8], sheet: &[u8]) -> Result<usize, Refusal> {
+    let card = decode::card(bytes)?;
+    let t = card.lines.len();
+    if sheet.len() < 5 {
+        return refused(12, Place::Sheet);
+    }
+    let (size, k) = (usize::from(sheet[0]) * 256 + usize::from(sheet[1]), usize::from(sheet[3]));
+    let framed = size == sheet.len() && sheet[2] == 1 && usize::from(sheet[4]) == t;
+    if !framed || size != 5 + k + t || k > card.s {
+        return refused(12, Place::Sheet);
+    }
+    let steps = &sheet[5..5 + k];
+    if !listed(&card, steps) {
+        return refused(13, Place::Steps);
+    }
+    match (0..t).find(|&i| sheet[5 + k + i] != card.mark(steps, i)) {
+        Some(i) => refused(14, Place::Mark(i as u16)),
+        None => Ok(k),
+    }
+}
