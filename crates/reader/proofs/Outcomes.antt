@@ -15,6 +15,8 @@ use Rattle.card.specs.Verdict.{Verdict, sound, fault, firstOf, told, whereOf, s
 use Rattle.card.specs.Fault.{firstFault, Sound}
 use Rattle.card.specs.Decode.{jobOf}
 use Rattle.search.specs.Found.{ListedSays}
+use Rattle.search.specs.declared.follow.Followed.{Followed}
+use Rattle.search.specs.declared.follow.Followed.the-variants.{Listed as Listed⁺, Unlisted}
 use Rattle.sheet.specs.Front.{stepCount, stepsOf, sheetFault, Fitting}
 use Rattle.sheet.specs.Marks.{markFault}
 use Rattle.card.proofs.Stages.{passed}
@@ -63,15 +65,15 @@ module _ {bs sh : List ℕ} {k : ℕ} {tape : List ℕ} (c : Copied bs sh k tape
       let e = c .count in
       rw lent-marks (simp length-drop (omega arith))
 
-  pub found-list : (listed : Bool) → not listed ≡ false → ListedSays bs (take k tape) listed → Listed (jobOf bs) (stepsOf sh)
+  pub found-list : (f : Followed) → f ≡ Listed⁺ → ListedSays bs (take k tape) f → Listed (jobOf bs) (stepsOf sh)
   unfolding ListedSays
-  found-list true n h = rw same-steps at h
-  found-list false n h = absurd (let z : _≡_ {A = ℕ} 0 1 = cc in omega arith)
+  found-list f e h = let l : Listed (jobOf bs) (take k tape) = rw e at h in rw same-steps at l
 
-  pub found-no-list : (listed : Bool) → not listed ≡ true → ListedSays bs (take k tape) listed → Reading bs sh (refused 13 steps)
+  pub found-no-list : (f : Followed) → f ≡ Unlisted → ListedSays bs (take k tape) f → Reading bs sh (refused 13 steps)
   unfolding ListedSays
-  found-no-list true n h = absurd (let z : _≡_ {A = ℕ} 0 1 = cc in omega arith)
-  found-no-list false n h = no-list (c .card) (c .fits) (rw same-steps at h)
+  found-no-list f e h =
+      let n : Listed (jobOf bs) (take k tape) → ⊥ = rw e at h in
+      no-list (c .card) (c .fits) (rw same-steps at n)
 
   module _ (tape′ : List ℕ) (kept : take k tape′ ≡ take k tape) (a : Checked)
       (t : told a ≡ firstOf (lineCount bs) (markFault bs (take k tape′) (take (length sh - (5 + k)) (drop (5 + k) sh))))

@@ -3,6 +3,7 @@ use card::Checked;
 use card::Place;
 use card::Refusal;
 use card::format::byte;
+use search::follow::Followed;
 ghost use mathlib.Core.Path.{_≡_};
 ghost use Prim.Native.Nat.{_+_, _≤_};
 ghost use lib.ListN.{length, take, drop};
@@ -41,13 +42,12 @@ fn read_steps(card: &[u8], sheet: &[u8]) -> Answer
     let k = byte(sheet, 3);
     let mut tape = [0u8; 255];
     copy_steps(sheet, k, &mut tape);
-    let listed = search::follow::follows(card, &mut tape, k);
-    if !listed {
+    let Followed::Listed = search::follow::follows(card, &mut tape, k) else {
         return Answer::Refused(Refusal {
             number: 13,
             place: Place::Steps,
         });
-    }
+    };
     let start = 5 + k;
     let Checked::Refused(refusal) = sheet::marks_check(card, &tape, k, &sheet[start..]) else {
         let count = k as u8;

@@ -21,7 +21,7 @@ use Rattle.search.specs.declared.walk.Walked.the-variants.{Solved, Stuck
 use Rattle.search.specs.Walk.{solved, stuck}
 use Rattle.search.specs.Entries.{Entered, scopeIn}
 use Rattle.search.specs.Told.{items, found, reached, Ready, GoalReady, Walks, goalWalk}
-use Rattle.search.specs.Found.{ListedSays, startB}
+use Rattle.search.specs.Found.{startB}
 use Rattle.search.proofs.Tables.{eligible-all}
 use Rattle.search.proofs.Reading.{reading, read, reads-solved, reads-other, reads-stuck}
 use Rattle.search.proofs.Beginning.{start-walk, start-ready, start-goal}
@@ -101,12 +101,10 @@ module _ {bs twins tape nodes heads : List ℕ} {g : Given} {k : ℕ} {b : Branc
           let z = follow-kept .0 in
           length-take-le (w .at) tape′ (omega arith)
 
-      pub follow-solved : ListedSays bs (take k tape) (eqb (w .at) k)
-      unfolding ListedSays
-      follow-solved = at (eqb (w .at) k) refl
-        where
-          at : (t : Bool) → eqb (w .at) k ≡ t → ListedSays bs (take k tape) t
-          at true e = reads-solved every (λ d e. refl) (jobOf bs) (take k tape) (lines-bounded bs) within solved-here
-              (as-long ∙ eqb-true (w .at) k e ∙ sym count) .1
-          at false e = reads-other every (λ d e. refl) (jobOf bs) (take k tape) (lines-bounded bs) solved-here
-              (λ q. eqb-false (w .at) k e (sym as-long ∙ q ∙ count))
+      pub follow-listed : w .at ≡ k → Listed (jobOf bs) (take k tape)
+      follow-listed e =
+          reads-solved every (λ d e. refl) (jobOf bs) (take k tape) (lines-bounded bs) within solved-here (as-long ∙ e ∙ sym count) .1
+
+      pub follow-short : (w .at ≡ k → ⊥) → Listed (jobOf bs) (take k tape) → ⊥
+      follow-short n =
+          reads-other every (λ d e. refl) (jobOf bs) (take k tape) (lines-bounded bs) solved-here (λ q. n (sym as-long ∙ q ∙ count))

@@ -11,6 +11,8 @@ use Rattle.card.specs.Decode.{jobOf}
 use Rattle.lines.specs.declared.LineSet.{LineSet}
 use Rattle.lines.specs.Set.{emptyS, fullS, addS, cutS}
 use Rattle.search.specs.declared.walk.Branch.{Branch}
+use Rattle.search.specs.declared.follow.Followed.{Followed}
+use Rattle.search.specs.declared.follow.Followed.the-variants.{Listed as Listed⁺, Unlisted}
 use Rattle.search.specs.declared.Found.{Found}
 use Rattle.search.specs.declared.Found.the-variants.{List as ListOf, Nothing}
 
@@ -25,9 +27,9 @@ Finds bs tape (ListOf k) = FirstOn bs tape k
 Finds bs tape Nothing = (l : List ℕ) → Listed (jobOf bs) l → ⊥
 
 -- what each answer says of a list: it is the list of a derivation within limits, or it is not
-unfoldable pub ListedSays : List ℕ → List ℕ → Bool → Type 0
-ListedSays bs l true = Listed (jobOf bs) l
-ListedSays bs l false = Listed (jobOf bs) l → ⊥
+unfoldable pub ListedSays : List ℕ → List ℕ → Followed → Type 0
+ListedSays bs l Listed⁺ = Listed (jobOf bs) l
+ListedSays bs l Unlisted = Listed (jobOf bs) l → ⊥
 
 -- the must lines among the first n
 unfoldable pub strictBelow : List ℕ → ℕ → LineSet

@@ -12,8 +12,14 @@ ghost use Rattle.card.specs.Format.{stepLimit};
 ghost use Rattle.card.specs.Fault.{Sound};
 ghost use Rattle.search.specs.Found.{ListedSays};
 
-// The first k steps on the tape are the list of a derivation within limits.
-pub fn follows(card: &[u8], tape: &mut [u8; 255], k: usize) -> bool
+// Whether a list is that of a derivation within limits.
+pub enum Followed {
+    Listed,
+    Unlisted,
+}
+
+// Follows the first k steps on the tape.
+pub fn follows(card: &[u8], tape: &mut [u8; 255], k: usize) -> Followed
     requires { ⌜ Sound (now card) ⌝ }
     requires { ⌜ length (now tape) ≡ 255 ⌝ }
     requires { ⌜ k ≤ stepLimit (now card) ⌝ }
@@ -35,7 +41,11 @@ pub fn follows(card: &[u8], tape: &mut [u8; 255], k: usize) -> bool
     };
     let walked = walk::solve(card, &twins, tape, &mut nodes, &mut heads, g, goal, b);
     let Walked::Solved(w) = walked else {
-        return false;
+        return Followed::Unlisted;
     };
-    w.at == k
+    let at = w.at;
+    if at == k {
+        return Followed::Listed;
+    }
+    Followed::Unlisted
 }

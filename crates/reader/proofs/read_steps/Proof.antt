@@ -38,23 +38,29 @@ follows-requires c κs =
     let b = c .before .before .before .byte .ensures in
     (start c .pre .0, (c .before .copy-steps .ensures .1, omega arith))
 
+enum-told : tie.Need-enum-told
+enum-told c = search needs
+
+enum-told-2 : tie.Need-enum-told-2
+enum-told-2 c = search needs
+
 returns : tie.Need-returns
 unfolding toldRead whereOf
-returns c = found-no-list (steps (c .before .before)) _ (c .if1 .taken) (c .before .follows .ensures .0)
+returns c = found-no-list (steps (c .before .before .before)) _ (c .enum-told2 .given .1) (c .before .before .follows .ensures .0)
 
 add-start : tie.Need-add-start
 add-start c = search needs
 
 sub-marks-check : tie.Need-sub-marks-check
 sub-marks-check c =
-    let f = fitting _ _ (start (c .before .before .before) .pre .1) in
-    let b = c .before .before .before .before .before .before .byte .ensures in
+    let f = fitting _ _ (start (c .before .before .before .before) .pre .1) in
+    let b = c .before .before .before .before .before .before .before .byte .ensures in
     omega arith
 
 part-marks-check-start : tie.Need-part-marks-check-start
 part-marks-check-start c =
-    let f = fitting _ _ (start (c .before .before .before) .pre .1) in
-    let b = c .before .before .before .before .before .before .byte .ensures in
+    let f = fitting _ _ (start (c .before .before .before .before) .pre .1) in
+    let b = c .before .before .before .before .before .before .before .byte .ensures in
     omega arith
 
 part-marks-check-end : tie.Need-part-marks-check-end
@@ -62,10 +68,10 @@ part-marks-check-end c = search needs
 
 marks-check-requires : tie.Need-marks-check-requires
 marks-check-requires c κs =
-    let here = c .before .before .before .before in (
+    let here = c .before .before .before .before .before in (
       sound-front _ (start here .pre .0),
       (
-        c .before .before .before .follows .ensures .1 .0,
+        c .before .before .before .before .follows .ensures .1 .0,
         (
           search needs,
           marks-room (steps here),
@@ -76,8 +82,8 @@ marks-check-requires c κs =
 enum-known-refusal : tie.Need-enum-known-refusal
 enum-known-refusal c = search needs
 
-enum-told : tie.Need-enum-told
-enum-told c = search needs
+enum-told-3 : tie.Need-enum-told-3
+enum-told-3 c = search needs
 
 cast-count : tie.Need-cast-count
 cast-count c = search needs
@@ -85,16 +91,16 @@ cast-count c = search needs
 returns-2 : tie.Need-returns-2
 unfolding toldRead
 returns-2 c =
-    let s = steps (c .before .before .before .before .before .before .before) in
-    let x = found-list s _ (c .before .before .before .before .before .if1 .left) (c .before .before .before .before .before .before .follows .ensures .0) in
-    found-right s _ (c .before .before .before .before .before .before .follows .ensures .1 .1) _ (c .before .before .marks-check .ensures) x (c .enum-told .given .1)
+    let s = steps (c .before .before .before .before .before .before .before .before) in
+    let x = found-list s _ (c .before .before .before .before .before .enum-told .given .1) (c .before .before .before .before .before .before .before .follows .ensures .0) in
+    found-right s _ (c .before .before .before .before .before .before .before .follows .ensures .1 .1) _ (c .before .before .marks-check .ensures) x (c .enum-told3 .given .1)
 
 returns-3 : tie.Need-returns-3
 unfolding toldRead
 returns-3 c =
-    let s = steps (c .before .before .before .before .before .before .before .before) in
-    let x = found-list s _ (c .before .before .before .before .before .before .if1 .left) (c .before .before .before .before .before .before .before .follows .ensures .0) in
-    found-mark s _ (c .before .before .before .before .before .before .before .follows .ensures .1 .1) _ (c .before .before .before .marks-check .ensures) x _ (c .before .refusal .given .1)
+    let s = steps (c .before .before .before .before .before .before .before .before .before) in
+    let x = found-list s _ (c .before .before .before .before .before .before .enum-told .given .1) (c .before .before .before .before .before .before .before .before .follows .ensures .0) in
+    found-mark s _ (c .before .before .before .before .before .before .before .before .follows .ensures .1 .1) _ (c .before .before .before .marks-check .ensures) x _ (c .before .refusal .given .1)
 
 pub read-steps-spec : {M : Type 1} → statement M
 read-steps-spec =
@@ -103,6 +109,8 @@ read-steps-spec =
     byte-requires
     copy-steps-requires
     follows-requires
+    enum-told
+    enum-told-2
     returns
     add-start
     sub-marks-check
@@ -110,7 +118,7 @@ read-steps-spec =
     part-marks-check-end
     marks-check-requires
     enum-known-refusal
-    enum-told
+    enum-told-3
     cast-count
     returns-2
     returns-3)

@@ -5,7 +5,7 @@ use borrow.Author.Needs.{needs}
 use Rattle.card.proofs.Stages.{sound-front}
 use Rattle.search.specs.declared.walk.Given.{Given}
 use Rattle.search.specs.Found.{ListedSays}
-use Rattle.search.proofs.Following.{Along, follow-call, follow-kept, follow-stuck, follow-solved}
+use Rattle.search.proofs.Following.{Along, follow-call, follow-kept, follow-stuck, follow-listed, follow-short}
 use Rattle.search.proofs.follow.follows.Statement.{statement}
 use Rattle.search.proofs.follow.follows.Tie as tie
 
@@ -73,10 +73,18 @@ returns c =
     (follow-stuck (along here) _ told _ (c .enum-told .given .1), follow-kept (along here) _ told)
 
 returns-2 : tie.Need-returns-2
+unfolding ListedSays
 returns-2 c =
     let here = c .before .before .before .before .before in
     let told = c .before .before .before .before .solve .ensures in
-    (follow-solved (along here) _ told _ (c .before .before .walked .given .1), follow-kept (along here) _ told)
+    (follow-listed (along here) _ told _ (c .before .before .walked .given .1) (c .if1 .taken), follow-kept (along here) _ told)
+
+returns-3 : tie.Need-returns-3
+unfolding ListedSays
+returns-3 c =
+    let here = c .before .before .before .before .before in
+    let told = c .before .before .before .before .solve .ensures in
+    (follow-short (along here) _ told _ (c .before .before .walked .given .1) (c .if1 .left), follow-kept (along here) _ told)
 
 pub follows-spec : {M : Type 1} → statement M
 follows-spec =
@@ -92,4 +100,5 @@ follows-spec =
     enum-known-walked
     enum-told
     returns
-    returns-2)
+    returns-2
+    returns-3)
