@@ -8,25 +8,35 @@ use model::decode;
 
 const BUDGET: usize = 20_000;
 
-/// How often each refusal was met, and 0: no refusal.
+/// How often each refusal was met, and 0: no refusal; and how many cards were not compared, the model's budget being spent.
 #[derive(Default, Debug)]
-struct Met([usize; 15]);
+struct Met {
+    numbers: [usize; 15],
+    skipped: usize,
+}
 
 impl Met {
     fn count<T>(&mut self, answer: &Result<T, Refusal>) {
-        self.0[answer.as_ref().map_or_else(|r| usize::from(r.number), |_| 0)] += 1;
+        self.numbers[answer.as_ref().map_or_else(|r| usize::from(r.number), |_| 0)] += 1;
     }
 
     fn all(&self, numbers: &[usize]) {
         for &n in numbers {
-            assert!(self.0[n] > 0, "{n} was never met: {self:?}");
+            assert!(self.numbers[n] > 0, "{n} was never met: {self:?}");
         }
+    }
+
+    /// Fewer than one call in a hundred was skipped.
+    fn nearly_all_compared(&self) {
+        let compared: usize = self.numbers.iter().sum();
+        assert!(self.skipped * 100 < compared, "too many skipped: {self:?}");
     }
 }
 
 /// Plans into a buffer of random bytes: the answer and every byte are as the model says.
 fn compare_plan(r: &mut Random, met: &mut Met, card: &[u8], size: usize) {
     let Some(wanted) = model::plan(card, size, BUDGET) else {
+        met.skipped += 1;
         return;
     };
     let old = r.bytes(size);
@@ -76,6 +86,7 @@ fn plans_agree() {
     }
     println!("plans: {met:?}");
     met.all(&[0, 1, 2, 3, 4, 5, 6, 7, 8, 9, 10, 11]);
+    met.nearly_all_compared();
 }
 
 #[test]
@@ -90,6 +101,7 @@ fn buffers_of_every_size_agree() {
     }
     println!("buffers: {met:?}");
     met.all(&[0, 10, 11]);
+    met.nearly_all_compared();
 }
 
 /// The model's two ways to all lists of a card find the same, each of which its walk follows.
