@@ -11,7 +11,8 @@
  *
  *   - Each pointer leads to as many bytes as the length beside it says, and is not null, even where that
  *     length is 0: then any other pointer does, and nothing is read or written through it.
- *   - Card and sheet do not overlap in memory.
+ *   - The buffer that kit_plan writes overlaps nothing else that is lent. Card and sheet of kit_read, which
+ *     are only read, may overlap or be the same.
  *   - Nothing else writes these bytes during a call, nor reads the sheet's during kit_plan.
  *
  * Any lengths and any bytes are allowed. A call keeps nothing, takes no memory but the stack (under 128 KB at

@@ -5,11 +5,15 @@ A record is a label, the length of the buffer to be lent, and a card.
 
 Usage: trays.py            writes crates/trays/stdin and crates/trays/stdout
        trays.py --check    exits 1 if those files are not what this script writes
+Both exit 1 if the trays that are proved are not among them with the same outcomes.
 """
 import pathlib
+import re
 import sys
 
 from cards import card, word
+
+ROOT = pathlib.Path(__file__).resolve().parent.parent
 
 # Formulas as nested tuples: a name is a string; ("rest",), ("done",), ("both", G, H), ("either", G, H), ("lend", D, G), ("gives", G, D).
 REST, DONE = ("rest",), ("done",)
@@ -86,9 +90,10 @@ TRAYS = [
     ("sibling lends share a number", tray(both(lend(A, A), lend(B, B))), planned([0, 0], [])),
     ("nested lends go on counting", tray(lend(A, lend(B, both(B, A)))), planned([1, 0], [])),
     ("a lent clause serves in a rule's conditions", tray(lend(A, C), rules=[gives(A, C)]), planned([0, 1], [])),
-    ("a later choice gives the first list", tray(both(A, B), lines=[(A, 1), (gives(C, A), 1), (B, 1), (C, 1)]), ELEVEN),
-    ("a must line that only a later choice uses", tray(both(A, both(B, REST)), lines=[(A, 0), (gives(B, A), 1), (B, 1), (B, 0)]),
-        planned([0, 2], [1, 2, 1, 0])),
+    ("each choice of a must line leaves another over", tray(both(A, B), lines=[(A, 1), (gives(C, A), 1), (B, 1), (C, 1)]), ELEVEN),
+    ("rest covers a must line that a later choice would use",
+        tray(both(A, both(B, REST)), lines=[(A, 0), (gives(B, A), 1), (B, 1), (B, 0)]), planned([0, 2], [1, 2, 1, 0])),
+    ("a must line that only a later choice uses", tray(A, lines=[(A, 0), (gives(B, A), 1), (B, 1)]), planned([1, 2], [0, 1, 1])),
     ("the condition nearest the head first", tray(C, must=[gives(A, gives(B, C)), A, B]), planned([0, 2, 1], [1, 1, 1])),
     ("equal lines with different bytes", tray(both(A, A), lines=[(A, 0), (A, 1), (A, 0)]), planned([0, 1], [1, 1, 0])),
 ]
@@ -117,13 +122,26 @@ BUFFERS = [
 ]
 
 
+def proved():
+    """The cards and outcomes that are proved (planner/specs/Trays.antt), as this script writes an outcome."""
+    text = (ROOT / "crates" / "planner" / "specs" / "Trays.antt").read_text()
+    text = text[text.index("\ntrays =") : text.index("-- A rule, a line")]
+    for row in re.split(r"\btray\b", re.sub("--.*", "", text))[1:]:
+        data, *lists = (bytes(map(int, re.findall(r"\d+", part))) for part in re.findall(r"\(([\d\s∷]*)\[\]\)|\[\]", row))
+        yield data, ELEVEN if "underivable" in row else planned(*lists)
+
+
 def main():
+    outcomes = {data: outcome for _, data, outcome in TRAYS}
+    starred = list(proved())
+    if len(starred) != 13 or any(outcomes.get(data) != outcome for data, outcome in starred):
+        sys.exit("planner/specs/Trays.antt: not the cards and outcomes of this script")
     cards, found = bytearray(), bytearray()
     for label, data, outcome, room in [(*t, ANY) for t in TRAYS] + BUFFERS:
         text = label.encode()
         cards += bytes([len(text)]) + text + word(room) + word(len(data)) + data
         found += f"{label}: {outcome}\n".encode()
-    folder = pathlib.Path(__file__).resolve().parent.parent / "crates" / "trays"
+    folder = ROOT / "crates" / "trays"
     files = [(folder / "stdin", cards), (folder / "stdout", found)]
     if "--check" in sys.argv:
         sys.exit(0 if all(path.read_bytes() == text for path, text in files) else 1)

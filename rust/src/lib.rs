@@ -28,14 +28,16 @@ pub struct Refusal {
 /// Plans a card into the buffer. After `Ok(k)` its first 5 + k + T bytes are the sheet, and the others keep
 /// what they held; after a refusal all do.
 pub fn plan(card: &[u8], sheet: &mut [u8]) -> Result<usize, Refusal> {
-    // SAFETY: both are whole slices, not null even when empty, and `&mut` keeps them apart.
+    // SAFETY: both are whole slices, not null even when empty. The buffer, which is written, may overlap
+    // nothing else that is lent: it is borrowed by `&mut`, so it does not overlap the card.
     let answer = unsafe { kit_plan(card.as_ptr(), card.len(), sheet.as_mut_ptr(), sheet.len()) };
     unpacked(answer)
 }
 
-/// Reads a sheet against its card: the number of its steps, or why it is refused.
+/// Reads a sheet against its card: the number of its steps, or why it is refused. The two may overlap.
 pub fn read(card: &[u8], sheet: &[u8]) -> Result<usize, Refusal> {
-    // SAFETY: both are whole slices, not null even when empty, and the call writes nothing.
+    // SAFETY: both are whole slices, not null even when empty. The call writes nothing, so they may overlap
+    // or be the same.
     let answer = unsafe { kit_read(card.as_ptr(), card.len(), sheet.as_ptr(), sheet.len()) };
     unpacked(answer)
 }

@@ -1,9 +1,11 @@
 //! Any bytes, in buffers with no access before and behind them; and the deepest calls on a small stack.
 mod cards;
+mod met;
 mod model;
 
 use cards::{any_card, Draft, Random};
 use kit_planner::Refusal;
+use met::Met;
 use std::ffi::c_void;
 use std::slice::from_raw_parts_mut;
 
@@ -91,16 +93,19 @@ fn any_bytes(r: &mut Random) -> Vec<u8> {
 #[test]
 fn nothing_outside_is_touched() {
     let mut r = Random::new(5);
+    let mut met = Met::default();
     let (mut cards, mut sheets) = (Guarded::new(), Guarded::new());
     for _ in 0..20_000 {
         let (bytes, n) = (any_bytes(&mut r), r.below(40));
         let old = r.bytes(n);
         let Some(wanted) = model::plan(&bytes, old.len(), BUDGET) else {
+            met.skipped += 1;
             continue;
         };
         let card = cards.lock(&bytes, r.once_in(2));
         let sheet = sheets.hold(&old, r.once_in(2));
         let answer = kit_planner::plan(card, sheet);
+        met.count(&answer);
         assert_eq!(answer.err(), wanted.as_ref().err().copied(), "card {card:02x?}");
         let size = answer.map_or(0, |k| 5 + k + usize::from(card[4]));
         assert_eq!(sheet[..size], wanted.unwrap_or_default()[..]);
@@ -110,6 +115,8 @@ fn nothing_outside_is_touched() {
             assert_eq!(kit_planner::read(card, sheet), model::read(card, sheet), "card {card:02x?}");
         }
     }
+    println!("guarded: {met:?}");
+    met.enough(420);
 }
 
 /// Plans on a stack of 1 MB.

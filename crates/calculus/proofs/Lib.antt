@@ -1,6 +1,8 @@
 -- Theorems about the definitions of specs/ that belong to no one function.
-pub mod Reading
-pub mod Renaming
-pub mod Sets
-pub mod Summary
-pub mod Window
+pub mod FigureOneByHand
+pub mod SetLaws
+pub mod SummaryExact
+pub mod WindowExact
+pub mod ListsNameWays
+pub mod RenamingKeeps
+pub mod StepsBounded

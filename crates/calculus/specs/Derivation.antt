@@ -41,8 +41,9 @@ pub data Derives : Scope → Items → Goal → Type 0 where
   res-⊗ : {es : Scope} {I J K : Items} {G H : Goal} → Splits I J K → Derives es J G → Derives es K H → Derives es I (tensor G H)
   -- "either way: each part is derived from all the items"
   res-& : {es : Scope} {I : Items} {G H : Goal} → Derives es I G → Derives es I H → Derives es I (with G H)
-  -- "lend: the clause joins the items for that goal alone and counts as must there"
-  res-⊸ : {es : Scope} {I : Items} {D : Clause} {G : Goal} → Derives (lend es D) (I ∪ only (length es)) G → Derives es I (lolliᴳ D G)
+  -- "lend: the clause joins the items for that goal alone and counts as must there"; its number is none of the items'
+  res-⊸ : {es : Scope} {I : Items} {D : Clause} {G : Goal} → I (length es) ≡ false → Derives (lend es D) (I ∪ only (length es)) G
+      → Derives es I (lolliᴳ D G)
   -- "name: one entry whose head is this name is used. A rule stays"
   res-atm-int : {es : Scope} {I : Items} {a : ℕ} (e : ℕ) → linearAt es e ≡ false → Derives es I (residual a (clauseAt es e))
       → Derives es I (atomᴳ a)

@@ -29,6 +29,11 @@ pub record Limited (j : Job) (d : Derivation j) : Type 0 where
   pub nested : nesting (d .tree) ≤ j .depth
   pub counted : length (steps (d .tree)) ≤ j .length-limit
 
+-- Planned "if and only if Figure 1 .. derives its goal .. within its limits on nesting and steps": there is a derivation within limits.
+pub record Derivable (j : Job) : Type 0 where
+  pub derivation : Derivation j
+  pub limited : Limited j derivation
+
 -- l is the list of a derivation within limits
 pub record Listed (j : Job) (l : List ℕ) : Type 0 where
   pub derivation : Derivation j

@@ -5,7 +5,7 @@ use mathlib.Core.Logic.{_↔_}
 use mathlib.Core.Bool.{Bool, false, _||_}
 use mathlib.Core.List.{List, [], _∷_, _++_, map, List·Memᴰ}
 use lib.Dec.{eqb}
-use Rattle.calculus.specs.Formula.{Goal, Clause, conditions}
+use Rattle.calculus.specs.Formula.{Goal, conditions}
 use Rattle.calculus.specs.Items.{Items}
 use Rattle.calculus.specs.Derivation.{Scope, Derives, clauseAt, res-1, res-⊤, res-⊗, res-&, res-⊸, res-atm-int, res-atm-lin}
 
@@ -15,7 +15,7 @@ steps (res-1 n) = []
 steps res-⊤ = []
 steps (res-⊗ s l r) = steps l ++ steps r
 steps (res-& l r) = steps l ++ steps r
-steps (res-⊸ d) = steps d
+steps (res-⊸ f d) = steps d
 steps (res-atm-int e n d) = e ∷ steps d
 steps (res-atm-lin e n h d) = e ∷ steps d
 
@@ -30,7 +30,7 @@ nesting (res-1 n) = zero
 nesting res-⊤ = zero
 nesting (res-⊗ s l r) = max (nesting l) (nesting r)
 nesting (res-& l r) = max (nesting l) (nesting r)
-nesting (res-⊸ d) = nesting d
+nesting (res-⊸ f d) = nesting d
 nesting (res-atm-int e n d) = suc (nesting d)
 nesting (res-atm-lin e n h d) = suc (nesting d)
 
@@ -71,7 +71,7 @@ needs m (res-1 n) = []
 needs m res-⊤ = []
 needs m (res-⊗ s l r) = under (turn-left m) (needs (mode-left m) l) ++ under (turn-right m) (needs plain r)
 needs m (res-& l r) = under (left ∷ []) (needs plain l) ++ under (right ∷ []) (needs plain r)
-needs m (res-⊸ d) = under (into ∷ []) (needs plain d)
+needs m (res-⊸ f d) = under (into ∷ []) (needs plain d)
 needs m (res-atm-int {es} e n d) = record { place = []; entry = e } ∷ needs (row (conditions (clauseAt es e))) d
 needs m (res-atm-lin {es} e n h d) = record { place = []; entry = e } ∷ needs (row (conditions (clauseAt es e))) d
 

@@ -1,10 +1,11 @@
 -- Laws and theorems that belong to no one function.
-pub mod Verdicts
-pub mod Fronts
-pub mod Tables
-pub mod Nodes
-pub mod Roots
-pub mod Stages
-pub mod Formulas
-pub mod Cards
-pub mod Examples
+pub mod FaultsInOrder
+pub mod FrontChecked
+pub mod TablesGrow
+pub mod NodesChecked
+pub mod CardChecked
+pub mod NodesDecoded
+pub mod SampleCards
+pub mod FaultsInRange
+pub mod SoundNodes
+pub mod StepsFitAByte

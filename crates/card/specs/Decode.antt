@@ -1,7 +1,6 @@
 -- From bytes to formulas and to the job that a sound card asks.
 use Prim.Native.Nat.{ℕ, _+_, _-_}
-use mathlib.Core.Path.{_≡_}
-use mathlib.Core.Bool.{Bool, true, false, cond, _&&_}
+use mathlib.Core.Bool.{true, false, cond, _&&_}
 use mathlib.Core.List.{List, _++_}
 use lib.ListN.{getD}
 use lib.Dec.{leb, ltb, eqb}
@@ -9,38 +8,39 @@ use Rattle.calculus.specs.Formula.{Goal, Clause, atomᴳ, topᴳ, oneᴳ, zero�
 use Rattle.calculus.specs.Items.{Items}
 use Rattle.calculus.specs.Derivation.{Entry}
 use Rattle.calculus.specs.Job.{Job}
-use Rattle.card.specs.Format.{ruleCount, lineCount, nodeCount, goalNode, depthLimit, stepLimit, kindAt, leftAt, rightAt, ruleNode, lineNode, lineByte, listing, grow}
+use Rattle.card.specs.Format.{ruleCount, lineCount, goalNode, depthLimit, stepLimit, kindAt, leftAt, rightAt, ruleNode}
+use Rattle.card.specs.Format.{lineNode, lineByte, listing, grow}
 
 -- A node's two readings. Of a kind that has but one, the other stands for nothing and is never asked of a sound card.
-pub record Reading : Type 0 where
+pub record NodeReading : Type 0 where
   pub goal : Goal
   pub clause : Clause
 
-abbrev pub noReading : Reading
-noReading = record { goal = zeroᴳ; clause = topᴰ }
+abbrev pub noNodeReading : NodeReading
+noNodeReading = record { goal = zeroᴳ; clause = topᴰ }
 
-abbrev pub asGoal : Goal → Reading
+abbrev pub asGoal : Goal → NodeReading
 asGoal G = record { goal = G; clause = topᴰ }
 
-abbrev pub asClause : Clause → Reading
+abbrev pub asClause : Clause → NodeReading
 asClause D = record { goal = zeroᴳ; clause = D }
 
 -- The table of kinds: node i, from the readings of the nodes before it.
-unfoldable pub readStep : List ℕ → List Reading → ℕ → Reading
+unfoldable pub readStep : List ℕ → List NodeReading → ℕ → NodeReading
 readStep bs t i =
     let k = kindAt bs i in
     let l = leftAt bs i in
-    let p = getD t l noReading in
-    let q = getD t (rightAt bs i) noReading in
+    let p = getD t l noNodeReading in
+    let q = getD t (rightAt bs i) noNodeReading in
     cond (eqb k 1) (record { goal = atomᴳ l; clause = atomᴰ l })
     (cond (eqb k 2) (record { goal = topᴳ; clause = topᴰ })
     (cond (eqb k 3) (asGoal oneᴳ)
     (cond (eqb k 4) (asGoal (tensor (p .goal) (q .goal)))
     (cond (eqb k 5) (asGoal (with (p .goal) (q .goal)))
     (cond (eqb k 6) (asGoal (lolliᴳ (p .clause) (q .goal)))
-    (cond (eqb k 7) (asClause (lolliᴰ (p .goal) (q .clause))) noReading))))))
+    (cond (eqb k 7) (asClause (lolliᴰ (p .goal) (q .clause))) noNodeReading))))))
 
-unfoldable pub readAt : List ℕ → ℕ → Reading
+unfoldable pub readAt : List ℕ → ℕ → NodeReading
 readAt bs i = readStep bs (grow (readStep bs) i) i
 
 unfoldable pub goalAt : List ℕ → ℕ → Goal

@@ -1,14 +1,13 @@
 -- The refusals 1 to 9 (01, "Refused, and where") and soundness.
-use Prim.Native.Nat.{ℕ, _+_, _*_, _≤_, _<_, max}
+use Prim.Native.Nat.{ℕ, _+_, _<_, max}
 use mathlib.Core.Path.{_≡_}
-use mathlib.Core.Bool.{Bool, true, false, not, cond, _&&_, _||_}
+use mathlib.Core.Bool.{Bool, false, not, cond, _&&_, _||_}
 use mathlib.Core.List.{List}
-use lib.ListN.{length, getD, take}
+use lib.ListN.{length, getD}
 use lib.Dec.{leb, ltb, eqb}
-use Rattle.card.specs.Format.{lengthField, version, ruleCount, lineCount, nodeCount, goalNode, depthLimit, kindAt, leftAt, rightAt, ruleNode, lineNode, lineByte, cardLength, grow}
-use Rattle.card.specs.declared.checks.Built.{Built}
-use Rattle.card.specs.declared.checks.Built.the-variants.{Height, Faulty}
-use Rattle.card.specs.Verdict.{Verdict, Where, sound, card, node, rule, line, refuse, _▹_, firstOf}
+use Rattle.card.specs.Format.{lengthField, version, ruleCount, lineCount, nodeCount, goalNode, depthLimit, kindAt, leftAt, rightAt}
+use Rattle.card.specs.Format.{ruleNode, lineNode, lineByte, cardLength, grow}
+use Rattle.card.specs.Verdict.{Verdict, Where, sound, card, node, rule, line, sheet, steps, mark, refuse, _▹_, firstOf}
 
 -- Refusals 1 to 5: the card's front.
 unfoldable pub inRange : List ℕ → Bool
@@ -60,10 +59,6 @@ heightAt bs i = heightStep bs (grow (heightStep bs) i) i
 unfoldable pub nodeFault : List ℕ → ℕ → Verdict
 nodeFault bs i = refuse (not (wellBuilt bs i && leb (heightAt bs i) 8)) 6 (node i)
 
--- What the check of node i answers.
-unfoldable pub builtAt : List ℕ → ℕ → Built
-builtAt bs i = cond (wellBuilt bs i && leb (heightAt bs i) 8) (Height (heightAt bs i)) Faulty
-
 -- Refusals 7 to 9: the roots.
 unfoldable pub goalFault : List ℕ → Verdict
 goalFault bs = refuse (not (goalPart bs (nodeCount bs) (goalNode bs))) 7 card
@@ -86,21 +81,16 @@ firstFault bs =
     ▹ firstOf (ruleCount bs) (ruleFault bs)
     ▹ firstOf (lineCount bs) (lineFault bs)
 
+-- Demand 1, "refused with its number and place": the index of a place is that of a node, rule or line of the card; a mark's is its line's.
+unfoldable pub Placed : List ℕ → Where → Type 0
+Placed bs card = Unit {0}
+Placed bs (node i) = i < nodeCount bs
+Placed bs (rule i) = i < ruleCount bs
+Placed bs (line i) = i < lineCount bs
+Placed bs sheet = Unit {0}
+Placed bs steps = Unit {0}
+Placed bs (mark i) = i < lineCount bs
+
 -- "A card is sound if it meets none of 1 to 9 below."
 pub record Sound (bs : List ℕ) : Type 0 where
   pub faultless : firstFault bs ≡ sound
-
--- What later checks ask of the card, once the front has passed.
-pub record Framed (bs : List ℕ) : Type 0 where
-  pub whole : cardLength bs ≡ length bs
-  pub few : nodeCount bs ≤ 512
-  pub rules : ruleCount bs ≤ 64
-  pub lines : lineCount bs ≤ 64
-  pub depth : depthLimit bs ≤ 16
-
--- Node i stands on the card, and t begins with the heights of the nodes before it.
-pub record Tabled (bs : List ℕ) (i : ℕ) (t : List ℕ) : Type 0 where
-  pub here : 16 + 5 * i ≤ length bs
-  pub few : i < 512
-  pub size : length t ≡ 512
-  pub heights : take i t ≡ grow (heightStep bs) i

@@ -1,10 +1,14 @@
 -- The card's bytes (01, "The card"). Past the end of the bytes every byte reads as 0.
-use Prim.Native.Nat.{ℕ, zero, suc, _+_, _*_}
+use Prim.Native.Nat.{ℕ, zero, suc, _+_, _*_, _<_}
 use mathlib.Core.List.{List, [], _∷_, _++_}
 use lib.ListN.{getD}
 
 abbrev pub byteAt : List ℕ → ℕ → ℕ
 byteAt bs at = getD bs at 0
+
+-- what every slice of bytes is
+pub record Bytes (s : List ℕ) : Type 0 where
+  pub byte : (i : ℕ) → byteAt s i < 256
 
 -- "Numbers of two bytes are big-endian."
 abbrev pub wordAt : List ℕ → ℕ → ℕ

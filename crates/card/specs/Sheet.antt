@@ -1,6 +1,5 @@
 -- Marks and the sheet's bytes (01, "Steps, nesting, order, marks" and "The sheet").
 use Prim.Native.Nat.{ℕ, _+_, _/_, _%_}
-use mathlib.Core.Path.{_≡_}
 use mathlib.Core.Bool.{cond}
 use mathlib.Core.List.{List, [], _∷_, _++_}
 use lib.ListN.{length}
@@ -15,9 +14,9 @@ markOf bs l i = cond (stands (ruleCount bs + i) l) 1 (cond (eqb (lineByte bs i) 
 unfoldable pub marksOf : List ℕ → List ℕ → List ℕ
 marksOf bs l = listing (lineCount bs) (markOf bs l)
 
--- a number of two bytes, big-endian
+-- a number of two bytes, big-endian: it is a sheet's length, which is at most 324
 unfoldable pub word : ℕ → List ℕ
-word n = n / 256 % 256 ∷ n % 256 ∷ []
+word n = n / 256 ∷ n % 256 ∷ []
 
 -- "Length (2 bytes), version 1, step count k, T, then k steps, then T marks: 5 + k + T bytes."
 unfoldable pub sheetOf : List ℕ → List ℕ → List ℕ

@@ -10,24 +10,17 @@ use crate::format::line_node;
 use crate::format::right;
 use crate::format::rule_node;
 use crate::format::word;
+use crate::refuse;
 ghost use mathlib.Core.Path.{_≡_};
 ghost use mathlib.Core.Bool.{_&&_, true};
 ghost use Prim.Native.Nat.{_+_, _*_, _≤_, _<_, max};
-ghost use lib.ListN.{length, take};
+ghost use lib.ListN.{length};
 ghost use lib.Dec.{leb, eqb};
-ghost use Rattle.card.specs.Format.{nodeCount, ruleCount, lineCount, cardLength, grow};
-ghost use Rattle.card.specs.Verdict.{told, fault, card as at-card, firstOf};
-ghost use Rattle.card.specs.Fault.{frontFault, inRange, isGoal, isClause, goalPart, clausePart, wellBuilt, heightStep, heightAt, builtAt, nodeFault, goalFault, ruleFault, lineGood, lineFault, Framed, Tabled};
-
-// A refusal whose place is the card.
-fn card_refused(number: u8) -> Checked
-    ensures { λ r. ⌜ told r ≡ fault number at-card ⌝ }
-{
-    Checked::Refused(Refusal {
-        number,
-        place: Place::Card,
-    })
-}
+ghost use Rattle.card.specs.Format.{nodeCount, ruleCount, lineCount, cardLength};
+ghost use Rattle.card.specs.Verdict.{told, firstOf};
+ghost use Rattle.card.specs.Fault.{frontFault, nodeFault, goalFault, ruleFault, lineFault};
+ghost use Rattle.card.specs.Fault.{inRange, isGoal, isClause, goalPart, clausePart, wellBuilt, heightAt};
+ghost use Rattle.card.specs.Inner.Checks.{builtAt, Framed, Tabled};
 
 fn both(a: bool, b: bool) -> bool
     ensures { λ r. ⌜ r ≡ (a && b) ⌝ }
@@ -70,29 +63,35 @@ fn length_asked(card: &[u8]) -> usize
     11 + 5 * word(card, 5) + 2 * byte(card, 3) + 3 * byte(card, 4)
 }
 
-// 1 to 5.
+// 1 to 5: the card's front.
 pub fn front_check(card: &[u8]) -> Checked
     ensures { λ r. ⌜ told r ≡ frontFault (now (card .entry)) ⌝ }
 {
-    if card.len() < 11 {
-        return card_refused(1);
-    }
-    let field = word(card, 0);
-    if field != card.len() {
-        return card_refused(2);
-    }
-    let version = byte(card, 2);
-    if version != 1 {
-        return card_refused(3);
-    }
-    let ranged = in_range(card);
-    if !ranged {
-        return card_refused(4);
-    }
-    let asked = length_asked(card);
-    if asked != card.len() {
-        return card_refused(5);
-    }
+    // 1: fewer than 11 bytes.
+    let front = refuse(card.len() < 11, 1, Place::Card);
+    let Checked::Sound = front else {
+        return front;
+    };
+    // 2: the length field differs from the bytes lent.
+    let field = refuse(word(card, 0) != card.len(), 2, Place::Card);
+    let Checked::Sound = field else {
+        return field;
+    };
+    // 3: the version is not 1.
+    let version = refuse(byte(card, 2) != 1, 3, Place::Card);
+    let Checked::Sound = version else {
+        return version;
+    };
+    // 4: P, T, N or d is out of range.
+    let range = refuse(!in_range(card), 4, Place::Card);
+    let Checked::Sound = range else {
+        return range;
+    };
+    // 5: the length formula is not met.
+    let size = refuse(length_asked(card) != card.len(), 5, Place::Card);
+    let Checked::Sound = size else {
+        return size;
+    };
     Checked::Sound
 }
 
@@ -256,18 +255,29 @@ pub fn nodes_check(card: &[u8]) -> Checked
     Checked::Sound
 }
 
-// 7.
+// 7: the goal is not below N or not a goal.
 pub fn goal_check(card: &[u8]) -> Checked
     requires { ⌜ Framed (now card) ⌝ }
     ensures { λ r. ⌜ told r ≡ goalFault (now (card .entry)) ⌝ }
 {
     let n = word(card, 5);
-    let goal = word(card, 7);
-    let good = goal_part(card, n, goal);
-    if good {
-        return Checked::Sound;
-    }
-    card_refused(7)
+    let good = goal_part(card, n, word(card, 7));
+    let goal = refuse(!good, 7, Place::Card);
+    let Checked::Sound = goal else {
+        return goal;
+    };
+    Checked::Sound
+}
+
+// 8 at rule i: its node is not below N or not a clause.
+fn rule_check(card: &[u8], i: usize) -> Checked
+    requires { ⌜ Framed (now card) ⌝ }
+    requires { ⌜ i < ruleCount (now card) ⌝ }
+    ensures { λ r. ⌜ told r ≡ ruleFault (now (card .entry)) i ⌝ }
+{
+    let n = word(card, 5);
+    let good = clause_part(card, n, rule_node(card, i));
+    refuse(!good, 8, Place::Rule(i as u16))
 }
 
 // 8, by rising index.
@@ -275,31 +285,28 @@ pub fn rules_check(card: &[u8]) -> Checked
     requires { ⌜ Framed (now card) ⌝ }
     ensures { λ r. ⌜ told r ≡ firstOf (ruleCount (now (card .entry))) (ruleFault (now (card .entry))) ⌝ }
 {
-    let n = word(card, 5);
     let p = byte(card, 3);
     let mut i = 0;
     while i < p {
-        let good = clause_part(card, n, rule_node(card, i));
-        if !good {
-            return Checked::Refused(Refusal {
-                number: 8,
-                place: Place::Rule(i as u16),
-            });
-        }
+        let rule = rule_check(card, i);
+        let Checked::Sound = rule else {
+            return rule;
+        };
         i += 1;
     }
     Checked::Sound
 }
 
-// Line i by itself.
-fn line_good(card: &[u8], i: usize) -> bool
+// 9 at line i: its node is not below N or not a clause, or its must/may byte is above 1.
+fn line_check(card: &[u8], i: usize) -> Checked
     requires { ⌜ Framed (now card) ⌝ }
     requires { ⌜ i < lineCount (now card) ⌝ }
-    ensures { λ r. ⌜ r ≡ lineGood (now (card .entry)) i ⌝ }
+    ensures { λ r. ⌜ told r ≡ lineFault (now (card .entry)) i ⌝ }
 {
     let n = word(card, 5);
     let known = line_byte(card, i) <= 1;
-    both(clause_part(card, n, line_node(card, i)), known)
+    let good = both(clause_part(card, n, line_node(card, i)), known);
+    refuse(!good, 9, Place::Line(i as u16))
 }
 
 // 9, by rising index.
@@ -310,13 +317,10 @@ pub fn lines_check(card: &[u8]) -> Checked
     let t = byte(card, 4);
     let mut i = 0;
     while i < t {
-        let good = line_good(card, i);
-        if !good {
-            return Checked::Refused(Refusal {
-                number: 9,
-                place: Place::Line(i as u16),
-            });
-        }
+        let line = line_check(card, i);
+        let Checked::Sound = line else {
+            return line;
+        };
         i += 1;
     }
     Checked::Sound

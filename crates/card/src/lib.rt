@@ -3,7 +3,7 @@ mod checks;
 pub mod format;
 
 ghost use mathlib.Core.Path.{_≡_};
-ghost use Rattle.card.specs.Verdict.{told};
+ghost use Rattle.card.specs.Verdict.{told, refuse, whereOf};
 ghost use Rattle.card.specs.Fault.{firstFault};
 
 // 01: "the place names its thing".
@@ -29,25 +29,44 @@ pub enum Checked {
     Refused(Refusal),
 }
 
+// A check whose test says whether it applies.
+pub fn refuse(applies: bool, number: u8, place: Place) -> Checked
+    ensures { λ r. ⌜ told r ≡ refuse applies number (whereOf place) ⌝ }
+{
+    if applies {
+        return Checked::Refused(Refusal { number, place });
+    }
+    Checked::Sound
+}
+
 // The first of 1 to 9 that applies, or that the card is sound.
 pub fn check(card: &[u8]) -> Checked
     ensures { λ r. ⌜ told r ≡ firstFault (now (card .entry)) ⌝ }
 {
+    // 1 to 5.
     let front = checks::front_check(card);
     let Checked::Sound = front else {
         return front;
     };
+    // 6.
     let nodes = checks::nodes_check(card);
     let Checked::Sound = nodes else {
         return nodes;
     };
+    // 7.
     let goal = checks::goal_check(card);
     let Checked::Sound = goal else {
         return goal;
     };
+    // 8.
     let rules = checks::rules_check(card);
     let Checked::Sound = rules else {
         return rules;
     };
-    checks::lines_check(card)
+    // 9.
+    let lines = checks::lines_check(card);
+    let Checked::Sound = lines else {
+        return lines;
+    };
+    Checked::Sound
 }

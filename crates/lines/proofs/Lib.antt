@@ -1,4 +1,4 @@
--- Word has the bits of one word, Place the word of an item, and Laws what the users of a line set cite.
+-- Word has the bits of one word, Place the word of an item, and MemberLaws what the users of a line set cite.
 pub mod Word
 pub mod Place
-pub mod Laws
+pub mod MemberLaws

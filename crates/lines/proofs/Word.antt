@@ -1,5 +1,5 @@
--- The bits of one word, of any width. Each operation works on every bit apart; 2 ^ i has bit i alone, 2 ^ n - 1 all bits below n; a number of w
--- bits is known by them. Assumes nothing.
+-- The bits of one word, of any width. Each operation works on every bit apart; 2 ^ i has bit i alone, 2 ^ n - 1 all bits below n;
+-- a number of w bits is known by them. Assumes nothing.
 use mathlib.Core.Path.{_≡_, refl, sym, ap, _∙_}
 use mathlib.Core.Bool.{Bool, true, false, not, _&&_, _||_}
 use Prim.Native.Nat.{ℕ, zero, suc, _-_, _*_, _/_, _%_, _^_, _<_}
@@ -8,7 +8,7 @@ use native.Mathlib.Omega.{arith}
 use lib.Dec.{eqb, ltb, eqb·zero-suc, eqb·suc-zero, eqb·suc-suc, leb·suc-suc, leb·suc-zero, leb·zero}
 use lib.Pow.{pow-pos, shl-exact}
 use lib.Bits.{bitAnd, bitOr, bitXor, and-shr, or-shr, xor-shr, and-mod, or-mod, xor-mod}
-use Rattle.lines.specs.Set.{bitAt, less}
+use Rattle.lines.specs.Inner.Set.{bitAt, less}
 
 bit-low : (a : ℕ) → bitAt a 0 ≡ eqb (a % 2) 1
 unfolding bitAt
@@ -43,9 +43,6 @@ module _ (op : ℕ → ℕ → ℕ) (f : Bool → Bool → Bool)
 
 pub bit-or : (a b j : ℕ) → bitAt (bitOr a b) j ≡ (bitAt a j || bitAt b j)
 bit-or = bit-op bitOr _||_ or-shr or-mod refl refl refl refl
-
-pub bit-and : (a b j : ℕ) → bitAt (bitAnd a b) j ≡ (bitAt a j && bitAt b j)
-bit-and = bit-op bitAnd _&&_ and-shr and-mod refl refl refl refl
 
 less-shr : (a b k : ℕ) → less a b / 2 ^ k ≡ less (a / 2 ^ k) (b / 2 ^ k)
 unfolding less

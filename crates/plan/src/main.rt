@@ -4,6 +4,7 @@ use libc::STDOUT_FILENO;
 use planner::Answer;
 ghost use Prim.Native.Nat.{_+_, _≤_};
 ghost use lib.ListN.{length};
+ghost use Rattle.planner.specs.Plan.{roomForAny, toldPlan, Planning, NeverShort};
 
 // A line of the output, or its end: a word and a number.
 fn print_line(word: &[u8], n: u64) {
@@ -49,9 +50,20 @@ fn print_sheet(sheet: &[u8], k: usize, t: usize)
     print_marks(&sheet[marks..end]);
 }
 
+// 01: "plans with room enough for any sheet".
+fn plan_with_room(card: &[u8], sheet: &mut [u8]) -> Answer
+    requires { ⌜ roomForAny ≤ length (now sheet) ⌝ }
+    ensures { λ r. ⌜ Planning (now (card .entry)) (now (sheet .entry)) (toldPlan r) (now (sheet .exit)) ⌝ }
+    ensures { λ r. ⌜ NeverShort (toldPlan r) ⌝ }
+{
+    planner::plan(card, sheet)
+}
+
 // Plans the card into the buffer and prints the answer.
-fn plan_into(card: &[u8], sheet: &mut [u8]) {
-    let answer = planner::plan(card, sheet);
+fn plan_into(card: &[u8], sheet: &mut [u8])
+    requires { ⌜ roomForAny ≤ length (now sheet) ⌝ }
+{
+    let answer = plan_with_room(card, sheet);
     match answer {
         Answer::Planned(k) => {
             let t = byte(sheet, 4);
@@ -64,7 +76,7 @@ fn plan_into(card: &[u8], sheet: &mut [u8]) {
     }
 }
 
-// A sheet has at most 5 + 255 + 64 bytes.
+// The buffer has room for any sheet: 5 + 255 + 64 bytes. Of a longer input only the first 4,096 bytes are read.
 fn main() {
     let mut input = io::buffer();
     let n = io::read_full(libc::STDIN_FILENO, &mut input);

@@ -1,4 +1,4 @@
 -- Laws and theorems that belong to no one function.
-pub mod Outcomes
-pub mod Demands
-pub mod Trays
+pub mod PlannerExits
+pub mod PlannedExactly
+pub mod TraysComeOut

@@ -4,15 +4,28 @@ use card::Place;
 use card::Refusal;
 use card::format::byte;
 use search::Found;
+ghost use mathlib.Core.Path.{_≡_};
 ghost use Prim.Native.Nat.{_≤_};
 ghost use lib.ListN.{length};
 ghost use Rattle.card.specs.Fault.{Sound};
-ghost use Rattle.planner.specs.Plan.{RoomSays, toldPlan, Planning};
+ghost use Rattle.card.specs.Verdict.{told};
+ghost use Rattle.planner.specs.Inner.Checks.{planAnswer, RoomSays};
+ghost use Rattle.planner.specs.Plan.{toldPlan, Planning};
 
 // 01: "The planner answers planned with k, or a refusal".
 pub enum Answer {
     Planned(u8),
     Refused(Refusal),
+}
+
+// A check's answer as the call's: its refusal, or planned with k where it found nothing.
+fn answered(found: Checked, k: u8) -> Answer
+    ensures { λ r. ⌜ toldPlan r ≡ planAnswer (told found) k ⌝ }
+{
+    match found {
+        Checked::Sound => Answer::Planned(k),
+        Checked::Refused(refusal) => Answer::Refused(refusal),
+    }
 }
 
 // Whether a buffer holds any sheet that the step limit lets a card have.
@@ -61,8 +74,9 @@ fn plan_sound(card: &[u8], sheet: &mut [u8]) -> Answer
 pub fn plan(card: &[u8], sheet: &mut [u8]) -> Answer
     ensures { λ r. ⌜ Planning (now (card .entry)) (now (sheet .entry)) (toldPlan r) (now (sheet .exit)) ⌝ }
 {
-    let Checked::Refused(refusal) = card::check(card) else {
-        return plan_sound(card, sheet);
+    let checked = card::check(card);
+    let Checked::Sound = checked else {
+        return answered(checked, 0);
     };
-    Answer::Refused(refusal)
+    plan_sound(card, sheet)
 }

@@ -1,3 +1,2 @@
 -- Laws that belong to no one function.
-pub mod Packs
-pub mod RoundTrip
+pub mod NumbersReadBack

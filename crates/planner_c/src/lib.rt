@@ -3,7 +3,10 @@ use card::Place;
 use card::Refusal;
 ghost use mathlib.Core.Path.{_≡_};
 ghost use Rattle.card.specs.Verdict.{whereOf};
-ghost use Rattle.planner_c.specs.Pack.{pack, packRefusal, PlanTold, ReadTold};
+ghost use Rattle.planner.specs.Plan.{Planning};
+ghost use Rattle.reader.specs.Read.{Reading, AcceptsExactly};
+ghost use Rattle.planner_c.specs.Numbers.{planIn, readIn};
+ghost use Rattle.planner_c.specs.Inner.Pack.{pack, packRefusal};
 
 fn packed(number: u8, place: u8, index: u16) -> u32
     ensures { λ r. ⌜ r ≡ pack number place index ⌝ }
@@ -27,10 +30,10 @@ fn packed_refusal(refusal: Refusal) -> u32
     }
 }
 
-// Plans the card into the lent buffer: planner::plan, its answer packed.
+// Plans the card into the lent buffer: planner::plan, its answer as a number that reads as the outcome.
 #[no_mangle]
 pub extern "C" fn kit_plan(card: &[u8], sheet: &mut [u8]) -> u32
-    ensures { λ r. ⌜ PlanTold (now (card .entry)) (now (sheet .entry)) r (now (sheet .exit)) ⌝ }
+    ensures { λ r. ⌜ Planning (now (card .entry)) (now (sheet .entry)) (planIn r) (now (sheet .exit)) ⌝ }
 {
     let answer = planner::plan(card, sheet);
     match answer {
@@ -39,10 +42,11 @@ pub extern "C" fn kit_plan(card: &[u8], sheet: &mut [u8]) -> u32
     }
 }
 
-// Reads the sheet against the card: reader::read, its answer packed.
+// Reads the sheet against the card: reader::read, its answer as a number that reads as the outcome.
 #[no_mangle]
 pub extern "C" fn kit_read(card: &[u8], sheet: &[u8]) -> u32
-    ensures { λ r. ⌜ ReadTold (now (card .entry)) (now (sheet .entry)) r ⌝ }
+    ensures { λ r. ⌜ Reading (now (card .entry)) (now (sheet .entry)) (readIn r) ⌝ }
+    ensures { λ r. ⌜ AcceptsExactly (now (card .entry)) (now (sheet .entry)) (readIn r) ⌝ }
 {
     let answer = reader::read(card, sheet);
     match answer {

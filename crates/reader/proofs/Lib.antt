@@ -1,3 +1,3 @@
 -- Laws and theorems that belong to no one function.
-pub mod Outcomes
-pub mod Demands
+pub mod ReaderExits
+pub mod AcceptedExactly

@@ -1,13 +1,15 @@
 -- What the reader answers (01, "Refused, and where"), in terms of derivations.
-use Prim.Native.Nat.{ℕ}
+use Prim.Native.Nat.{ℕ, _≤_}
 use mathlib.Core.Path.{_≡_}
+use mathlib.Core.Logic.{_↔_, _⊎_}
 use mathlib.Core.List.{List}
 use lib.ListN.{length}
 use Rattle.calculus.specs.Job.{Listed}
-use Rattle.card.specs.Format.{lineCount}
+use Rattle.card.specs.Format.{lineCount, stepLimit}
 use Rattle.card.specs.Verdict.{Verdict, Where, sound, fault, steps, firstOf, whereOf}
-use Rattle.card.specs.Fault.{firstFault, Sound}
+use Rattle.card.specs.Fault.{firstFault, Placed, Sound}
 use Rattle.card.specs.Decode.{jobOf}
+use Rattle.card.specs.Sheet.{sheetOf}
 use Rattle.sheet.specs.Front.{stepsOf, marksIn, sheetFault}
 use Rattle.sheet.specs.Marks.{markFault}
 use Rattle.reader.specs.declared.Answer.{Answer}
@@ -42,3 +44,22 @@ pub data Reading (bs sh : List ℕ) : ReadVerdict → Type 0 where
   -- none of these
   accepted-as : Sound bs → sheetFault bs sh ≡ sound → Listed (jobOf bs) (stepsOf sh) → marksFault bs sh ≡ sound
       → Reading bs sh (accepted (length (stepsOf sh)))
+
+-- Demand 1. A decision: accepted with k ≤ s; or refused with a number of 1 to 9 or 12 to 14 and a place that there is.
+pub data ReadDecided (bs : List ℕ) : ReadVerdict → Type 0 where
+  is-accepted : {k : ℕ} → k ≤ stepLimit bs → ReadDecided bs (accepted k)
+  is-refused : {n : ℕ} {w : Where} → ((1 ≤ n) × (n ≤ 9)) ⊎ ((12 ≤ n) × (n ≤ 14)) → Placed bs w → ReadDecided bs (refused n w)
+
+-- "A sheet holds a list with its true marks if its bytes are these and no others": here the list is that of a derivation within limits
+-- of a sound card, and k is its length.
+pub record Holds (bs sh : List ℕ) (k : ℕ) : Type 0 where
+  pub card : Sound bs
+  pub list : List ℕ
+  pub listed : Listed (jobOf bs) list
+  pub bytes : sh ≡ sheetOf bs list
+  pub count : length list ≡ k
+
+-- Demand 3, second half: accepted with k exactly when the card is sound and the sheet holds the list of such a derivation with its true
+-- marks, k its length.
+pub record AcceptsExactly (bs sh : List ℕ) (a : ReadVerdict) : Type 0 where
+  pub exactly : (k : ℕ) → (a ≡ accepted k) ↔ Holds bs sh k

@@ -8,9 +8,10 @@ ghost use mathlib.Core.Path.{_≡_};
 ghost use Prim.Native.Nat.{_+_, _≤_};
 ghost use lib.ListN.{length, take, drop};
 ghost use Rattle.card.specs.Fault.{Sound};
-ghost use Rattle.card.specs.Verdict.{sound};
+ghost use Rattle.card.specs.Verdict.{sound, told};
 ghost use Rattle.sheet.specs.Front.{sheetFault};
-ghost use Rattle.reader.specs.Read.{toldRead, Reading};
+ghost use Rattle.reader.specs.Read.{toldRead, Reading, AcceptsExactly};
+ghost use Rattle.reader.specs.Inner.Checks.{readAnswer};
 
 // 01: "the reader answers accepted with k, or a refusal".
 pub enum Answer {
@@ -18,7 +19,17 @@ pub enum Answer {
     Refused(Refusal),
 }
 
-// The sheet's k steps, as the first of the tape.
+// A check's answer as the call's: its refusal, or accepted with k where it found nothing.
+fn answered(found: Checked, k: u8) -> Answer
+    ensures { λ r. ⌜ toldRead r ≡ readAnswer (told found) k ⌝ }
+{
+    match found {
+        Checked::Sound => Answer::Accepted(k),
+        Checked::Refused(refusal) => Answer::Refused(refusal),
+    }
+}
+
+// The sheet's k steps, as the first of the tape; what stands behind them there is free, and of it only the number of places is promised.
 fn copy_steps(sheet: &[u8], k: usize, tape: &mut [u8; 255])
     requires { ⌜ 5 + k ≤ length (now sheet) ⌝ }
     requires { ⌜ k ≤ 255 ⌝ }
@@ -49,11 +60,12 @@ fn read_steps(card: &[u8], sheet: &[u8]) -> Answer
         });
     };
     let start = 5 + k;
-    let Checked::Refused(refusal) = sheet::marks_check(card, &tape, k, &sheet[start..]) else {
-        let count = k as u8;
-        return Answer::Accepted(count);
+    let marks = sheet::marks_check(card, &tape, k, &sheet[start..]);
+    let Checked::Sound = marks else {
+        return answered(marks, 0);
     };
-    Answer::Refused(refusal)
+    let count = k as u8;
+    Answer::Accepted(count)
 }
 
 // 12, and what comes after it.
@@ -61,18 +73,21 @@ fn read_sheet(card: &[u8], sheet: &[u8]) -> Answer
     requires { ⌜ Sound (now card) ⌝ }
     ensures { λ r. ⌜ Reading (now (card .entry)) (now (sheet .entry)) (toldRead r) ⌝ }
 {
-    let Checked::Refused(refusal) = sheet::front_check(card, sheet) else {
-        return read_steps(card, sheet);
+    let front = sheet::front_check(card, sheet);
+    let Checked::Sound = front else {
+        return answered(front, 0);
     };
-    Answer::Refused(refusal)
+    read_steps(card, sheet)
 }
 
 // Reads a sheet against a card: the first of 1 to 9 and 12 to 14 that applies, or how many steps it holds.
 pub fn read(card: &[u8], sheet: &[u8]) -> Answer
     ensures { λ r. ⌜ Reading (now (card .entry)) (now (sheet .entry)) (toldRead r) ⌝ }
+    ensures { λ r. ⌜ AcceptsExactly (now (card .entry)) (now (sheet .entry)) (toldRead r) ⌝ }
 {
-    let Checked::Refused(refusal) = card::check(card) else {
-        return read_sheet(card, sheet);
+    let checked = card::check(card);
+    let Checked::Sound = checked else {
+        return answered(checked, 0);
     };
-    Answer::Refused(refusal)
+    read_sheet(card, sheet)
 }

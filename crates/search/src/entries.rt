@@ -15,8 +15,8 @@ ghost use Rattle.calculus.specs.Steps.{stands};
 ghost use Rattle.card.specs.Format.{nodeCount, ruleCount, lineCount, ruleNode, listing};
 ghost use Rattle.card.specs.Fault.{Sound, clausePart};
 ghost use Rattle.card.specs.Decode.{clauseOf, jobOf};
-ghost use Rattle.search.specs.Twins.{sameLine, twinOf};
-ghost use Rattle.search.specs.Entries.{headCode, scopeIn, Entered, twinCode, Twinned, eligibleBy};
+ghost use Rattle.search.specs.Inner.Twins.{sameLine, twinOf};
+ghost use Rattle.search.specs.Inner.Entries.{headCode, scopeIn, Entered, twinCode, Twinned, eligibleBy};
 
 // The head of the clause at the node, found by following the right parts of recipes; 1000 where there is none.
 pub fn head_code(card: &[u8], node: usize) -> u16
@@ -48,7 +48,7 @@ pub fn put(card: &[u8], nodes: &mut [u16; 256], heads: &mut [u16; 256], e: usize
     heads[e] = head_code(card, node);
 }
 
-// The rules, from 0.
+// The rules, from 0. Behind them the tables are free: 256 places as before.
 fn enter_rules(card: &[u8], nodes: &mut [u16; 256], heads: &mut [u16; 256])
     requires { ⌜ Sound (now card) ⌝ }
     requires { ⌜ (length (now nodes) ≡ 256) × (length (now heads) ≡ 256) ⌝ }
@@ -63,7 +63,8 @@ fn enter_rules(card: &[u8], nodes: &mut [u16; 256], heads: &mut [u16; 256])
     }
 }
 
-// The tables of the card: the rules, then the lines. They stand for the job's scope.
+// The tables of the card: the rules, then the lines. They stand for the job's scope. Behind them the tables are free: 256 places as
+// before (`Entered`).
 pub fn enter(card: &[u8], nodes: &mut [u16; 256], heads: &mut [u16; 256])
     requires { ⌜ Sound (now card) ⌝ }
     requires { ⌜ (length (now nodes) ≡ 256) × (length (now heads) ≡ 256) ⌝ }

@@ -10,7 +10,7 @@ ghost use Prim.Native.Nat.{_≤_};
 ghost use lib.ListN.{length, take};
 ghost use Rattle.card.specs.Format.{stepLimit};
 ghost use Rattle.card.specs.Fault.{Sound};
-ghost use Rattle.search.specs.Found.{ListedSays};
+ghost use Rattle.search.specs.Inner.Found.{ListedSays};
 
 // Whether a list is that of a derivation within limits.
 pub enum Followed {
@@ -18,7 +18,7 @@ pub enum Followed {
     Unlisted,
 }
 
-// Follows the first k steps on the tape.
+// Follows the first k steps on the tape, which are kept; behind them it is free: 255 bytes as before, of any value.
 pub fn follows(card: &[u8], tape: &mut [u8; 255], k: usize) -> Followed
     requires { ⌜ Sound (now card) ⌝ }
     requires { ⌜ length (now tape) ≡ 255 ⌝ }

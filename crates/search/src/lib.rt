@@ -12,7 +12,7 @@ ghost use Prim.Native.Nat.{ℕ, _+_, _-_, _≤_, _<_};
 ghost use lib.ListN.{length};
 ghost use Rattle.card.specs.Format.{byteAt};
 ghost use Rattle.card.specs.Fault.{Sound};
-ghost use Rattle.search.specs.Found.{Finds, startB, strictOf};
+ghost use Rattle.search.specs.Inner.Found.{Finds, startB, strictOf};
 
 // The first list, as the first steps of the tape, or that there is none.
 pub enum Found {
@@ -66,7 +66,8 @@ fn past_last(tape: &[u8], a: usize) -> usize
     card::format::byte(tape, a - 1) + 1
 }
 
-// The first list, by walks that each begin behind the list that was last found dead.
+// The first list, by walks that each begin behind the list that was last found dead. The tape is free behind the list, and all of it
+// where there is none: it holds what walks left there, 255 bytes as before.
 pub fn first_list(card: &[u8], tape: &mut [u8; 255]) -> Found
     requires { ⌜ Sound (now card) ⌝ }
     requires { ⌜ length (now tape) ≡ 255 ⌝ }

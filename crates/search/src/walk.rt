@@ -13,9 +13,11 @@ ghost use Prim.Native.Nat.{_+_, _-_, _*_, _≤_, _<_};
 ghost use Rattle.card.specs.Format.{kindAt};
 ghost use lib.ListN.{length};
 ghost use lib.Dec.{leb};
-ghost use Rattle.search.specs.Walk.{seek as seekM};
-ghost use Rattle.search.specs.Told.{items, openedB, pastTensorB, pastWithB, lentB, deeperB, closedW, coveredW, andThenW, besideW, behindW, withoutW};
-ghost use Rattle.search.specs.Told.{Ready, GoalReady, ClauseReady, Walks, goalWalk, clauseWalk, useWalk, usableAt, entryOf, choiceOf, pick, CanUse, Chose};
+ghost use Rattle.search.specs.Inner.Walk.{seek as seekM};
+ghost use Rattle.search.specs.Inner.Values.{items, openedB, pastTensorB, pastWithB, lentB, deeperB, closedW, coveredW, andThenW};
+ghost use Rattle.search.specs.Inner.Values.{besideW, behindW, withoutW};
+ghost use Rattle.search.specs.Inner.Values.{Ready, GoalReady, ClauseReady, Walks, goalWalk, clauseWalk, useWalk, usableAt, soughtOf};
+ghost use Rattle.search.specs.Inner.Values.{choiceOf, pick, CanUse, Chose};
 
 // What stays the same during a walk.
 pub struct Given {
@@ -58,7 +60,7 @@ pub enum Choice {
 }
 
 // The least usable entry.
-pub enum Entry {
+pub enum Sought {
     At(usize),
     Nothing,
 }
@@ -318,21 +320,22 @@ fn seek(
     b: Branch,
     name: usize,
     from: usize,
-) -> Entry
+) -> Sought
     requires { ⌜ Ready (now card) (now twins) (now tape) (now nodes) (now heads) g b ⌝ }
     requires { ⌜ name ≤ 999 ⌝ }
-    ensures { λ r. ⌜ r ≡ entryOf (seekM (usableAt (now (card .entry)) (now (twins .entry)) (now (tape .entry)) (now (nodes .entry)) g name b) from (b .count - from)) ⌝ }
+    ensures { λ r. ⌜ r ≡ soughtOf (seekM (usableAt (now (card .entry)) (now (twins .entry)) (now (tape .entry))
+        (now (nodes .entry)) g name b) from (b .count - from)) ⌝ }
 {
     let count = b.count;
     let mut e = from;
     while e < count {
         let good = usable(card, twins, tape, nodes, heads, g, b, name, e);
         if good {
-            return Entry::At(e);
+            return Sought::At(e);
         }
         e += 1;
     }
-    Entry::Nothing
+    Sought::Nothing
 }
 
 // The least entry to be taken at a place past the given steps.
@@ -355,7 +358,8 @@ fn given_step(
 ) -> Choice
     requires { ⌜ Ready (now card) (now twins) (now tape) (now nodes) (now heads) g b ⌝ }
     requires { ⌜ (name ≤ 999) × ((1 ≤ b .depth) × ((b .at < g .limit) × (b .at < g .fixed))) ⌝ }
-    ensures { λ r. ⌜ choiceOf (b .at) (now (tape .entry)) r ≡ pick (now (card .entry)) (now (twins .entry)) (now (tape .entry)) (now (nodes .entry)) g name b ⌝ }
+    ensures { λ r. ⌜ choiceOf (b .at) (now (tape .entry)) r ≡ pick (now (card .entry)) (now (twins .entry)) (now (tape .entry))
+        (now (nodes .entry)) g name b ⌝ }
     ensures { λ r. ⌜ Chose (now (card .entry)) (now (twins .entry)) (now (tape .entry)) (now (nodes .entry)) g name b r ⌝ }
 {
     let at = b.at;
@@ -380,7 +384,8 @@ fn choose(
 ) -> Choice
     requires { ⌜ Ready (now card) (now twins) (now tape) (now nodes) (now heads) g b ⌝ }
     requires { ⌜ name ≤ 999 ⌝ }
-    ensures { λ r. ⌜ choiceOf (b .at) (now (tape .entry)) r ≡ pick (now (card .entry)) (now (twins .entry)) (now (tape .entry)) (now (nodes .entry)) g name b ⌝ }
+    ensures { λ r. ⌜ choiceOf (b .at) (now (tape .entry)) r ≡ pick (now (card .entry)) (now (twins .entry)) (now (tape .entry))
+        (now (nodes .entry)) g name b ⌝ }
     ensures { λ r. ⌜ Chose (now (card .entry)) (now (twins .entry)) (now (tape .entry)) (now (nodes .entry)) g name b r ⌝ }
 {
     let at = b.at;
@@ -395,7 +400,7 @@ fn choose(
     }
     let from = floor(g, at);
     let found = seek(card, twins, tape, nodes, heads, g, b, name, from);
-    let Entry::At(e) = found else {
+    let Sought::At(e) = found else {
         return Choice::Dead(at);
     };
     Choice::Taken(e)
@@ -414,7 +419,8 @@ pub fn solve(
 ) -> Walked
     requires { ⌜ Ready (now card) (now twins) (now tape) (now nodes) (now heads) g b ⌝ }
     requires { ⌜ GoalReady (now card) g node b ⌝ }
-    ensures { λ r. ⌜ Walks g b (now (tape .entry)) (now (tape .exit)) (now (nodes .entry)) (now (nodes .exit)) (now (heads .entry)) (now (heads .exit)) (goalWalk (now (card .entry)) (now (twins .entry)) (now (tape .entry)) (now (nodes .entry)) g node b) r ⌝ }
+    ensures { λ r. ⌜ Walks g b (now (tape .entry)) (now (tape .exit)) (now (nodes .entry)) (now (nodes .exit)) (now (heads .entry))
+        (now (heads .exit)) (goalWalk (now (card .entry)) (now (twins .entry)) (now (tape .entry)) (now (nodes .entry)) g node b) r ⌝ }
 {
     let k = kind(card, node);
     match k {
@@ -441,7 +447,8 @@ fn solve_tensor(
     requires { ⌜ Ready (now card) (now twins) (now tape) (now nodes) (now heads) g b ⌝ }
     requires { ⌜ GoalReady (now card) g node b ⌝ }
     requires { ⌜ kindAt (now card) node ≡ 4 ⌝ }
-    ensures { λ r. ⌜ Walks g b (now (tape .entry)) (now (tape .exit)) (now (nodes .entry)) (now (nodes .exit)) (now (heads .entry)) (now (heads .exit)) (goalWalk (now (card .entry)) (now (twins .entry)) (now (tape .entry)) (now (nodes .entry)) g node b) r ⌝ }
+    ensures { λ r. ⌜ Walks g b (now (tape .entry)) (now (tape .exit)) (now (nodes .entry)) (now (nodes .exit)) (now (heads .entry))
+        (now (heads .exit)) (goalWalk (now (card .entry)) (now (twins .entry)) (now (tape .entry)) (now (nodes .entry)) g node b) r ⌝ }
 {
     let l = left(card, node);
     let first = solve(card, twins, tape, nodes, heads, g, l, b.opened());
@@ -470,7 +477,8 @@ fn solve_with(
     requires { ⌜ Ready (now card) (now twins) (now tape) (now nodes) (now heads) g b ⌝ }
     requires { ⌜ GoalReady (now card) g node b ⌝ }
     requires { ⌜ kindAt (now card) node ≡ 5 ⌝ }
-    ensures { λ r. ⌜ Walks g b (now (tape .entry)) (now (tape .exit)) (now (nodes .entry)) (now (nodes .exit)) (now (heads .entry)) (now (heads .exit)) (goalWalk (now (card .entry)) (now (twins .entry)) (now (tape .entry)) (now (nodes .entry)) g node b) r ⌝ }
+    ensures { λ r. ⌜ Walks g b (now (tape .entry)) (now (tape .exit)) (now (nodes .entry)) (now (nodes .exit)) (now (heads .entry))
+        (now (heads .exit)) (goalWalk (now (card .entry)) (now (twins .entry)) (now (tape .entry)) (now (nodes .entry)) g node b) r ⌝ }
 {
     let l = left(card, node);
     let first = solve(card, twins, tape, nodes, heads, g, l, b);
@@ -499,7 +507,8 @@ fn solve_lend(
     requires { ⌜ Ready (now card) (now twins) (now tape) (now nodes) (now heads) g b ⌝ }
     requires { ⌜ GoalReady (now card) g node b ⌝ }
     requires { ⌜ kindAt (now card) node ≡ 6 ⌝ }
-    ensures { λ r. ⌜ Walks g b (now (tape .entry)) (now (tape .exit)) (now (nodes .entry)) (now (nodes .exit)) (now (heads .entry)) (now (heads .exit)) (goalWalk (now (card .entry)) (now (twins .entry)) (now (tape .entry)) (now (nodes .entry)) g node b) r ⌝ }
+    ensures { λ r. ⌜ Walks g b (now (tape .entry)) (now (tape .exit)) (now (nodes .entry)) (now (nodes .exit)) (now (heads .entry))
+        (now (heads .exit)) (goalWalk (now (card .entry)) (now (twins .entry)) (now (tape .entry)) (now (nodes .entry)) g node b) r ⌝ }
 {
     let n = b.count;
     entries::put(card, nodes, heads, n, left(card, node));
@@ -526,7 +535,8 @@ fn solve_atom(
     requires { ⌜ Ready (now card) (now twins) (now tape) (now nodes) (now heads) g b ⌝ }
     requires { ⌜ GoalReady (now card) g node b ⌝ }
     requires { ⌜ kindAt (now card) node ≡ 1 ⌝ }
-    ensures { λ r. ⌜ Walks g b (now (tape .entry)) (now (tape .exit)) (now (nodes .entry)) (now (nodes .exit)) (now (heads .entry)) (now (heads .exit)) (goalWalk (now (card .entry)) (now (twins .entry)) (now (tape .entry)) (now (nodes .entry)) g node b) r ⌝ }
+    ensures { λ r. ⌜ Walks g b (now (tape .entry)) (now (tape .exit)) (now (nodes .entry)) (now (nodes .exit)) (now (heads .entry))
+        (now (heads .exit)) (goalWalk (now (card .entry)) (now (twins .entry)) (now (tape .entry)) (now (nodes .entry)) g node b) r ⌝ }
 {
     let name = left(card, node);
     let choice = choose(card, twins, tape, nodes, heads, g, b, name);
@@ -551,7 +561,8 @@ fn use_clause(
     requires { ⌜ Ready (now card) (now twins) (now tape) (now nodes) (now heads) g b ⌝ }
     requires { ⌜ CanUse (now card) (now twins) (now tape) (now nodes) g name b e ⌝ }
     requires { ⌜ b .count + 1 + 6 * b .depth ≤ g .rules + 168 ⌝ }
-    ensures { λ r. ⌜ Walks g b (now (tape .entry)) (now (tape .exit)) (now (nodes .entry)) (now (nodes .exit)) (now (heads .entry)) (now (heads .exit)) (useWalk (now (card .entry)) (now (twins .entry)) (now (tape .entry)) (now (nodes .entry)) g name e b) r ⌝ }
+    ensures { λ r. ⌜ Walks g b (now (tape .entry)) (now (tape .exit)) (now (nodes .entry)) (now (nodes .exit)) (now (heads .entry))
+        (now (heads .exit)) (useWalk (now (card .entry)) (now (twins .entry)) (now (tape .entry)) (now (nodes .entry)) g name e b) r ⌝ }
 {
     let at = b.at;
     tape[at] = e as u8;
@@ -587,7 +598,8 @@ fn conditions(
 ) -> Walked
     requires { ⌜ Ready (now card) (now twins) (now tape) (now nodes) (now heads) g b ⌝ }
     requires { ⌜ ClauseReady (now card) g name node b ⌝ }
-    ensures { λ r. ⌜ Walks g b (now (tape .entry)) (now (tape .exit)) (now (nodes .entry)) (now (nodes .exit)) (now (heads .entry)) (now (heads .exit)) (clauseWalk (now (card .entry)) (now (twins .entry)) (now (tape .entry)) (now (nodes .entry)) g name node b) r ⌝ }
+    ensures { λ r. ⌜ Walks g b (now (tape .entry)) (now (tape .exit)) (now (nodes .entry)) (now (nodes .exit)) (now (heads .entry))
+        (now (heads .exit)) (clauseWalk (now (card .entry)) (now (twins .entry)) (now (tape .entry)) (now (nodes .entry)) g name node b) r ⌝ }
 {
     let k = kind(card, node);
     if k != 7 {

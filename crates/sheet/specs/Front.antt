@@ -1,6 +1,5 @@
 -- Refusal 12 (01, "Refused, and where"), and the parts of a sheet.
-use Prim.Native.Nat.{ℕ, _+_, _≤_}
-use mathlib.Core.Path.{_≡_}
+use Prim.Native.Nat.{ℕ, _+_}
 use mathlib.Core.Bool.{Bool, not, _&&_}
 use mathlib.Core.List.{List}
 use lib.ListN.{length, take, drop}
@@ -32,12 +31,3 @@ sheetFits bs sh =
 
 unfoldable pub sheetFault : List ℕ → List ℕ → Verdict
 sheetFault bs sh = refuse (not (sheetFits bs sh)) 12 sheet
-
--- what later checks may ask of a sheet that fits
-pub record Fitting (bs sh : List ℕ) : Type 0 where
-  pub front : 5 ≤ length sh
-  pub whole : lengthField sh ≡ length sh
-  pub first : version sh ≡ 1
-  pub lines : markCount sh ≡ lineCount bs
-  pub long : 5 + stepCount sh + markCount sh ≡ length sh
-  pub counted : stepCount sh ≤ stepLimit bs

@@ -1,10 +1,10 @@
 // The sheet (01, "The sheet"): a step list with the card's marks, as bytes.
 use card::Checked;
 use card::Place;
-use card::Refusal;
 use card::format::byte;
 use card::format::line_byte;
 use card::format::word as number;
+use card::refuse;
 ghost use mathlib.Core.Path.{_≡_};
 ghost use mathlib.Core.List.{_∷_, _++_};
 ghost use Prim.Native.Nat.{_+_, _≤_, _<_};
@@ -12,7 +12,7 @@ ghost use lib.ListN.{length, take, drop};
 ghost use Rattle.calculus.specs.Steps.{stands};
 ghost use Rattle.card.specs.Format.{lineCount};
 ghost use Rattle.card.specs.Verdict.{told, firstOf};
-ghost use Rattle.card.specs.Fault.{Framed};
+ghost use Rattle.card.specs.Inner.Checks.{Framed};
 ghost use Rattle.card.specs.Sheet.{markOf, marksOf, word, sheetOf};
 ghost use Rattle.sheet.specs.Front.{sheetFits, sheetFault};
 ghost use Rattle.sheet.specs.Marks.{markFault};
@@ -62,7 +62,7 @@ fn write_front(k: usize, t: usize, sheet: &mut [u8])
     ensures { λ _. ⌜ now (sheet .exit) ≡ word (5 + k + t) ++ (1 ∷ k ∷ t ∷ drop 5 (now (sheet .entry))) ⌝ }
 {
     let long = 5 + k + t;
-    sheet[0] = (long / 256 % 256) as u8;
+    sheet[0] = (long / 256) as u8;
     sheet[1] = (long % 256) as u8;
     sheet[2] = 1;
     sheet[3] = k as u8;
@@ -89,7 +89,8 @@ fn write_marks(card: &[u8], steps: &[u8; 255], k: usize, marks: &mut [u8])
     requires { ⌜ length (now steps) ≡ 255 ⌝ }
     requires { ⌜ k ≤ 255 ⌝ }
     requires { ⌜ lineCount (now card) ≤ length (now marks) ⌝ }
-    ensures { λ _. ⌜ now (marks .exit) ≡ marksOf (now (card .entry)) (take k (now (steps .entry))) ++ drop (lineCount (now (card .entry))) (now (marks .entry)) ⌝ }
+    ensures { λ _. ⌜ now (marks .exit)
+        ≡ marksOf (now (card .entry)) (take k (now (steps .entry))) ++ drop (lineCount (now (card .entry))) (now (marks .entry)) ⌝ }
 {
     let t = byte(card, 4);
     let mut i = 0;
@@ -105,7 +106,8 @@ pub fn write(card: &[u8], steps: &[u8; 255], k: usize, sheet: &mut [u8])
     requires { ⌜ length (now steps) ≡ 255 ⌝ }
     requires { ⌜ k ≤ 255 ⌝ }
     requires { ⌜ 5 + k + lineCount (now card) ≤ length (now sheet) ⌝ }
-    ensures { λ _. ⌜ now (sheet .exit) ≡ sheetOf (now (card .entry)) (take k (now (steps .entry))) ++ drop (5 + k + lineCount (now (card .entry))) (now (sheet .entry)) ⌝ }
+    ensures { λ _. ⌜ now (sheet .exit)
+        ≡ sheetOf (now (card .entry)) (take k (now (steps .entry))) ++ drop (5 + k + lineCount (now (card .entry))) (now (sheet .entry)) ⌝ }
 {
     let t = byte(card, 4);
     write_front(k, t, sheet);
@@ -147,18 +149,29 @@ fn fits(card: &[u8], sheet: &[u8]) -> bool
     true
 }
 
-// 12.
+// 12: the sheet's front.
 pub fn front_check(card: &[u8], sheet: &[u8]) -> Checked
     requires { ⌜ Framed (now card) ⌝ }
     ensures { λ r. ⌜ told r ≡ sheetFault (now (card .entry)) (now (sheet .entry)) ⌝ }
 {
-    if fits(card, sheet) {
-        return Checked::Sound;
-    }
-    Checked::Refused(Refusal {
-        number: 12,
-        place: Place::Sheet,
-    })
+    let front = refuse(!fits(card, sheet), 12, Place::Sheet);
+    let Checked::Sound = front else {
+        return front;
+    };
+    Checked::Sound
+}
+
+// 14 at mark i: it is not the true one.
+fn mark_check(card: &[u8], steps: &[u8; 255], k: usize, marks: &[u8], i: usize) -> Checked
+    requires { ⌜ Framed (now card) ⌝ }
+    requires { ⌜ length (now steps) ≡ 255 ⌝ }
+    requires { ⌜ k ≤ 255 ⌝ }
+    requires { ⌜ i < lineCount (now card) ⌝ }
+    requires { ⌜ i < length (now marks) ⌝ }
+    ensures { λ r. ⌜ told r ≡ markFault (now (card .entry)) (take k (now (steps .entry))) (now (marks .entry)) i ⌝ }
+{
+    let asked = mark(card, steps, k, i);
+    refuse(marks[i] != asked, 14, Place::Mark(i as u16))
 }
 
 // 14, by rising index.
@@ -167,19 +180,16 @@ pub fn marks_check(card: &[u8], steps: &[u8; 255], k: usize, marks: &[u8]) -> Ch
     requires { ⌜ length (now steps) ≡ 255 ⌝ }
     requires { ⌜ k ≤ 255 ⌝ }
     requires { ⌜ lineCount (now card) ≤ length (now marks) ⌝ }
-    ensures { λ r. ⌜ told r ≡ firstOf (lineCount (now (card .entry))) (markFault (now (card .entry)) (take k (now (steps .entry))) (now (marks .entry))) ⌝ }
+    ensures { λ r. ⌜ told r
+        ≡ firstOf (lineCount (now (card .entry))) (markFault (now (card .entry)) (take k (now (steps .entry))) (now (marks .entry))) ⌝ }
 {
     let t = byte(card, 4);
     let mut i = 0;
     while i < t {
-        let given = marks[i];
-        let asked = mark(card, steps, k, i);
-        if given != asked {
-            return Checked::Refused(Refusal {
-                number: 14,
-                place: Place::Mark(i as u16),
-            });
-        }
+        let mark = mark_check(card, steps, k, marks, i);
+        let Checked::Sound = mark else {
+            return mark;
+        };
         i += 1;
     }
     Checked::Sound

@@ -1,85 +1,114 @@
-use Rattle.card.proofs.Stages.{refused, passed, stage-1, stage-2, stage-3, stage-4, stage-5}
-use Rattle.card.proofs.Fronts.{framed}
-use Rattle.card.specs.Verdict.{told}
-use mathlib.Core.Path.{_≡_, sym, _∙_}
+-- `check` meets its contract: each check that has passed leaves those after it.
+use Prim.Native.Nat.{ℕ}
+use mathlib.Core.Path.{_≡_, sym}
+use mathlib.Core.List.{List}
 use borrow.Author.Needs.{needs}
+use Rattle.card.specs.Verdict.{Verdict, told}
+use Rattle.card.specs.Fault.{firstFault}
+use Rattle.card.specs.Inner.Checks.{Framed}
+use Rattle.card.proofs.FrontChecked.{framed}
+use Rattle.card.proofs.CardChecked.{refused, passed, onward, nodes-left, goal-left, rules-left, lines-left}
 use Rattle.card.proofs.check.Statement.{statement}
 use Rattle.card.proofs.check.Tie as tie
-use Rattle.card.proofs.check.Reads as reads
-use Rattle.card.proofs.check.Lts as lts
-use Rattle.card.proofs.checks.front_check.Reads as front-check-reads
-use Rattle.card.proofs.checks.goal_check.Reads as goal-check-reads
-use Rattle.card.proofs.checks.lines_check.Reads as lines-check-reads
-use Rattle.card.proofs.checks.nodes_check.Reads as nodes-check-reads
-use Rattle.card.proofs.checks.rules_check.Reads as rules-check-reads
 
--- src/lib.rt:36:9
+-- the card, where the front has passed, then the nodes, the goal and the rules
+abbrev bs-1 : tie.After-enum-told → List ℕ
+bs-1 c = c .before .before .before .before .args .card .now
+
+abbrev bs-2 : tie.After-enum-told3 → List ℕ
+bs-2 c = bs-1 (c .before .before .before)
+
+abbrev bs-3 : tie.After-enum-told5 → List ℕ
+bs-3 c = bs-2 (c .before .before .before)
+
+abbrev bs-4 : tie.After-enum-told7 → List ℕ
+bs-4 c = bs-3 (c .before .before .before)
+
+-- what the later checks ask of the card
+front : (c : tie.After-enum-told) → Framed (bs-1 c)
+front c = framed _ (passed _ _ (c .enum-told .given .1) (c .before .before .front-check .ensures))
+
+-- a check that has passed leaves those after it
+after-1 : (c : tie.After-enum-told) {w : Verdict} → w ≡ nodes-left (bs-1 c) → w ≡ firstFault (bs-1 c)
+unfolding firstFault
+after-1 c q = onward (passed _ _ (c .enum-told .given .1) (c .before .before .front-check .ensures)) q
+
+after-2 : (c : tie.After-enum-told3) {w : Verdict} → w ≡ goal-left (bs-2 c) → w ≡ firstFault (bs-2 c)
+after-2 c q =
+    after-1 (c .before .before .before) (onward (passed _ _ (c .enum-told3 .given .1) (c .before .before .nodes-check .ensures)) q)
+
+after-3 : (c : tie.After-enum-told5) {w : Verdict} → w ≡ rules-left (bs-3 c) → w ≡ firstFault (bs-3 c)
+after-3 c q =
+    after-2 (c .before .before .before) (onward (passed _ _ (c .enum-told5 .given .1) (c .before .before .goal-check .ensures)) q)
+
+after-4 : (c : tie.After-enum-told7) {w : Verdict} → w ≡ lines-left (bs-4 c) → w ≡ firstFault (bs-4 c)
+after-4 c q =
+    after-3 (c .before .before .before) (onward (passed _ _ (c .enum-told7 .given .1) (c .before .before .rules-check .ensures)) q)
+
 front-check-requires : tie.Need-front-check-requires
 front-check-requires c κs = search needs
 
 enum-told : tie.Need-enum-told
 enum-told c = search needs
 
--- src/lib.rt:38:9
 enum-told-2 : tie.Need-enum-told-2
 enum-told-2 c = search needs
 
--- src/lib.rt:38:9
 returns : tie.Need-returns
-returns c = refused _ _ _ _ (c .enum-told2 .given .1) (c .before .before .front-check .ensures) ∙ sym (stage-1 _)
+unfolding firstFault
+returns c = refused _ (c .enum-told2 .given .1) (c .before .before .front-check .ensures)
 
--- src/lib.rt:40:9
 nodes-check-requires : tie.Need-nodes-check-requires
-nodes-check-requires c κs = framed _ (passed _ _ (c .enum-told .given .1) (c .before .before .front-check .ensures))
+nodes-check-requires c κs = front c
 
 enum-told-3 : tie.Need-enum-told-3
 enum-told-3 c = search needs
 
--- src/lib.rt:42:9
 enum-told-4 : tie.Need-enum-told-4
 enum-told-4 c = search needs
 
--- src/lib.rt:42:9
 returns-2 : tie.Need-returns-2
-returns-2 c = refused _ _ _ _ (c .enum-told4 .given .1) (c .before .before .nodes-check .ensures) ∙ sym (stage-2 _ (passed _ _ (c .before .before .before .enum-told .given .1) (c .before .before .before .before .before .front-check .ensures)))
+returns-2 c = after-1 (c .before .before .before) (refused _ (c .enum-told4 .given .1) (c .before .before .nodes-check .ensures))
 
--- src/lib.rt:44:9
 goal-check-requires : tie.Need-goal-check-requires
-goal-check-requires c κs = framed _ (passed _ _ (c .before .before .before .enum-told .given .1) (c .before .before .before .before .before .front-check .ensures))
+goal-check-requires c κs = front (c .before .before .before)
 
 enum-told-5 : tie.Need-enum-told-5
 enum-told-5 c = search needs
 
--- src/lib.rt:46:9
 enum-told-6 : tie.Need-enum-told-6
 enum-told-6 c = search needs
 
--- src/lib.rt:46:9
 returns-3 : tie.Need-returns-3
-returns-3 c = refused _ _ _ _ (c .enum-told6 .given .1) (c .before .before .goal-check .ensures) ∙ sym (stage-3 _ (passed _ _ (c .before .before .before .before .before .before .enum-told .given .1) (c .before .before .before .before .before .before .before .before .front-check .ensures)) (passed _ _ (c .before .before .before .enum-told3 .given .1) (c .before .before .before .before .before .nodes-check .ensures)))
+returns-3 c = after-2 (c .before .before .before) (refused _ (c .enum-told6 .given .1) (c .before .before .goal-check .ensures))
 
--- src/lib.rt:48:9
 rules-check-requires : tie.Need-rules-check-requires
-rules-check-requires c κs = framed _ (passed _ _ (c .before .before .before .before .before .before .enum-told .given .1) (c .before .before .before .before .before .before .before .before .front-check .ensures))
+rules-check-requires c κs = front (c .before .before .before .before .before .before)
 
 enum-told-7 : tie.Need-enum-told-7
 enum-told-7 c = search needs
 
--- src/lib.rt:50:9
 enum-told-8 : tie.Need-enum-told-8
 enum-told-8 c = search needs
 
--- src/lib.rt:50:9
 returns-4 : tie.Need-returns-4
-returns-4 c = refused _ _ _ _ (c .enum-told8 .given .1) (c .before .before .rules-check .ensures) ∙ sym (stage-4 _ (passed _ _ (c .before .before .before .before .before .before .before .before .before .enum-told .given .1) (c .before .before .before .before .before .before .before .before .before .before .before .front-check .ensures)) (passed _ _ (c .before .before .before .before .before .before .enum-told3 .given .1) (c .before .before .before .before .before .before .before .before .nodes-check .ensures)) (passed _ _ (c .before .before .before .enum-told5 .given .1) (c .before .before .before .before .before .goal-check .ensures)))
+returns-4 c = after-3 (c .before .before .before) (refused _ (c .enum-told8 .given .1) (c .before .before .rules-check .ensures))
 
--- src/lib.rt:52:5
 lines-check-requires : tie.Need-lines-check-requires
-lines-check-requires c κs = framed _ (passed _ _ (c .before .before .before .before .before .before .before .before .before .enum-told .given .1) (c .before .before .before .before .before .before .before .before .before .before .before .front-check .ensures))
+lines-check-requires c κs = front (c .before .before .before .before .before .before .before .before .before)
 
--- src/lib.rt:33:1
+enum-told-9 : tie.Need-enum-told-9
+enum-told-9 c = search needs
+
+enum-told-10 : tie.Need-enum-told-10
+enum-told-10 c = search needs
+
 returns-5 : tie.Need-returns-5
-returns-5 c = c .lines-check .ensures ∙ sym (stage-5 _ (passed _ _ (c .before .before .before .before .before .before .before .before .before .before .enum-told .given .1) (c .before .before .before .before .before .before .before .before .before .before .before .before .front-check .ensures)) (passed _ _ (c .before .before .before .before .before .before .before .enum-told3 .given .1) (c .before .before .before .before .before .before .before .before .before .nodes-check .ensures)) (passed _ _ (c .before .before .before .before .enum-told5 .given .1) (c .before .before .before .before .before .before .goal-check .ensures)) (passed _ _ (c .before .enum-told7 .given .1) (c .before .before .before .rules-check .ensures)))
+returns-5 c = after-4 (c .before .before .before) (c .before .before .lines-check .ensures)
+
+returns-6 : tie.Need-returns-6
+unfolding told
+returns-6 c = after-4 (c .before .before .before) (sym (passed _ _ (c .enum-told9 .given .1) (c .before .before .lines-check .ensures)))
 
 pub check-spec : {M : Type 1} → statement M
 check-spec =
@@ -102,4 +131,7 @@ check-spec =
     enum-told-8
     returns-4
     lines-check-requires
-    returns-5)
+    enum-told-9
+    enum-told-10
+    returns-5
+    returns-6)

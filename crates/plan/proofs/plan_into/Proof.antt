@@ -2,23 +2,23 @@ use Prim.Native.Nat.{_+_, _≤_}
 use lib.ListN.{length, getD}
 use native.Mathlib.Omega.{arith}
 use borrow.Author.Needs.{needs}
-use Rattle.planner.proofs.Demands.{planned-room}
+use Rattle.planner.proofs.PlannedExactly.{planned-room}
 use Rattle.plan.proofs.plan_into.Statement.{statement}
 use Rattle.plan.proofs.plan_into.Tie as tie
 
-plan-requires : tie.Need-plan-requires
-plan-requires c κs = search needs
+plan-with-room-requires : tie.Need-plan-with-room-requires
+plan-with-room-requires c κs = search needs
 
 enum-known-answer : tie.Need-enum-known-answer
 enum-known-answer c = search needs
 
 -- the sheet lies within the buffer
 fits : (c : tie.After-known-told)
-    → 5 + c .before .answer .given .0 .0 + getD (c .before .before .before .before .before .plan .last .1 .0) 4 0
-    ≤ length (c .before .before .before .before .before .plan .last .1 .0)
+    → 5 + c .before .answer .given .0 .0 + getD (c .before .before .before .before .before .plan-with-room .last .1 .0) 4 0
+    ≤ length (c .before .before .before .before .before .plan-with-room .last .1 .0)
 fits c =
-    let called = c .before .before .before .before .before .plan in
-    let h = planned-room _ _ _ _ _ (c .before .answer .given .1) (called .ensures) in
+    let called = c .before .before .before .before .before .plan-with-room in
+    let h = planned-room _ _ _ _ _ (c .before .answer .given .1) (called .ensures .0) in
     omega (arith, called .kept .1 .0)
 
 byte-requires : tie.Need-byte-requires
@@ -58,7 +58,7 @@ pub plan-into-spec : {M : Type 1} → statement M
 plan-into-spec =
     tie.close
     (tie.spec
-    plan-requires
+    plan-with-room-requires
     enum-known-answer
     byte-requires
     cast-print-sheet

@@ -3,10 +3,10 @@ use lib.ListN.{length}
 use native.Mathlib.Omega.{arith}
 use borrow.Author.Needs.{needs}
 use Rattle.card.specs.Verdict.{whereOf}
-use Rattle.card.proofs.Stages.{sound-front}
-use Rattle.search.specs.Found.{FirstOn}
+use Rattle.card.proofs.CardChecked.{sound-front}
+use Rattle.search.specs.Inner.Found.{FirstOn}
 use Rattle.planner.specs.Plan.{toldPlan, roomOf, short, underivable}
-use Rattle.planner.proofs.Outcomes.{room-enough, room-short, list-found, none-found, within, found-plan}
+use Rattle.planner.proofs.PlannerExits.{room-enough, room-short, list-found, none-found, within, found-plan}
 use Rattle.planner.proofs.plan_sound.Statement.{statement}
 use Rattle.planner.proofs.plan_sound.Tie as tie
 
@@ -39,7 +39,8 @@ unfolding toldPlan whereOf
 returns-2 c =
     let start = c .before .before .before .before .before .before .before .before .before in
     underivable (start .pre)
-    (room-enough _ (c .before .before .before .before .enum-told .given .1) (c .before .before .before .before .before .before .room-for .ensures))
+    (room-enough _ (c .before .before .before .before .enum-told .given .1)
+    (c .before .before .before .before .before .before .room-for .ensures))
     (none-found _ _ (c .enum-told3 .given .1) (c .before .before .first-list .ensures .0))
 
 -- the function's entry, the list found, and that the buffer has room for its sheet

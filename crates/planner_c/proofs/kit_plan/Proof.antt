@@ -1,7 +1,14 @@
+-- `kit_plan` meets its contract: each case of the answer is told as a number that reads as it.
+use native.Mathlib.Omega.{arith}
 use borrow.Author.Needs.{needs}
-use Rattle.planner_c.proofs.Packs.{tells-planned, tells-refused}
+use Rattle.card.specs.Format.{Bytes}
+use Rattle.planner_c.proofs.NumbersReadBack.{tells-planned, tells-refused}
 use Rattle.planner_c.proofs.kit_plan.Statement.{statement}
 use Rattle.planner_c.proofs.kit_plan.Tie as tie
+
+-- every byte of the lent card
+lent : (m : tie.After-plan) → Bytes (m .before .before .before .before .args .card .now)
+lent m = record { byte = λ i. omega (arith, m .before .before .before .shared-slice-known .given i) }
 
 plan-requires : tie.Need-plan-requires
 plan-requires c κs = search needs
@@ -25,13 +32,17 @@ same-length : tie.Need-same-length
 same-length c = search needs
 
 returns : tie.Need-returns
-returns c = tells-planned _ (c .before .before .before .before .before .before .plan .ensures) (c .before .before .answer .given .1) (c .packed .ensures)
+returns c =
+    let m = c .before .before .before .before .before .before in
+    tells-planned (lent m) _ (m .plan .ensures) (c .before .before .answer .given .1) (c .packed .ensures)
 
 same-length-2 : tie.Need-same-length-2
 same-length-2 c = search needs
 
 returns-2 : tie.Need-returns-2
-returns-2 c = tells-refused _ (c .before .before .before .before .before .before .plan .ensures) (c .before .before .answer2 .given .1) (c .packed-refusal .ensures)
+returns-2 c =
+    let m = c .before .before .before .before .before .before in
+    tells-refused (lent m) _ (m .plan .ensures) (c .before .before .answer2 .given .1) (c .packed-refusal .ensures)
 
 pub kit-plan-spec : {M : Type 1} → statement M
 kit-plan-spec =

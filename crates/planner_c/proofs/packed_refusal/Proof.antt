@@ -1,7 +1,7 @@
 use borrow.Author.Needs.{needs}
 use Rattle.card.specs.Verdict.{whereOf}
-use Rattle.planner_c.specs.Pack.{placeNumber, placeIndex}
-use Rattle.planner_c.proofs.Packs.{packs}
+use Rattle.planner_c.specs.Inner.Pack.{placeNumber, placeIndex}
+use Rattle.planner_c.proofs.NumbersReadBack.{packs}
 use Rattle.planner_c.proofs.packed_refusal.Statement.{statement}
 use Rattle.planner_c.proofs.packed_refusal.Tie as tie
 

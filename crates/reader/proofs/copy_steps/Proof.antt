@@ -5,7 +5,7 @@ use native.Mathlib.Numerals.{add-one}
 use mathlib.Core.Path.{_≡_, refl}
 use lib.ListN.{length, take, drop, length-set}
 use borrow.Author.Needs.{needs}
-use Rattle.reader.proofs.Outcomes.{copied}
+use Rattle.reader.proofs.ReaderExits.{copied}
 use Rattle.reader.proofs.copy_steps.Statement.{statement}
 use Rattle.reader.proofs.copy_steps.Tie as tie
 
@@ -36,8 +36,12 @@ loop-less c = search needs
 loop-again : tie.Need-loop-again Inv-loop μ-loop
 loop-again c =
     let s = c .before .before .before .args in
-    let h = c .before .before .loop in
-    (search needs, simp length-set (h .inv .1), rw add-one (copied (h .tape) (s .sheet .now) (h .i) (omega arith) (omega arith) (h .inv .2)))
+    let h = c .before .before .loop in (
+      search needs,
+      simp length-set (h .inv .1),
+      rw add-one
+          (copied (h .tape) (s .sheet .now) (h .i) (omega arith) (omega arith) (h .inv .2)),
+    )
 
 returns : tie.Need-returns Inv-loop μ-loop
 returns c =

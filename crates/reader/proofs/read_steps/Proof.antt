@@ -2,11 +2,14 @@
 use native.Mathlib.Omega.{arith}
 use mathlib.Core.Path.{refl}
 use borrow.Author.Needs.{needs}
+use Rattle.calculus.specs.Job.{Listed}
 use Rattle.card.specs.Verdict.{whereOf}
-use Rattle.card.proofs.Stages.{sound-front}
-use Rattle.sheet.proofs.Fronts.{fitting}
+use Rattle.card.specs.Decode.{jobOf}
+use Rattle.card.proofs.CardChecked.{sound-front}
+use Rattle.sheet.specs.Front.{stepsOf}
+use Rattle.sheet.proofs.SheetFits.{fitting}
 use Rattle.reader.specs.Read.{toldRead}
-use Rattle.reader.proofs.Outcomes.{Copied, marks-room, found-list, found-no-list, found-mark, found-right}
+use Rattle.reader.proofs.ReaderExits.{Copied, marks-room, found-list, found-no-list, found-mark, found-right}
 use Rattle.reader.proofs.read_steps.Statement.{statement}
 use Rattle.reader.proofs.read_steps.Tie as tie
 
@@ -24,7 +27,8 @@ abbrev start : (c : tie.After-tape2) → tie.Start
 start c = c .before .before .before .before .before .before
 
 steps : (c : tie.After-tape2)
-    → Copied (start c .args .card .now) (start c .args .sheet .now) (c .before .before .before .byte .result) (c .before .copy-steps .last .1 .1 .0)
+    → Copied (start c .args .card .now) (start c .args .sheet .now) (c .before .before .before .byte .result)
+    (c .before .copy-steps .last .1 .1 .0)
 steps c = record {
   card = start c .pre .0;
   fits = start c .pre .1;
@@ -79,28 +83,38 @@ marks-check-requires c κs =
       ),
     )
 
-enum-known-refusal : tie.Need-enum-known-refusal
-enum-known-refusal c = search needs
-
 enum-told-3 : tie.Need-enum-told-3
 enum-told-3 c = search needs
+
+enum-told-4 : tie.Need-enum-told-4
+enum-told-4 c = search needs
+
+answered-requires : tie.Need-answered-requires
+answered-requires c κs = search needs
+
+-- once the marks are checked: the walk that came before, and the list it found
+abbrev followed : (m : tie.After-marks-check) → tie.After-follows
+followed m = m .before .before .before .before .before
+
+list : (m : tie.After-marks-check) → Listed (jobOf (start (followed m .before) .args .card .now))
+    (stepsOf (start (followed m .before) .args .sheet .now))
+list m = found-list (steps (followed m .before)) _ (m .before .before .before .enum-told .given .1) (followed m .follows .ensures .0)
+
+returns-2 : tie.Need-returns-2
+returns-2 c =
+    let m = c .before .before .before in
+    found-mark (steps (followed m .before)) _ (followed m .follows .ensures .1 .1) _ (m .marks-check .ensures) (list m) _ 0
+    (c .before .enum-told4 .given .1) (c .answered .ensures)
 
 cast-count : tie.Need-cast-count
 cast-count c = search needs
 
-returns-2 : tie.Need-returns-2
-unfolding toldRead
-returns-2 c =
-    let s = steps (c .before .before .before .before .before .before .before .before) in
-    let x = found-list s _ (c .before .before .before .before .before .enum-told .given .1) (c .before .before .before .before .before .before .before .follows .ensures .0) in
-    found-right s _ (c .before .before .before .before .before .before .before .follows .ensures .1 .1) _ (c .before .before .marks-check .ensures) x (c .enum-told3 .given .1)
-
 returns-3 : tie.Need-returns-3
 unfolding toldRead
 returns-3 c =
-    let s = steps (c .before .before .before .before .before .before .before .before .before) in
-    let x = found-list s _ (c .before .before .before .before .before .before .enum-told .given .1) (c .before .before .before .before .before .before .before .before .follows .ensures .0) in
-    found-mark s _ (c .before .before .before .before .before .before .before .before .follows .ensures .1 .1) _ (c .before .before .before .marks-check .ensures) x _ (c .before .refusal .given .1)
+    let m = c .before .before in
+    found-right (steps (followed m .before)) _ (followed m .follows .ensures .1 .1) _ (m .marks-check .ensures) (list m)
+    (c .enum-told3 .given .1)
 
 pub read-steps-spec : {M : Type 1} → statement M
 read-steps-spec =
@@ -117,8 +131,9 @@ read-steps-spec =
     part-marks-check-start
     part-marks-check-end
     marks-check-requires
-    enum-known-refusal
     enum-told-3
-    cast-count
+    enum-told-4
+    answered-requires
     returns-2
+    cast-count
     returns-3)

@@ -3,9 +3,9 @@ use Prim.Native.Nat.{_+_}
 use mathlib.Core.Path.{_≡_, _∙_, ap, ap₂}
 use borrow.Author.Needs.{needs}
 use Rattle.card.specs.Format.{lineCount}
-use Rattle.card.proofs.Stages.{sound-front}
-use Rattle.lines.specs.Set.{fullS, cutS}
-use Rattle.search.specs.Found.{strictOf, startB}
+use Rattle.card.proofs.CardChecked.{sound-front}
+use Rattle.lines.specs.Inner.Set.{fullS, cutS}
+use Rattle.search.specs.Inner.Found.{strictOf, startB}
 use Rattle.search.proofs.start.Statement.{statement}
 use Rattle.search.proofs.start.Tie as tie
 

@@ -8,10 +8,10 @@ use mathlib.Core.List.{List}
 use borrow.Author.Needs.{needs}
 use borrow.Author.Tests.{eq-eqb, ne-eqb}
 use Rattle.card.specs.Format.{lineCount, lineByte}
-use Rattle.card.proofs.Stages.{sound-front}
-use Rattle.lines.specs.Set.{addS}
-use Rattle.search.specs.Found.{strictBelow, strictOf}
-use Rattle.search.proofs.Nodes.{line-here}
+use Rattle.card.proofs.CardChecked.{sound-front}
+use Rattle.lines.specs.Inner.Set.{addS}
+use Rattle.search.specs.Inner.Found.{strictBelow, strictOf}
+use Rattle.card.proofs.SoundNodes.{line-here}
 use Rattle.search.proofs.strict_lines.Statement.{statement}
 use Rattle.search.proofs.strict_lines.Tie as tie
 

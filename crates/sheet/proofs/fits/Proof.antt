@@ -1,7 +1,7 @@
 -- `fits` meets its contract: each test that fails is one of 12's.
 use native.Mathlib.Omega.{arith}
 use borrow.Author.Needs.{needs}
-use Rattle.sheet.proofs.Fronts.{too-short, other-length, other-version, other-lines, other-size, too-many, all-fit}
+use Rattle.sheet.proofs.SheetFits.{too-short, other-length, other-version, other-lines, other-size, too-many, all-fit}
 use Rattle.sheet.proofs.fits.Statement.{statement}
 use Rattle.sheet.proofs.fits.Tie as tie
 
@@ -55,7 +55,7 @@ returns-7 c =
       first = omega arith;
       lines = omega arith;
       long = omega arith;
-      counted = omega arith;
+      few = omega arith;
     })
 
 pub fits-spec : {M : Type 1} → statement M

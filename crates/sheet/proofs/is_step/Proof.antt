@@ -4,7 +4,7 @@ use mathlib.Core.Path.{_≡_, sym, _∙_}
 use lib.ListN.{getD}
 use borrow.Author.Count.{below-none, below-more}
 use borrow.Author.Needs.{needs}
-use Rattle.sheet.proofs.Laws.{stands-found, stands-none}
+use Rattle.sheet.proofs.SheetWritten.{stands-found, stands-none}
 use Rattle.sheet.proofs.is_step.Statement.{statement}
 use Rattle.sheet.proofs.is_step.Tie as tie
 
@@ -35,7 +35,8 @@ loop-less c = search needs
 
 loop-again : tie.Need-loop-again Inv-loop μ-loop
 loop-again c =
-    (search needs, below-more _ _ (c .before .before .before .before .loop .inv .1) (λ q. c .if1 .left (q ∙ sym (c .before .byte .ensures .0))))
+    let turn = c .before .before .before .before in
+    (search needs, below-more _ _ (turn .loop .inv .1) (λ q. c .if1 .left (q ∙ sym (c .before .byte .ensures .0))))
 
 returns-2 : tie.Need-returns-2 Inv-loop μ-loop
 returns-2 c =

@@ -1,14 +1,13 @@
+-- `marks_check` meets its contract: the marks before the present one have passed.
 use Prim.Native.Nat.{_≤_, _-_}
 use native.Mathlib.Omega.{arith}
-use native.Mathlib.Numerals.{add-one}
-use mathlib.Core.Path.{_≡_, refl, sym, _∙_}
+use mathlib.Core.Path.{_≡_, refl, sym}
 use lib.ListN.{take}
 use borrow.Author.Needs.{needs}
 use Rattle.card.specs.Format.{lineCount}
-use Rattle.card.specs.Verdict.{firstOf, sound, told, whereOf}
-use Rattle.card.proofs.Verdicts.{first-stops, first-goes}
+use Rattle.card.specs.Verdict.{firstOf, sound, told}
+use Rattle.card.proofs.CardChecked.{refused-at, passed-at}
 use Rattle.sheet.specs.Marks.{markFault}
-use Rattle.sheet.proofs.Laws.{mark-wrong, mark-right}
 use Rattle.sheet.proofs.marks_check.Statement.{statement}
 use Rattle.sheet.proofs.marks_check.Tie as tie
 
@@ -25,26 +24,19 @@ loop-holds : tie.Need-loop-holds Inv-loop μ-loop
 unfolding firstOf
 loop-holds c = (search needs, refl)
 
-shared-slice-read-given : tie.Need-shared-slice-read-given Inv-loop μ-loop
-shared-slice-read-given c = search needs
+mark-check-requires : tie.Need-mark-check-requires Inv-loop μ-loop
+mark-check-requires c κs = search needs
 
-mark-requires : tie.Need-mark-requires Inv-loop μ-loop
-mark-requires c κs = search needs
+enum-told : tie.Need-enum-told Inv-loop μ-loop
+enum-told c = search needs
 
-cast-t12 : tie.Need-cast-t12 Inv-loop μ-loop
-cast-t12 c = search needs
+enum-told-2 : tie.Need-enum-told-2 Inv-loop μ-loop
+enum-told-2 c = search needs
 
 returns : tie.Need-returns Inv-loop μ-loop
-unfolding told whereOf
 returns c =
-    let s = c .before .before .before .before .before .before .before .before .args in
-    let bs = s .card .now in
-    let l = take (s .k) (s .steps .now) in
-    let i = c .before .before .before .before .loop .i in
-    sym
-    (first-stops i (lineCount bs) (markFault bs l (s .marks .now)) (c .before .before .before .before .loop .inv .1)
-    (mark-wrong bs l (s .marks .now) i (λ e. c .if1 .taken (e ∙ sym (c .before .mark .ensures))))
-    (omega arith))
+    let turn = c .before .before .before .before in
+    refused-at _ _ (turn .loop .inv .1) _ (omega arith) (c .enum-told2 .given .1) (c .before .before .mark-check .ensures)
 
 add-i : tie.Need-add-i Inv-loop μ-loop
 add-i c = search needs
@@ -54,12 +46,8 @@ loop-less c = search needs
 
 loop-again : tie.Need-loop-again Inv-loop μ-loop
 loop-again c =
-    let s = c .before .before .before .before .before .before .before .before .args in
-    let bs = s .card .now in
-    let l = take (s .k) (s .steps .now) in
-    let i = c .before .before .before .before .loop .i in
-    let right = mark-right bs l (s .marks .now) i (c .if1 .left ∙ c .before .mark .ensures) in
-    (search needs, rw add-one (first-goes i (markFault bs l (s .marks .now)) (c .before .before .before .before .loop .inv .1) right))
+    let turn = c .before .before .before .before in
+    (search needs, passed-at _ _ (turn .loop .inv .1) (c .enum-told .given .1) (c .before .before .mark-check .ensures))
 
 returns-2 : tie.Need-returns-2 Inv-loop μ-loop
 unfolding told
@@ -75,9 +63,9 @@ marks-check-spec =
     μ-loop
     byte-requires
     loop-holds
-    shared-slice-read-given
-    mark-requires
-    cast-t12
+    mark-check-requires
+    enum-told
+    enum-told-2
     returns
     add-i
     loop-less

@@ -5,7 +5,7 @@ use lib.Seq.{length-take-le}
 use borrow.Author.Needs.{needs}
 use Rattle.card.specs.Format.{lineCount}
 use Rattle.card.specs.Sheet.{marksOf}
-use Rattle.sheet.proofs.Laws.{part-back, whole-sheet}
+use Rattle.sheet.proofs.SheetWritten.{part-back, whole-sheet}
 use Rattle.sheet.proofs.write.Statement.{statement}
 use Rattle.sheet.proofs.write.Tie as tie
 
@@ -38,17 +38,23 @@ same-length c = search needs
 
 returns : tie.Need-returns
 returns c =
-    let s = c .before .before .before .before .before .before .before .before .before .before .before .before .before .before .before .args in
+    let at-steps = c .before .before .before .before .before .before in
+    let at-front = at-steps .before .before .before .before in
+    let at-t = at-front .before .before in
+    let start = at-t .before .before .before in
+    let s = start .args in
     let l = take (s .k) (s .steps .now) in
-    let front = c .before .before .before .before .before .before .before .before .before .before .write-front in
-    let steps = c .before .before .before .before .before .before .write-steps in
-    let t = c .before .before .before .before .before .before .before .before .before .before .before .before .byte in
+    let front = at-front .write-front in
+    let steps = at-steps .write-steps in
+    let t = at-t .byte in
     let marks = c .before .before .write-marks in
-    whole-sheet (s .card .now) l (s .sheet .now) (front .last .1 .1 .0) (steps .last .1 .1 .0) _ (s .k)
-    (length-take-le (s .k) (s .steps .now) (omega arith))
+    let s₂ = steps .last .1 .1 .0 in
+    whole-sheet (s .card .now) l (s .sheet .now) (front .last .1 .1 .0) s₂ _ (s .k)
+    (length-take-le (s .k) (s .steps .now) (omega (arith, start .pre)))
     (rw (t .ensures .0) at (front .ensures))
     (steps .ensures)
-    (part-back (5 + s .k) (lineCount (s .card .now)) (steps .last .1 .1 .0) (marksOf (s .card .now) l) (marks .last .1 .1 .1 .0) (omega arith) (marks .ensures))
+    (part-back (5 + s .k) (lineCount (s .card .now)) s₂ (marksOf (s .card .now) l) (marks .last .1 .1 .1 .0)
+    (omega (arith, start .pre, front .kept, steps .kept)) (marks .ensures))
 
 pub write-spec : {M : Type 1} → statement M
 write-spec =

@@ -7,7 +7,7 @@ use lib.ListN.{length, take, drop}
 use borrow.Author.Needs.{needs}
 use Rattle.card.specs.Format.{lineCount, listing}
 use Rattle.card.specs.Sheet.{markOf, marksOf}
-use Rattle.sheet.proofs.Laws.{listing-more, listing-kept}
+use Rattle.sheet.proofs.SheetWritten.{listing-more, listing-kept}
 use Rattle.sheet.proofs.write_marks.Statement.{statement}
 use Rattle.sheet.proofs.write_marks.Tie as tie
 
@@ -31,7 +31,8 @@ slice-write-marks : tie.Need-slice-write-marks Inv-loop μ-loop
 slice-write-marks c =
     let s = c .before .before .before .before .before .before .args in
     let i = c .before .before .loop .i in
-    omega (arith, ap length (c .before .before .loop .inv .1), listing-kept (markOf (s .card .now) (take (s .k) (s .steps .now))) i (s .marks .now) (omega arith))
+    let kept = listing-kept (markOf (s .card .now) (take (s .k) (s .steps .now))) i (s .marks .now) (omega arith) in
+    omega (arith, ap length (c .before .before .loop .inv .1))
 
 add-i : tie.Need-add-i Inv-loop μ-loop
 add-i c = search needs
@@ -43,12 +44,14 @@ loop-again : tie.Need-loop-again Inv-loop μ-loop
 loop-again c =
     let s = c .before .before .before .before .before .before .args in
     let i = c .before .before .loop .i in
-    (search needs, rw (c .before .before .loop .inv .1, c .mark .ensures, add-one) (listing-more (markOf (s .card .now) (take (s .k) (s .steps .now))) i (s .marks .now) (omega arith)))
+    let more = listing-more (markOf (s .card .now) (take (s .k) (s .steps .now))) i (s .marks .now) (omega arith) in
+    (search needs, rw (c .before .before .loop .inv .1, c .mark .ensures, add-one) more)
 
 same-length : tie.Need-same-length Inv-loop μ-loop
 same-length c =
     let s = c .before .before .before .before .before .args in
-    ap length (c .before .loop .inv .1) ∙ listing-kept (markOf (s .card .now) (take (s .k) (s .steps .now))) (c .before .loop .i) (s .marks .now) (omega arith)
+    let kept = listing-kept (markOf (s .card .now) (take (s .k) (s .steps .now))) (c .before .loop .i) (s .marks .now) (omega arith) in
+    ap length (c .before .loop .inv .1) ∙ kept
 
 returns : tie.Need-returns Inv-loop μ-loop
 unfolding marksOf

@@ -2,7 +2,7 @@ use Prim.Native.Nat.{_+_, _≤_}
 use lib.ListN.{length, getD}
 use native.Mathlib.Omega.{arith}
 use borrow.Author.Needs.{needs}
-use Rattle.planner.proofs.Demands.{planned-room}
+use Rattle.planner.proofs.PlannedExactly.{planned-room}
 use Rattle.trays.proofs.plan_into.Statement.{statement}
 use Rattle.trays.proofs.plan_into.Tie as tie
 

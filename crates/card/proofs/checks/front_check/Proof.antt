@@ -1,96 +1,176 @@
-use borrow.Author.Tests.{not-true, not-false}
-use Rattle.card.proofs.Fronts.{front-1, front-2, front-3, front-4, front-5, front-sound}
-use Rattle.card.specs.Verdict.{told}
-use mathlib.Core.Path.{sym, _∙_}
+-- `front_check` meets its contract: each of 1 to 5 that has passed leaves those after it.
+use Prim.Native.Nat.{ℕ, _≤_}
 use native.Mathlib.Omega.{arith}
+use mathlib.Core.Path.{_≡_, sym}
+use mathlib.Core.List.{List}
+use lib.ListN.{length}
 use borrow.Author.Needs.{needs}
+use borrow.Author.Tests.{ltb-false}
+use Rattle.card.specs.Verdict.{Verdict, _▹_, told, whereOf}
+use Rattle.card.specs.Fault.{frontFault}
+use Rattle.card.proofs.FaultsInOrder.{not-applied}
+use Rattle.card.proofs.FrontChecked.{fault-1, fault-2, fault-3, fault-4, fault-5}
+use Rattle.card.proofs.CardChecked.{refused, passed, onward}
 use Rattle.card.proofs.checks.front_check.Statement.{statement}
 use Rattle.card.proofs.checks.front_check.Tie as tie
-use Rattle.card.proofs.checks.front_check.Reads as reads
-use Rattle.card.proofs.checks.front_check.Lts as lts
-use Rattle.card.proofs.checks.card_refused.Reads as card-refused-reads
-use Rattle.card.proofs.checks.in_range.Reads as in-range-reads
-use Rattle.card.proofs.checks.length_asked.Reads as length-asked-reads
-use Rattle.card.proofs.format.byte.Reads as byte-reads
-use Rattle.card.proofs.format.word.Reads as word-reads
 
--- src/checks.rt:70:9
-card-refused-requires : tie.Need-card-refused-requires
-card-refused-requires c κs = search needs
+-- the card, where 1 has passed, then 2, 3 and 4
+abbrev bs-1 : tie.After-enum-told → List ℕ
+bs-1 c = c .before .before .before .before .args .card .now
 
--- src/checks.rt:70:9
+abbrev bs-2 : tie.After-enum-told3 → List ℕ
+bs-2 c = bs-1 (c .before .before .before .before)
+
+abbrev bs-3 : tie.After-enum-told5 → List ℕ
+bs-3 c = bs-2 (c .before .before .before .before)
+
+abbrev bs-4 : tie.After-enum-told7 → List ℕ
+bs-4 c = bs-3 (c .before .before .before .before)
+
+-- what each check answers
+told-1 : (c : tie.After-refuse) → told (c .refuse .result) ≡ fault-1 (c .before .before .args .card .now)
+unfolding whereOf
+told-1 c = c .refuse .ensures
+
+told-2 : (c : tie.After-refuse2) → told (c .refuse2 .result) ≡ fault-2 (bs-1 (c .before .before))
+unfolding whereOf
+told-2 c = rw (c .before .word .ensures .0) at (c .refuse2 .ensures)
+
+told-3 : (c : tie.After-refuse3) → told (c .refuse3 .result) ≡ fault-3 (bs-2 (c .before .before))
+unfolding whereOf
+told-3 c = rw (c .before .byte .ensures .0) at (c .refuse3 .ensures)
+
+told-4 : (c : tie.After-refuse4) → told (c .refuse4 .result) ≡ fault-4 (bs-3 (c .before .before))
+unfolding whereOf
+told-4 c = rw (c .before .in-range .ensures) at (c .refuse4 .ensures)
+
+told-5 : (c : tie.After-refuse5) → told (c .refuse5 .result) ≡ fault-5 (bs-4 (c .before .before))
+unfolding whereOf
+told-5 c = rw (c .before .length-asked .ensures) at (c .refuse5 .ensures)
+
+-- where 1 has passed there are 11 bytes
+long : (c : tie.After-enum-told) → 11 ≤ length (bs-1 c)
+long c = ltb-false _ _ (not-applied _ _ _ (passed _ _ (c .enum-told .given .1) (told-1 (c .before .before))))
+
+-- a check that has passed leaves those after it
+after-1 : (c : tie.After-enum-told) {w : Verdict}
+    → w ≡ fault-2 (bs-1 c) ▹ fault-3 (bs-1 c) ▹ fault-4 (bs-1 c) ▹ fault-5 (bs-1 c) → w ≡ frontFault (bs-1 c)
+unfolding frontFault
+after-1 c q = onward (passed _ _ (c .enum-told .given .1) (told-1 (c .before .before))) q
+
+after-2 : (c : tie.After-enum-told3) {w : Verdict}
+    → w ≡ fault-3 (bs-2 c) ▹ fault-4 (bs-2 c) ▹ fault-5 (bs-2 c) → w ≡ frontFault (bs-2 c)
+after-2 c q = after-1 (c .before .before .before .before) (onward (passed _ _ (c .enum-told3 .given .1) (told-2 (c .before .before))) q)
+
+after-3 : (c : tie.After-enum-told5) {w : Verdict} → w ≡ fault-4 (bs-3 c) ▹ fault-5 (bs-3 c) → w ≡ frontFault (bs-3 c)
+after-3 c q = after-2 (c .before .before .before .before) (onward (passed _ _ (c .enum-told5 .given .1) (told-3 (c .before .before))) q)
+
+after-4 : (c : tie.After-enum-told7) {w : Verdict} → w ≡ fault-5 (bs-4 c) → w ≡ frontFault (bs-4 c)
+after-4 c q = after-3 (c .before .before .before .before) (onward (passed _ _ (c .enum-told7 .given .1) (told-4 (c .before .before))) q)
+
+refuse-requires : tie.Need-refuse-requires
+refuse-requires c κs = search needs
+
+enum-told : tie.Need-enum-told
+enum-told c = search needs
+
+enum-told-2 : tie.Need-enum-told-2
+enum-told-2 c = search needs
+
 returns : tie.Need-returns
-returns c = c .card-refused .ensures ∙ sym (front-1 _ (omega arith))
+unfolding frontFault
+returns c = refused _ (c .enum-told2 .given .1) (told-1 (c .before .before))
 
--- src/checks.rt:72:9
 word-requires : tie.Need-word-requires
-word-requires c κs = search needs
+word-requires c κs = let l = long c in omega arith
 
--- src/checks.rt:74:9
-card-refused-requires-2 : tie.Need-card-refused-requires-2
-card-refused-requires-2 c κs = search needs
+refuse-requires-2 : tie.Need-refuse-requires-2
+refuse-requires-2 c κs = search needs
 
--- src/checks.rt:74:9
+enum-told-3 : tie.Need-enum-told-3
+enum-told-3 c = search needs
+
+enum-told-4 : tie.Need-enum-told-4
+enum-told-4 c = search needs
+
 returns-2 : tie.Need-returns-2
-returns-2 c = c .card-refused2 .ensures ∙ sym (front-2 _ (omega arith) (omega arith))
+returns-2 c = after-1 (c .before .before .before .before) (refused _ (c .enum-told4 .given .1) (told-2 (c .before .before)))
 
--- src/checks.rt:76:9
 byte-requires : tie.Need-byte-requires
-byte-requires c κs = search needs
+byte-requires c κs = let l = long (c .before .before .before .before) in omega arith
 
--- src/checks.rt:78:9
-card-refused-requires-3 : tie.Need-card-refused-requires-3
-card-refused-requires-3 c κs = search needs
+refuse-requires-3 : tie.Need-refuse-requires-3
+refuse-requires-3 c κs = search needs
 
--- src/checks.rt:78:9
+enum-told-5 : tie.Need-enum-told-5
+enum-told-5 c = search needs
+
+enum-told-6 : tie.Need-enum-told-6
+enum-told-6 c = search needs
+
 returns-3 : tie.Need-returns-3
-returns-3 c = c .card-refused3 .ensures ∙ sym (front-3 _ (omega arith) (omega arith) (omega arith))
+returns-3 c = after-2 (c .before .before .before .before) (refused _ (c .enum-told6 .given .1) (told-3 (c .before .before)))
 
--- src/checks.rt:80:9
 in-range-requires : tie.Need-in-range-requires
-in-range-requires c κs = search needs
+in-range-requires c κs = long (c .before .before .before .before .before .before .before .before)
 
--- src/checks.rt:82:9
-card-refused-requires-4 : tie.Need-card-refused-requires-4
-card-refused-requires-4 c κs = search needs
+refuse-requires-4 : tie.Need-refuse-requires-4
+refuse-requires-4 c κs = search needs
 
--- src/checks.rt:82:9
+enum-told-7 : tie.Need-enum-told-7
+enum-told-7 c = search needs
+
+enum-told-8 : tie.Need-enum-told-8
+enum-told-8 c = search needs
+
 returns-4 : tie.Need-returns-4
-returns-4 c = c .card-refused4 .ensures ∙ sym (front-4 _ (omega arith) (omega arith) (omega arith) (sym (c .before .before .in-range .ensures) ∙ not-true _ (c .before .if4 .taken)))
+returns-4 c = after-3 (c .before .before .before .before) (refused _ (c .enum-told8 .given .1) (told-4 (c .before .before)))
 
--- src/checks.rt:84:9
 length-asked-requires : tie.Need-length-asked-requires
-length-asked-requires c κs = search needs
+length-asked-requires c κs = long (c .before .before .before .before .before .before .before .before .before .before .before .before)
 
--- src/checks.rt:86:9
-card-refused-requires-5 : tie.Need-card-refused-requires-5
-card-refused-requires-5 c κs = search needs
+refuse-requires-5 : tie.Need-refuse-requires-5
+refuse-requires-5 c κs = search needs
 
--- src/checks.rt:86:9
+enum-told-9 : tie.Need-enum-told-9
+enum-told-9 c = search needs
+
+enum-told-10 : tie.Need-enum-told-10
+enum-told-10 c = search needs
+
 returns-5 : tie.Need-returns-5
-returns-5 c = c .card-refused5 .ensures ∙ sym (front-5 _ (omega arith) (omega arith) (omega arith) (sym (c .before .before .before .before .in-range .ensures) ∙ not-false _ (c .before .before .before .if4 .left)) (omega arith))
+returns-5 c = after-4 (c .before .before .before .before) (told-5 (c .before .before))
 
--- src/checks.rt:66:1
 returns-6 : tie.Need-returns-6
 unfolding told
-returns-6 c = sym (front-sound _ (omega arith) (omega arith) (omega arith) (sym (c .before .before .before .in-range .ensures) ∙ not-false _ (c .before .before .if4 .left)) (omega arith))
+returns-6 c = after-4 (c .before .before .before .before) (sym (passed _ _ (c .enum-told9 .given .1) (told-5 (c .before .before))))
 
 pub front-check-spec : {M : Type 1} → statement M
 front-check-spec =
     tie.close
     (tie.spec
-    card-refused-requires
+    refuse-requires
+    enum-told
+    enum-told-2
     returns
     word-requires
-    card-refused-requires-2
+    refuse-requires-2
+    enum-told-3
+    enum-told-4
     returns-2
     byte-requires
-    card-refused-requires-3
+    refuse-requires-3
+    enum-told-5
+    enum-told-6
     returns-3
     in-range-requires
-    card-refused-requires-4
+    refuse-requires-4
+    enum-told-7
+    enum-told-8
     returns-4
     length-asked-requires
-    card-refused-requires-5
+    refuse-requires-5
+    enum-told-9
+    enum-told-10
     returns-5
     returns-6)

@@ -1,39 +1,43 @@
-use Rattle.card.proofs.Roots.{goal-sound, goal-missed}
-use Rattle.card.specs.Verdict.{told}
-use mathlib.Core.Path.{_≡_, sym, _∙_}
+-- `goal_check` meets its contract: 7 is told of a goal that is no part below N reading as a goal.
+use mathlib.Core.Path.{_≡_, sym}
 use borrow.Author.Needs.{needs}
+use Rattle.card.specs.Verdict.{told, whereOf}
+use Rattle.card.specs.Fault.{goalFault}
+use Rattle.card.proofs.CardChecked.{passed}
 use Rattle.card.proofs.checks.goal_check.Statement.{statement}
 use Rattle.card.proofs.checks.goal_check.Tie as tie
-use Rattle.card.proofs.checks.goal_check.Reads as reads
-use Rattle.card.proofs.checks.goal_check.Lts as lts
-use Rattle.card.proofs.checks.card_refused.Reads as card-refused-reads
-use Rattle.card.proofs.checks.goal_part.Reads as goal-part-reads
-use Rattle.card.proofs.format.word.Reads as word-reads
 
--- src/checks.rt:256:9
+-- what the check answers
+told-7 : (c : tie.After-refuse) → told (c .refuse .result) ≡ goalFault (c .before .before .before .before .before .args .card .now)
+unfolding goalFault whereOf
+told-7 c =
+    rw (c .before .goal-part .ensures, c .before .before .word2 .ensures .0, c .before .before .before .word .ensures .0)
+    at (c .refuse .ensures)
+
 word-requires : tie.Need-word-requires
 word-requires c κs = search needs
 
--- src/checks.rt:257:9
 word-requires-2 : tie.Need-word-requires-2
 word-requires-2 c κs = search needs
 
--- src/checks.rt:258:9
 goal-part-requires : tie.Need-goal-part-requires
 goal-part-requires c κs = search needs
 
--- src/checks.rt:260:9
+refuse-requires : tie.Need-refuse-requires
+refuse-requires c κs = search needs
+
+enum-told : tie.Need-enum-told
+enum-told c = search needs
+
+enum-told-2 : tie.Need-enum-told-2
+enum-told-2 c = search needs
+
 returns : tie.Need-returns
-unfolding told
-returns c = sym (goal-sound _ (cc))
+returns c = told-7 (c .before .before)
 
--- src/checks.rt:262:5
-card-refused-requires : tie.Need-card-refused-requires
-card-refused-requires c κs = search needs
-
--- src/checks.rt:252:1
 returns-2 : tie.Need-returns-2
-returns-2 c = c .card-refused .ensures ∙ sym (goal-missed _ (cc))
+unfolding told
+returns-2 c = sym (passed _ _ (c .enum-told .given .1) (told-7 (c .before .before)))
 
 pub goal-check-spec : {M : Type 1} → statement M
 goal-check-spec =
@@ -42,6 +46,8 @@ goal-check-spec =
     word-requires
     word-requires-2
     goal-part-requires
+    refuse-requires
+    enum-told
+    enum-told-2
     returns
-    card-refused-requires
     returns-2)

@@ -1,26 +1,20 @@
+use borrow.Author.Tests.{eq-eqb, ne-eqb}
 use Rattle.card.specs.Fault.{isClause}
-use borrow.Author.Tests.{lt-ltb, le-ltb, le-leb, lt-leb, eq-eqb, ne-eqb}
 use Rattle.card.proofs.checks.is_clause.Statement.{statement}
 use Rattle.card.proofs.checks.is_clause.Tie as tie
-use Rattle.card.proofs.checks.is_clause.Reads as reads
-use Rattle.card.proofs.checks.is_clause.Lts as lts
 
--- src/checks.rt:107:9
 returns : tie.Need-returns
 unfolding isClause
 returns c = simp (eq-eqb _ _ (c .if1 .taken))
 
--- src/checks.rt:110:9
 returns-2 : tie.Need-returns-2
 unfolding isClause
 returns-2 c = simp (ne-eqb _ _ (c .before .if1 .left), eq-eqb _ _ (c .if2 .taken))
 
--- src/checks.rt:113:9
 returns-3 : tie.Need-returns-3
 unfolding isClause
 returns-3 c = simp (ne-eqb _ _ (c .before .before .if1 .left), ne-eqb _ _ (c .before .if2 .left), eq-eqb _ _ (c .if3 .taken))
 
--- src/checks.rt:103:1
 returns-4 : tie.Need-returns-4
 unfolding isClause
 returns-4 c = simp (ne-eqb _ _ (c .before .before .if1 .left), ne-eqb _ _ (c .before .if2 .left), ne-eqb _ _ (c .if3 .left))

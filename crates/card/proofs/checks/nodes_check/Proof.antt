@@ -1,24 +1,18 @@
-use lib.ListN.{length-set}
-use Rattle.card.specs.declared.checks.Built.the-variants.{Height, Faulty}
-use Rattle.card.specs.Fault.{builtAt}
-use Rattle.card.proofs.Nodes.{fault-of, height-of, table-more}
-use Rattle.card.specs.Format.{nodeCount}
-use Rattle.card.proofs.Verdicts.{first-stops, first-goes}
-use borrow.Author.Needs.{needs}
-use Prim.Native.Nat.{_≤_, _-_, suc}
+use Prim.Native.Nat.{_≤_, _-_}
 use native.Mathlib.Omega.{arith}
 use native.Mathlib.Numerals.{add-one}
 use mathlib.Core.Path.{_≡_, refl, sym, _∙_}
+use lib.ListN.{length-set, length, take}
+use borrow.Author.Needs.{needs}
+use Rattle.card.specs.declared.checks.Built.the-variants.{Faulty}
+use Rattle.card.specs.Inner.Checks.{builtAt}
+use Rattle.card.specs.Format.{nodeCount, grow}
 use Rattle.card.specs.Verdict.{firstOf, sound, told, whereOf}
 use Rattle.card.specs.Fault.{nodeFault, heightStep}
-use Rattle.card.specs.Format.{grow}
-use lib.ListN.{length, take}
+use Rattle.card.proofs.NodesChecked.{fault-of, height-of, table-more}
+use Rattle.card.proofs.FaultsInOrder.{first-stops, first-goes}
 use Rattle.card.proofs.checks.nodes_check.Statement.{statement}
 use Rattle.card.proofs.checks.nodes_check.Tie as tie
-use Rattle.card.proofs.checks.nodes_check.Reads as reads
-use Rattle.card.proofs.checks.nodes_check.Lts as lts
-use Rattle.card.proofs.checks.node_check.Reads as node-check-reads
-use Rattle.card.proofs.format.word.Reads as word-reads
 
 abbrev Inv-loop : tie.InvT-loop
 Inv-loop card n heights₀ i₀ heights i =
@@ -27,56 +21,60 @@ Inv-loop card n heights₀ i₀ heights i =
 abbrev μ-loop : tie.MeasureT-loop
 μ-loop card n heights₀ i₀ heights i = n - i
 
--- src/checks.rt:234:9
 word-requires : tie.Need-word-requires Inv-loop μ-loop
 word-requires c κs = search needs
 
--- src/checks.rt:237:5
 loop-holds : tie.Need-loop-holds Inv-loop μ-loop
 unfolding firstOf grow
 loop-holds c = (search needs, (refl, (refl, refl)))
 
--- src/checks.rt:238:13
 node-check-requires : tie.Need-node-check-requires Inv-loop μ-loop
 node-check-requires c κs = search needs
 
--- src/checks.rt:239:27
 enum-known-built : tie.Need-enum-known-built Inv-loop μ-loop
 enum-known-built c = search needs
 
--- src/checks.rt:242:36
 enum-told : tie.Need-enum-told Inv-loop μ-loop
 enum-told c = search needs
 
--- src/checks.rt:242:36
 cast-t9 : tie.Need-cast-t9 Inv-loop μ-loop
 cast-t9 c = search needs
 
--- src/checks.rt:240:13
 returns : tie.Need-returns Inv-loop μ-loop
 unfolding told whereOf
-returns c = let bs = c .before .before .before .before .before .before .before .before .args .card .now in let i = c .before .before .before .before .before .loop .i in let e : builtAt bs i ≡ Faulty = cc in sym (first-stops i (nodeCount bs) (nodeFault bs) (c .before .before .before .before .before .loop .inv .1 .0) (fault-of bs i e) (omega arith))
+returns c =
+    let turn = c .before .before .before .before .before in
+    let bs = turn .before .before .before .args .card .now in
+    let i = turn .loop .i in
+    let e : builtAt bs i ≡ Faulty = cc in
+    sym (first-stops i (nodeCount bs) (nodeFault bs) (turn .loop .inv .1 .0) (fault-of bs i e) (omega arith))
 
--- src/checks.rt:245:9
 array-write-heights : tie.Need-array-write-heights Inv-loop μ-loop
 array-write-heights c = search needs
 
--- src/checks.rt:246:9
 add-i : tie.Need-add-i Inv-loop μ-loop
 add-i c = search needs
 
--- src/checks.rt:237:5
 loop-less : tie.Need-loop-less Inv-loop μ-loop
 loop-less c = search needs
 
--- src/checks.rt:237:5
 loop-again : tie.Need-loop-again Inv-loop μ-loop
-loop-again c = let bs = c .before .before .before .before .before .before .before .before .before .args .card .now in let i = c .before .before .before .before .before .before .loop .i in let t = c .before .before .before .before .before .before .loop .heights in let h = c .before .built .given .0 .0 in let e : builtAt bs i ≡ Height h = sym (c .before .before .before .node-check .ensures) ∙ c .before .built .given .1 in let o = height-of bs i h e in (omega arith, (rw add-one (first-goes i (nodeFault bs) (c .before .before .before .before .before .before .loop .inv .1 .0) (o .0)), (length-set t i h ∙ c .before .before .before .before .before .before .loop .inv .1 .1 .0, rw add-one (rw (o .1) at (table-more bs i t (omega arith) (c .before .before .before .before .before .before .loop .inv .1 .1 .1))))))
+loop-again c =
+    let turn = c .before .before .before .before .before .before in
+    let bs = turn .before .before .before .args .card .now in
+    let i = turn .loop .i in
+    let h = c .before .built .given .0 .0 in
+    let inv = turn .loop .inv .1 in
+    let o = height-of bs i h (sym (c .before .before .before .node-check .ensures) ∙ c .before .built .given .1) in
+    let t = turn .loop .heights in
+    let table = rw (o .1) at (table-more bs i t (omega arith) (inv .1 .1)) in
+    (omega arith, (rw add-one (first-goes i (nodeFault bs) (inv .0) (o .0)), (length-set t i h ∙ inv .1 .0, rw add-one table)))
 
--- src/checks.rt:230:1
 returns-2 : tie.Need-returns-2 Inv-loop μ-loop
 unfolding told
-returns-2 c = let e : c .before .loop .i ≡ nodeCount (c .before .before .before .before .args .card .now) = omega arith in sym (rw e at (c .before .loop .inv .1 .0))
+returns-2 c =
+    let e : c .before .loop .i ≡ nodeCount (c .before .before .before .before .args .card .now) = omega arith in
+    sym (rw e at (c .before .loop .inv .1 .0))
 
 pub nodes-check-spec : {M : Type 1} → statement M
 nodes-check-spec =

@@ -1,32 +1,22 @@
 use borrow.Author.Needs.{needs}
 use Rattle.card.proofs.format.line_byte.Statement.{statement}
 use Rattle.card.proofs.format.line_byte.Tie as tie
-use Rattle.card.proofs.format.line_byte.Reads as reads
-use Rattle.card.proofs.format.line_byte.Lts as lts
-use Rattle.card.proofs.format.byte.Reads as byte-reads
-use Rattle.card.proofs.format.lines_start.Reads as lines-start-reads
 
--- src/format.rt:81:16
 lines-start-requires : tie.Need-lines-start-requires
 lines-start-requires c κs = search needs
 
--- src/format.rt:81:36
 mul-byte : tie.Need-mul-byte
 mul-byte c = search needs
 
--- src/format.rt:81:16
 add-byte : tie.Need-add-byte
 add-byte c = search needs
 
--- src/format.rt:81:16
 add-byte-2 : tie.Need-add-byte-2
 add-byte-2 c = search needs
 
--- src/format.rt:81:5
 byte-requires : tie.Need-byte-requires
 byte-requires c κs = search needs
 
--- src/format.rt:77:1
 returns : tie.Need-returns
 returns c = (cc, c .byte .ensures .1)
 

@@ -8,9 +8,9 @@ use borrow.Author.Tests.{lt-leb, le-leb, le-ltb, lt-ltb}
 use lib.ListN.{getD, take}
 use Rattle.calculus.specs.Steps.{stands}
 use Rattle.card.specs.Format.{ruleCount, lineCount}
-use Rattle.card.proofs.Stages.{sound-front}
-use Rattle.search.specs.Twins.{isLine, twinStands}
-use Rattle.search.specs.Entries.{codeTwin, eligibleBy}
+use Rattle.card.proofs.CardChecked.{sound-front}
+use Rattle.search.specs.Inner.Twins.{isLine, twinStands}
+use Rattle.search.specs.Inner.Entries.{codeTwin, eligibleBy}
 use Rattle.search.proofs.entries.eligible.Statement.{statement}
 use Rattle.search.proofs.entries.eligible.Tie as tie
 
@@ -44,7 +44,8 @@ byte-requires c κs =
 returns : tie.Need-returns
 returns c =
     let start = c .before .before .before in
-    a-rule (start .args .card .now) (start .args .twins .now) (take (start .args .at) (start .args .tape .now)) (start .args .e) (omega arith)
+    a-rule (start .args .card .now) (start .args .twins .now) (take (start .args .at) (start .args .tape .now)) (start .args .e)
+    (omega arith)
 
 byte-requires-2 : tie.Need-byte-requires-2
 byte-requires-2 c κs =

@@ -8,10 +8,10 @@ use native.Mathlib.Omega.{arith}
 use borrow.Author.Needs.{needs}
 use lib.ListN.{take}
 use Rattle.card.specs.Format.{ruleCount, lineCount, ruleNode, lineNode, listing}
-use Rattle.card.proofs.Stages.{sound-front}
-use Rattle.search.specs.Entries.{Entered}
-use Rattle.search.proofs.Nodes.{line-here, sound-line-node}
-use Rattle.search.proofs.Tables.{listed-more, job-scope, entered-more}
+use Rattle.card.proofs.CardChecked.{sound-front}
+use Rattle.search.specs.Inner.Entries.{Entered}
+use Rattle.card.proofs.SoundNodes.{line-here, sound-line-node}
+use Rattle.search.proofs.TablesAreScopes.{listed-more, job-scope, entered-more}
 use Rattle.search.proofs.entries.enter.Statement.{statement}
 use Rattle.search.proofs.entries.enter.Tie as tie
 
@@ -59,7 +59,10 @@ put-requires c κs =
     let t = turn .inv .1 .0 in
     let f = sound-front (start .args .card .now) (start .pre .0) in (
       start .pre .0,
-      (rw (c .line-node .ensures .0) (sound-line-node (start .pre .0) (turn .i) (omega arith)), (omega arith, (t .node-room, t .head-room))),
+      (
+        rw (c .line-node .ensures .0) (sound-line-node (start .pre .0) (turn .i) (omega arith)),
+        (omega arith, (t .node-room, t .head-room)),
+      ),
     )
 
 add-i : tie.Need-add-i Inv-loop μ-loop

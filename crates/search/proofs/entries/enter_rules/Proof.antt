@@ -7,10 +7,10 @@ use native.Mathlib.Omega.{arith}
 use borrow.Author.Needs.{needs}
 use lib.ListN.{take}
 use Rattle.card.specs.Format.{ruleCount, ruleNode, listing}
-use Rattle.card.proofs.Stages.{sound-front}
-use Rattle.search.specs.Entries.{Entered}
-use Rattle.search.proofs.Nodes.{rule-here, sound-rule-node}
-use Rattle.search.proofs.Tables.{listed-more, entered-none, entered-more}
+use Rattle.card.proofs.CardChecked.{sound-front}
+use Rattle.search.specs.Inner.Entries.{Entered}
+use Rattle.card.proofs.SoundNodes.{rule-here, sound-rule-node}
+use Rattle.search.proofs.TablesAreScopes.{listed-more, entered-none, entered-more}
 use Rattle.search.proofs.entries.enter_rules.Statement.{statement}
 use Rattle.search.proofs.entries.enter_rules.Tie as tie
 
@@ -43,7 +43,10 @@ put-requires c κs =
     let t = turn .inv .1 .0 in
     let f = sound-front (start .args .card .now) (start .pre .0) in (
       start .pre .0,
-      (rw (c .rule-node .ensures .0) (sound-rule-node (start .pre .0) (turn .i) (omega arith)), (omega arith, (t .node-room, t .head-room))),
+      (
+        rw (c .rule-node .ensures .0) (sound-rule-node (start .pre .0) (turn .i) (omega arith)),
+        (omega arith, (t .node-room, t .head-room)),
+      ),
     )
 
 add-i : tie.Need-add-i Inv-loop μ-loop

@@ -5,7 +5,7 @@ use native.Mathlib.Omega.{arith}
 use borrow.Author.Needs.{needs}
 use borrow.Author.Count.{below-more}
 use lib.ListN.{getD}
-use Rattle.search.proofs.Tables.{stands-here, stands-nowhere}
+use Rattle.search.proofs.TablesAreScopes.{stands-here, stands-nowhere}
 use Rattle.search.proofs.entries.has_step.Statement.{statement}
 use Rattle.search.proofs.entries.has_step.Tie as tie
 
@@ -44,7 +44,8 @@ returns-2 : tie.Need-returns-2 Inv-loop μ-loop
 returns-2 c =
     let start = c .before .before in
     sym
-    (stands-nowhere (start .args .e) (start .args .tape .now) (start .args .at) (omega arith) (λ k h. c .before .loop .inv .1 k (omega arith)))
+    (stands-nowhere (start .args .e) (start .args .tape .now) (start .args .at) (omega arith)
+    (λ k h. c .before .loop .inv .1 k (omega arith)))
 
 pub has-step-spec : {M : Type 1} → statement M
 has-step-spec =

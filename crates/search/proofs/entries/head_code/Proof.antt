@@ -11,8 +11,9 @@ use Rattle.calculus.specs.Formula.{head}
 use Rattle.card.specs.Format.{nodeCount, kindAt, rightAt}
 use Rattle.card.specs.Fault.{Sound, clausePart}
 use Rattle.card.specs.Decode.{clauseOf}
-use Rattle.search.specs.Entries.{headCode}
-use Rattle.search.proofs.Nodes.{clause-lower, clause-kind, clause-above, node-here, parts-below, recipe-parts, head-recipe, head-name, head-rest}
+use Rattle.search.specs.Inner.Entries.{headCode}
+use Rattle.card.proofs.SoundNodes.{clause-lower, clause-kind, clause-above, node-here, parts-below, recipe-parts, head-recipe, head-name}
+use Rattle.card.proofs.SoundNodes.{head-rest}
 use Rattle.search.proofs.entries.head_code.Statement.{statement}
 use Rattle.search.proofs.entries.head_code.Tie as tie
 
@@ -38,7 +39,8 @@ module _ {bs : List ℕ} (s : Sound bs) (i : ℕ) (p : clausePart bs (nodeCount 
   headless : (kindAt bs i ≡ 7 → ⊥) → (kindAt bs i ≡ 1 → ⊥) → 1000 ≡ headCode (head (clauseOf bs i))
   unfolding headCode
   headless n m =
-      ⊎-elim (λ k. absurd (m k)) (⊎-elim (λ k. ap headCode (sym (head-rest bs i k))) (λ k. absurd (n k))) (clause-kind bs (nodeCount bs) i p)
+      ⊎-elim (λ k. absurd (m k)) (⊎-elim (λ k. ap headCode (sym (head-rest bs i k))) (λ k. absurd (n k)))
+      (clause-kind bs (nodeCount bs) i p)
 
 abbrev Inv-loop : tie.InvT-loop
 Inv-loop card node at₀ k₀ at k =

@@ -2,8 +2,8 @@ use mathlib.Core.Path.{refl, ap}
 use borrow.Author.Needs.{needs}
 use lib.ListN.{set}
 use Rattle.card.specs.Format.{nodeCount}
-use Rattle.card.proofs.Stages.{sound-front}
-use Rattle.search.proofs.Nodes.{clause-lower}
+use Rattle.card.proofs.CardChecked.{sound-front}
+use Rattle.card.proofs.SoundNodes.{clause-lower}
 use Rattle.search.proofs.entries.put.Statement.{statement}
 use Rattle.search.proofs.entries.put.Tie as tie
 

@@ -6,9 +6,9 @@ use mathlib.Core.List.{List}
 use lib.Dec.{eqb}
 use borrow.Author.Tests.{eq-eqb, ne-eqb}
 use Rattle.card.specs.Format.{lineNode, lineByte}
-use Rattle.search.specs.Twins.{sameLine}
-use Rattle.search.proofs.Eligible.{same-line}
-use Rattle.search.proofs.Nodes.{line-here}
+use Rattle.search.specs.Inner.Twins.{sameLine}
+use Rattle.search.proofs.TwinsLoseNothing.{same-line}
+use Rattle.card.proofs.SoundNodes.{line-here}
 use Rattle.search.proofs.entries.same_line.Statement.{statement}
 use Rattle.search.proofs.entries.same_line.Tie as tie
 

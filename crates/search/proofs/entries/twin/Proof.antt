@@ -3,10 +3,10 @@ use Prim.Native.Nat.{suc, _-_, _≤_}
 use mathlib.Core.Path.{_≡_, refl, sym, _∙_, ap}
 use native.Mathlib.Omega.{arith}
 use borrow.Author.Needs.{needs}
-use Rattle.card.proofs.Stages.{sound-front}
-use Rattle.search.specs.Twins.{sameLine, lastBelow, twinOf}
-use Rattle.search.specs.Entries.{twinCode}
-use Rattle.search.proofs.Eligible.{last-taken, last-passed}
+use Rattle.card.proofs.CardChecked.{sound-front}
+use Rattle.search.specs.Inner.Twins.{sameLine, lastBelow, twinOf}
+use Rattle.search.specs.Inner.Entries.{twinCode}
+use Rattle.search.proofs.TwinsLoseNothing.{last-taken, last-passed}
 use Rattle.search.proofs.entries.twin.Statement.{statement}
 use Rattle.search.proofs.entries.twin.Tie as tie
 

@@ -6,9 +6,9 @@ use borrow.Author.Count.{below-more}
 use borrow.Author.Needs.{needs}
 use lib.ListN.{length, getD, set, length-set}
 use lib.Seq.{getD-set-same, getD-set-other}
-use Rattle.card.proofs.Stages.{sound-front}
-use Rattle.search.specs.Twins.{twinOf}
-use Rattle.search.specs.Entries.{twinCode}
+use Rattle.card.proofs.CardChecked.{sound-front}
+use Rattle.search.specs.Inner.Twins.{twinOf}
+use Rattle.search.specs.Inner.Entries.{twinCode}
 use Rattle.search.proofs.entries.twins.Statement.{statement}
 use Rattle.search.proofs.entries.twins.Tie as tie
 

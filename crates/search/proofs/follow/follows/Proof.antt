@@ -2,10 +2,10 @@
 use native.Mathlib.Omega.{arith}
 use mathlib.Core.Path.{refl}
 use borrow.Author.Needs.{needs}
-use Rattle.card.proofs.Stages.{sound-front}
+use Rattle.card.proofs.CardChecked.{sound-front}
 use Rattle.search.specs.declared.walk.Given.{Given}
-use Rattle.search.specs.Found.{ListedSays}
-use Rattle.search.proofs.Following.{Along, follow-call, follow-kept, follow-stuck, follow-listed, follow-short}
+use Rattle.search.specs.Inner.Found.{ListedSays}
+use Rattle.search.proofs.FollowTellsOfCard.{Along, follow-call, follow-kept, follow-stuck, follow-listed, follow-short}
 use Rattle.search.proofs.follow.follows.Statement.{statement}
 use Rattle.search.proofs.follow.follows.Tie as tie
 
@@ -32,12 +32,25 @@ abbrev start : (c : tie.After-heads2) → tie.Start
 start c = c .before .before .before .before .before .before .before .before .before .before .before .before .before
 
 abbrev given : (c : tie.After-heads2) → Given
-given c = record { rules = c .before .before .before .before .before .byte .result; lines = c .before .before .before .before .byte2 .result; fixed = start c .args .k; from = 0; limit = start c .args .k }
+given c =
+    record {
+      rules = c .before .before .before .before .before .byte .result;
+      lines = c .before .before .before .before .byte2 .result;
+      fixed = start c .args .k;
+      from = 0;
+      limit = start c .args .k;
+    }
 
 along : (c : tie.After-heads2)
-    → Along (start c .args .card .now) (c .before .before .before .before .before .before .before .before .before .before .before .no-twins .result) (start c .args .tape .now) (c .before .before .before .before .before .before .before .before .enter .last .1 .0) (c .before .before .before .before .before .before .before .before .enter .last .1 .1 .0) (given c) (start c .args .k) (c .before .before .before .before .before .before .before .start .result) (c .before .before .before .before .before .before .word .result)
+    → Along (start c .args .card .now)
+    (c .before .before .before .before .before .before .before .before .before .before .before .no-twins .result) (start c .args .tape .now)
+    (c .before .before .before .before .before .before .before .before .enter .last .1 .0)
+    (c .before .before .before .before .before .before .before .before .enter .last .1 .1 .0) (given c) (start c .args .k)
+    (c .before .before .before .before .before .before .before .start .result)
+    (c .before .before .before .before .before .before .word .result)
 along c =
-    let byte = c .before .before .before .before .before .before .before .before .before .before .before .before .shared-slice-known .given 10 in
+    let byte = c .before .before .before .before .before .before .before .before .before .before .before .before .shared-slice-known .given
+    10 in
     record {
       sound = start c .pre .0;
       twin-room = c .before .before .before .before .before .before .before .before .before .before .before .no-twins .ensures .0;

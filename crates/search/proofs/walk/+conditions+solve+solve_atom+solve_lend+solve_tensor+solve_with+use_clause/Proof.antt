@@ -1,8 +1,12 @@
 use mathlib.Core.Path.{refl, sym, _∙_}
 use mathlib.Core.Bool.{_&&_, _||_}
-use Rattle.search.proofs.Members.{goal-here, tensor-call-1, tensor-call-2, tensor-return-1, tensor-joined, with-call-1, with-call-2, with-return-1, with-joined, joined-stuck, joined-solved}
-use Rattle.search.proofs.Members.{lent-clause, lend-room, lend-call, lend-returned, without-stuck, without-solved, name-small, atom-stuck, atom-call, atom-returned, rest-returned, done-returned}
-use Rattle.search.proofs.Members.{clause-here, head-met, row-call-1, row-call-2, row-return-1, row-joined, use-within, use-clause-node, use-call, use-returned, behind-stuck, behind-solved, kind-six, lend-few, rules-below, use-byte, use-room, use-node-low}
+use Rattle.search.proofs.CodeIsModel.{goal-here, tensor-call-1, tensor-call-2, tensor-return-1, tensor-joined, with-call-1, with-call-2}
+use Rattle.search.proofs.CodeIsModel.{with-return-1, with-joined, joined-stuck, joined-solved}
+use Rattle.search.proofs.CodeIsModel.{lent-clause, lend-room, lend-call, lend-returned, without-stuck, without-solved, name-small}
+use Rattle.search.proofs.CodeIsModel.{atom-stuck, atom-call, atom-returned, rest-returned, done-returned}
+use Rattle.search.proofs.CodeIsModel.{clause-here, head-met, row-call-1, row-call-2, row-return-1, row-joined, use-within}
+use Rattle.search.proofs.CodeIsModel.{use-clause-node, use-call, use-returned, behind-stuck, behind-solved, kind-six, lend-few}
+use Rattle.search.proofs.CodeIsModel.{rules-below, use-byte, use-room, use-node-low}
 use Prim.Native.Nat.{ℕ, _<_, _+_, _-_, _*_}
 use borrow.Author.Needs.{needs}
 use native.Mathlib.Omega.{arith}
@@ -53,22 +57,34 @@ use Rattle.search.proofs.walk.+conditions+solve+solve_atom+solve_lend+s
 }
 
 abbrev μ-conditions : Measures 5 conditions-kinds.ps ℕ
-μ-conditions κs a = ((a .1 .1 .1 .1 .1 .1 .1 .1 .0) .depth + ((a .1 .1 .1 .1 .1 .0) .limit - (a .1 .1 .1 .1 .1 .1 .1 .1 .0) .at)) * 4096 + 4 * (a .1 .1 .1 .1 .1 .1 .1 .0) + 2
+μ-conditions κs a =
+    ((a .1 .1 .1 .1 .1 .1 .1 .1 .0) .depth + ((a .1 .1 .1 .1 .1 .0) .limit - (a .1 .1 .1 .1 .1 .1 .1 .1 .0) .at)) * 4096 + 4 *
+    (a .1 .1 .1 .1 .1 .1 .1 .0) + 2
 
 abbrev μ-solve : Measures 5 solve-kinds.ps ℕ
-μ-solve κs a = ((a .1 .1 .1 .1 .1 .1 .1 .0) .depth + ((a .1 .1 .1 .1 .1 .0) .limit - (a .1 .1 .1 .1 .1 .1 .1 .0) .at)) * 4096 + 4 * (a .1 .1 .1 .1 .1 .1 .0) + 3
+μ-solve κs a =
+    ((a .1 .1 .1 .1 .1 .1 .1 .0) .depth + ((a .1 .1 .1 .1 .1 .0) .limit - (a .1 .1 .1 .1 .1 .1 .1 .0) .at)) * 4096 + 4 *
+    (a .1 .1 .1 .1 .1 .1 .0) + 3
 
 abbrev μ-solve-atom : Measures 5 solve-atom-kinds.ps ℕ
-μ-solve-atom κs a = ((a .1 .1 .1 .1 .1 .1 .1 .0) .depth + ((a .1 .1 .1 .1 .1 .0) .limit - (a .1 .1 .1 .1 .1 .1 .1 .0) .at)) * 4096 + 4 * (a .1 .1 .1 .1 .1 .1 .0) + 2
+μ-solve-atom κs a =
+    ((a .1 .1 .1 .1 .1 .1 .1 .0) .depth + ((a .1 .1 .1 .1 .1 .0) .limit - (a .1 .1 .1 .1 .1 .1 .1 .0) .at)) * 4096 + 4 *
+    (a .1 .1 .1 .1 .1 .1 .0) + 2
 
 abbrev μ-solve-lend : Measures 5 solve-lend-kinds.ps ℕ
-μ-solve-lend κs a = ((a .1 .1 .1 .1 .1 .1 .1 .0) .depth + ((a .1 .1 .1 .1 .1 .0) .limit - (a .1 .1 .1 .1 .1 .1 .1 .0) .at)) * 4096 + 4 * (a .1 .1 .1 .1 .1 .1 .0) + 2
+μ-solve-lend κs a =
+    ((a .1 .1 .1 .1 .1 .1 .1 .0) .depth + ((a .1 .1 .1 .1 .1 .0) .limit - (a .1 .1 .1 .1 .1 .1 .1 .0) .at)) * 4096 + 4 *
+    (a .1 .1 .1 .1 .1 .1 .0) + 2
 
 abbrev μ-solve-tensor : Measures 5 solve-tensor-kinds.ps ℕ
-μ-solve-tensor κs a = ((a .1 .1 .1 .1 .1 .1 .1 .0) .depth + ((a .1 .1 .1 .1 .1 .0) .limit - (a .1 .1 .1 .1 .1 .1 .1 .0) .at)) * 4096 + 4 * (a .1 .1 .1 .1 .1 .1 .0) + 2
+μ-solve-tensor κs a =
+    ((a .1 .1 .1 .1 .1 .1 .1 .0) .depth + ((a .1 .1 .1 .1 .1 .0) .limit - (a .1 .1 .1 .1 .1 .1 .1 .0) .at)) * 4096 + 4 *
+    (a .1 .1 .1 .1 .1 .1 .0) + 2
 
 abbrev μ-solve-with : Measures 5 solve-with-kinds.ps ℕ
-μ-solve-with κs a = ((a .1 .1 .1 .1 .1 .1 .1 .0) .depth + ((a .1 .1 .1 .1 .1 .0) .limit - (a .1 .1 .1 .1 .1 .1 .1 .0) .at)) * 4096 + 4 * (a .1 .1 .1 .1 .1 .1 .0) + 2
+μ-solve-with κs a =
+    ((a .1 .1 .1 .1 .1 .1 .1 .0) .depth + ((a .1 .1 .1 .1 .1 .0) .limit - (a .1 .1 .1 .1 .1 .1 .1 .0) .at)) * 4096 + 4 *
+    (a .1 .1 .1 .1 .1 .1 .0) + 2
 
 abbrev μ-use-clause : Measures 5 use-clause-kinds.ps ℕ
 μ-use-clause κs a = ((a .1 .1 .1 .1 .1 .1 .1 .1 .0) .depth + ((a .1 .1 .1 .1 .1 .0) .limit - (a .1 .1 .1 .1 .1 .1 .1 .1 .0) .at)) * 4096
@@ -132,25 +148,98 @@ use-clause-below t =
     and 5 use-clause-kinds.ps (falls 5 use-clause-kinds.ps _<_ μ-use-clause t) use-clause.Pre
 
 abbrev conditions-claims : ℕ → conditions-lts.Claims
-conditions-claims t = (kind-reads.Asked, kind-reads.Learnt, closed-reads.Asked, closed-reads.Learnt, right-reads.Asked, right-reads.Learnt, opened-reads.Asked, opened-reads.Learnt, conditions-below t, conditions.Post, left-reads.Asked, left-reads.Learnt, past-tensor-reads.Asked, past-tensor-reads.Learnt, solve-below t, solve.Post, and-then-reads.Asked, and-then-reads.Learnt)
+conditions-claims t = (
+  kind-reads.Asked,
+  kind-reads.Learnt,
+  closed-reads.Asked,
+  closed-reads.Learnt,
+  right-reads.Asked,
+  right-reads.Learnt,
+  opened-reads.Asked,
+  opened-reads.Learnt,
+  conditions-below t,
+  conditions.Post,
+  left-reads.Asked,
+  left-reads.Learnt,
+  past-tensor-reads.Asked,
+  past-tensor-reads.Learnt,
+  solve-below t,
+  solve.Post,
+  and-then-reads.Asked,
+  and-then-reads.Learnt,
+)
 
 abbrev solve-claims : ℕ → solve-lts.Claims
-solve-claims t = (kind-reads.Asked, kind-reads.Learnt, solve-atom-below t, solve-atom.Post, covered-reads.Asked, covered-reads.Learnt, closed-reads.Asked, closed-reads.Learnt, solve-tensor-below t, solve-tensor.Post, solve-with-below t, solve-with.Post, solve-lend-below t, solve-lend.Post)
+solve-claims t = (
+  kind-reads.Asked,
+  kind-reads.Learnt,
+  solve-atom-below t,
+  solve-atom.Post,
+  covered-reads.Asked,
+  covered-reads.Learnt,
+  closed-reads.Asked,
+  closed-reads.Learnt,
+  solve-tensor-below t,
+  solve-tensor.Post,
+  solve-with-below t,
+  solve-with.Post,
+  solve-lend-below
+      t,
+  solve-lend.Post,
+)
 
 abbrev solve-atom-claims : ℕ → solve-atom-lts.Claims
 solve-atom-claims t = (left-reads.Asked, left-reads.Learnt, choose-reads.Asked, choose-reads.Learnt, use-clause-below t, use-clause.Post)
 
 abbrev solve-lend-claims : ℕ → solve-lend-lts.Claims
-solve-lend-claims t = (left-reads.Asked, left-reads.Learnt, put-reads.Asked, put-reads.Learnt, right-reads.Asked, right-reads.Learnt, lent-reads.Asked, lent-reads.Learnt, solve-below t, solve.Post, without-reads.Asked, without-reads.Learnt)
+solve-lend-claims t = (
+  left-reads.Asked,
+  left-reads.Learnt,
+  put-reads.Asked,
+  put-reads.Learnt,
+  right-reads.Asked,
+  right-reads.Learnt,
+  lent-reads.Asked,
+  lent-reads.Learnt,
+  solve-below t,
+  solve.Post,
+  without-reads.Asked,
+  without-reads.Learnt,
+)
 
 abbrev solve-tensor-claims : ℕ → solve-tensor-lts.Claims
-solve-tensor-claims t = (left-reads.Asked, left-reads.Learnt, opened-reads.Asked, opened-reads.Learnt, solve-below t, solve.Post, right-reads.Asked, right-reads.Learnt, past-tensor-reads.Asked, past-tensor-reads.Learnt, and-then-reads.Asked, and-then-reads.Learnt)
+solve-tensor-claims t = (
+  left-reads.Asked,
+  left-reads.Learnt,
+  opened-reads.Asked,
+  opened-reads.Learnt,
+  solve-below t,
+  solve.Post,
+  right-reads.Asked,
+  right-reads.Learnt,
+  past-tensor-reads.Asked,
+  past-tensor-reads.Learnt,
+  and-then-reads.Asked,
+  and-then-reads.Learnt,
+)
 
 abbrev solve-with-claims : ℕ → solve-with-lts.Claims
-solve-with-claims t = (left-reads.Asked, left-reads.Learnt, solve-below t, solve.Post, right-reads.Asked, right-reads.Learnt, past-with-reads.Asked, past-with-reads.Learnt, beside-reads.Asked, beside-reads.Learnt)
+solve-with-claims t = (
+  left-reads.Asked,
+  left-reads.Learnt,
+  solve-below t,
+  solve.Post,
+  right-reads.Asked,
+  right-reads.Learnt,
+  past-with-reads.Asked,
+  past-with-reads.Learnt,
+  beside-reads.Asked,
+  beside-reads.Learnt,
+)
 
 abbrev use-clause-claims : ℕ → use-clause-lts.Claims
-use-clause-claims t = (deeper-reads.Asked, deeper-reads.Learnt, conditions-below t, conditions.Post, behind-reads.Asked, behind-reads.Learnt)
+use-clause-claims t =
+    (deeper-reads.Asked, deeper-reads.Learnt, conditions-below t, conditions.Post, behind-reads.Asked, behind-reads.Learnt)
 
 conditions-kind-requires : (t : ℕ) → conditions-lts.Need-kind-requires (conditions-claims t) (conditions-at t) conditions.Post
 conditions-kind-requires t c κs = clause-here (c .before .pre .1 .0) _ _ (c .before .pre .1 .1)
@@ -159,7 +248,9 @@ conditions-closed-requires : (t : ℕ) → conditions-lts.Need-closed-requires (
 conditions-closed-requires t c κs = search needs
 
 conditions-returns : (t : ℕ) → conditions-lts.Need-returns (conditions-claims t) (conditions-at t) conditions.Post
-conditions-returns t c = head-met (c .before .before .before .before .pre .1 .0) _ _ (c .before .before .before .before .pre .1 .1) (search needs) (λ q. c .before .if1 .taken (c .before .before .kind .ensures .0 ∙ q)) _ (c .closed .ensures)
+conditions-returns t c =
+    head-met (c .before .before .before .before .pre .1 .0) _ _ (c .before .before .before .before .pre .1 .1) (search needs)
+    (λ q. c .before .if1 .taken (c .before .before .kind .ensures .0 ∙ q)) _ (c .closed .ensures)
 
 conditions-right-requires : (t : ℕ) → conditions-lts.Need-right-requires (conditions-claims t) (conditions-at t) conditions.Post
 conditions-right-requires t c κs = clause-here (c .before .before .before .pre .1 .0) _ _ (c .before .before .before .pre .1 .1)
@@ -168,7 +259,12 @@ conditions-opened-requires : (t : ℕ) → conditions-lts.Need-opened-requires (
 conditions-opened-requires t c κs = search needs
 
 conditions-conditions-requires : (t : ℕ) → conditions-lts.Need-conditions-requires (conditions-claims t) (conditions-at t) conditions.Post
-conditions-conditions-requires t c κs = row-call-1 (c .before .before .before .before .before .before .before .before .pre .1 .0) _ _ (c .before .before .before .before .before .before .before .before .pre .1 .1) (sym (c .before .before .before .before .before .before .kind .ensures .0) ∙ c .before .before .before .before .before .if1 .left) t (c .before .before .before .before .before .before .before .before .pre .0) _ (c .before .before .before .before .right .ensures .0) _ (c .opened .ensures)
+conditions-conditions-requires t c κs =
+    row-call-1 (c .before .before .before .before .before .before .before .before .pre .1 .0) _ _
+    (c .before .before .before .before .before .before .before .before .pre .1 .1)
+    (sym (c .before .before .before .before .before .before .kind .ensures .0) ∙ c .before .before .before .before .before .if1 .left) t
+    (c .before .before .before .before .before .before .before .before .pre .0) _ (c .before .before .before .before .right .ensures .0) _
+    (c .opened .ensures)
 
 conditions-enum-known-first : (t : ℕ) → conditions-lts.Need-enum-known-first (conditions-claims t) (conditions-at t) conditions.Post
 conditions-enum-known-first t c = search needs
@@ -177,16 +273,36 @@ conditions-enum-told : (t : ℕ) → conditions-lts.Need-enum-told (conditions-c
 conditions-enum-told t c = search needs
 
 conditions-returns-2 : (t : ℕ) → conditions-lts.Need-returns-2 (conditions-claims t) (conditions-at t) conditions.Post
-conditions-returns-2 t c = row-return-1 (c .before .before .before .before .before .before .before .before .before .before .before .pre .1 .0) _ _ (c .before .before .before .before .before .before .before .before .before .before .before .pre .1 .1) (sym (c .before .before .before .before .before .before .before .before .before .kind .ensures .0) ∙ c .before .before .before .before .before .before .before .before .if1 .left) _ (c .before .before .before .before .before .before .before .right .ensures .0) _ (c .before .before .before .opened .ensures) _ (c .before .before .conditions .ensures) _ (c .enum-told .given .1)
+conditions-returns-2 t c =
+    row-return-1 (c .before .before .before .before .before .before .before .before .before .before .before .pre .1 .0) _ _
+    (c .before .before .before .before .before .before .before .before .before .before .before .pre .1 .1)
+    (sym (c .before .before .before .before .before .before .before .before .before .kind .ensures .0)
+    ∙ c .before .before .before .before .before .before .before .before .if1 .left) _
+    (c .before .before .before .before .before .before .before .right .ensures .0) _ (c .before .before .before .opened .ensures) _
+    (c .before .before .conditions .ensures) _ (c .enum-told .given .1)
 
 conditions-left-requires : (t : ℕ) → conditions-lts.Need-left-requires (conditions-claims t) (conditions-at t) conditions.Post
-conditions-left-requires t c κs = clause-here (c .before .before .before .before .before .before .before .before .before .before .before .before .pre .1 .0) _ _ (c .before .before .before .before .before .before .before .before .before .before .before .before .pre .1 .1)
+conditions-left-requires t c κs =
+    clause-here (c .before .before .before .before .before .before .before .before .before .before .before .before .pre .1 .0) _ _
+    (c .before .before .before .before .before .before .before .before .before .before .before .before .pre .1 .1)
 
 conditions-past-tensor-requires : (t : ℕ) → conditions-lts.Need-past-tensor-requires (conditions-claims t) (conditions-at t) conditions.Post
 conditions-past-tensor-requires t c κs = search needs
 
 conditions-solve-requires : (t : ℕ) → conditions-lts.Need-solve-requires (conditions-claims t) (conditions-at t) conditions.Post
-conditions-solve-requires t c κs = row-call-2 (c .before .before .before .before .before .before .before .before .before .before .before .before .before .before .before .before .before .pre .1 .0) _ _ (c .before .before .before .before .before .before .before .before .before .before .before .before .before .before .before .before .before .pre .1 .1) (sym (c .before .before .before .before .before .before .before .before .before .before .before .before .before .before .before .kind .ensures .0) ∙ c .before .before .before .before .before .before .before .before .before .before .before .before .before .before .if1 .left) _ (c .before .before .before .before .before .before .before .before .before .before .before .before .before .right .ensures .0) _ (c .before .before .before .before .before .before .before .before .before .opened .ensures) _ (c .before .before .before .before .before .before .before .before .conditions .ensures) _ (c .before .before .before .before .before .before .first .given .1) t (c .before .before .before .before .before .before .before .before .before .before .before .before .before .before .before .before .before .pre .0) _ (c .before .before .before .before .left .ensures .0) _ (c .past-tensor .ensures)
+conditions-solve-requires t c κs =
+    row-call-2 (c .before .before .before .before .before .before .before .before .before .before .before .before .before .before .before
+    .before .before .pre .1 .0) _ _
+    (c .before .before .before .before .before .before .before .before .before .before .before .before .before .before .before .before
+    .before .pre .1 .1) (sym
+    (c .before .before .before .before .before .before .before .before .before .before .before .before .before .before .before .kind
+    .ensures .0) ∙ c .before .before .before .before .before .before .before .before .before .before .before .before .before .before .if1
+    .left) _ (c .before .before .before .before .before .before .before .before .before .before .before .before .before .right .ensures .0)
+    _ (c .before .before .before .before .before .before .before .before .before .opened .ensures) _
+    (c .before .before .before .before .before .before .before .before .conditions .ensures) _
+    (c .before .before .before .before .before .before .first .given .1) t
+    (c .before .before .before .before .before .before .before .before .before .before .before .before .before .before .before .before
+    .before .pre .0) _ (c .before .before .before .before .left .ensures .0) _ (c .past-tensor .ensures)
 
 conditions-enum-known-second : (t : ℕ) → conditions-lts.Need-enum-known-second (conditions-claims t) (conditions-at t) conditions.Post
 conditions-enum-known-second t c = search needs
@@ -195,19 +311,63 @@ conditions-enum-told-2 : (t : ℕ) → conditions-lts.Need-enum-told-2 (conditio
 conditions-enum-told-2 t c = search needs
 
 conditions-returns-3 : (t : ℕ) → conditions-lts.Need-returns-3 (conditions-claims t) (conditions-at t) conditions.Post
-conditions-returns-3 t c = rw (joined-stuck _||_ (c .before .before .before .before .before .before .before .before .before .first .given .0 .0) (c .before .before .solve .result) (c .enum-told2 .given .0 .0) (c .enum-told2 .given .1)) at (row-joined (c .before .before .before .before .before .before .before .before .before .before .before .before .before .before .before .before .before .before .before .before .pre .1 .0) _ _ (c .before .before .before .before .before .before .before .before .before .before .before .before .before .before .before .before .before .before .before .before .pre .1 .1) (sym (c .before .before .before .before .before .before .before .before .before .before .before .before .before .before .before .before .before .before .kind .ensures .0) ∙ c .before .before .before .before .before .before .before .before .before .before .before .before .before .before .before .before .before .if1 .left) _ (c .before .before .before .before .before .before .before .before .before .before .before .before .before .before .before .before .right .ensures .0) _ (c .before .before .before .before .before .before .before .before .before .before .before .before .opened .ensures) _ (c .before .before .before .before .before .before .before .before .before .before .before .conditions .ensures) _ (c .before .before .before .before .before .before .before .before .before .first .given .1) _ (c .before .before .before .before .before .before .before .left .ensures .0) _ (c .before .before .before .past-tensor .ensures) _ (c .before .before .solve .ensures))
+conditions-returns-3 t c =
+    rw (joined-stuck _||_ (c .before .before .before .before .before .before .before .before .before .first .given .0 .0)
+    (c .before .before .solve .result) (c .enum-told2 .given .0 .0) (c .enum-told2 .given .1)) at
+    (row-joined (c .before .before .before .before .before .before .before .before .before .before .before .before .before .before .before
+    .before .before .before .before .before .pre .1 .0) _ _
+    (c .before .before .before .before .before .before .before .before .before .before .before .before .before .before .before .before
+    .before .before .before .before .pre .1 .1) (sym
+    (c .before .before .before .before .before .before .before .before .before .before .before .before .before .before .before .before
+    .before .before .kind .ensures .0)
+    ∙ c .before .before .before .before .before .before .before .before .before .before .before .before .before .before .before .before
+    .before .if1 .left) _
+    (c .before .before .before .before .before .before .before .before .before .before .before .before .before .before .before .before
+    .right .ensures .0) _
+    (c .before .before .before .before .before .before .before .before .before .before .before .before .opened .ensures) _
+    (c .before .before .before .before .before .before .before .before .before .before .before .conditions .ensures) _
+    (c .before .before .before .before .before .before .before .before .before .first .given .1) _
+    (c .before .before .before .before .before .before .before .left .ensures .0) _ (c .before .before .before .past-tensor .ensures) _
+    (c .before .before .solve .ensures))
 
 conditions-and-then-requires : (t : ℕ) → conditions-lts.Need-and-then-requires (conditions-claims t) (conditions-at t) conditions.Post
 conditions-and-then-requires t c κs = search needs
 
 conditions-returns-4 : (t : ℕ) → conditions-lts.Need-returns-4 (conditions-claims t) (conditions-at t) conditions.Post
-conditions-returns-4 t c = rw (joined-solved _||_ (c .before .before .before .before .before .before .before .before .before .before .before .first .given .0 .0) (c .before .before .second .given .0 .0) (c .and-then .result) (c .before .before .before .before .solve .result) (c .before .before .second .given .1) (c .and-then .ensures)) at (row-joined (c .before .before .before .before .before .before .before .before .before .before .before .before .before .before .before .before .before .before .before .before .before .before .pre .1 .0) _ _ (c .before .before .before .before .before .before .before .before .before .before .before .before .before .before .before .before .before .before .before .before .before .before .pre .1 .1) (sym (c .before .before .before .before .before .before .before .before .before .before .before .before .before .before .before .before .before .before .before .before .kind .ensures .0) ∙ c .before .before .before .before .before .before .before .before .before .before .before .before .before .before .before .before .before .before .before .if1 .left) _ (c .before .before .before .before .before .before .before .before .before .before .before .before .before .before .before .before .before .before .right .ensures .0) _ (c .before .before .before .before .before .before .before .before .before .before .before .before .before .before .opened .ensures) _ (c .before .before .before .before .before .before .before .before .before .before .before .before .before .conditions .ensures) _ (c .before .before .before .before .before .before .before .before .before .before .before .first .given .1) _ (c .before .before .before .before .before .before .before .before .before .left .ensures .0) _ (c .before .before .before .before .before .past-tensor .ensures) _ (c .before .before .before .before .solve .ensures))
+conditions-returns-4 t c =
+    rw (joined-solved _||_ (c .before .before .before .before .before .before .before .before .before .before .before .first .given .0 .0)
+    (c .before .before .second .given .0 .0) (c .and-then .result) (c .before .before .before .before .solve .result)
+    (c .before .before .second .given .1) (c .and-then .ensures)) at
+    (row-joined (c .before .before .before .before .before .before .before .before .before .before .before .before .before .before .before
+    .before .before .before .before .before .before .before .pre .1 .0) _ _
+    (c .before .before .before .before .before .before .before .before .before .before .before .before .before .before .before .before
+    .before .before .before .before .before .before .pre .1 .1)
+    (sym (c .before .before .before .before .before .before .before .before .before .before .before .before .before .before .before .before
+    .before .before .before .before .kind .ensures .0)
+    ∙ c .before .before .before .before .before .before .before .before .before .before .before .before .before .before .before .before
+    .before .before .before .if1 .left) _
+    (c .before .before .before .before .before .before .before .before .before .before .before .before .before .before .before .before
+    .before .before .right .ensures .0) _
+    (c .before .before .before .before .before .before .before .before .before .before .before .before .before .before .opened .ensures) _
+    (c .before .before .before .before .before .before .before .before .before .before .before .before .before .conditions .ensures) _
+    (c .before .before .before .before .before .before .before .before .before .before .before .first .given .1) _
+    (c .before .before .before .before .before .before .before .before .before .left .ensures .0) _
+    (c .before .before .before .before .before .past-tensor .ensures) _ (c .before .before .before .before .solve .ensures))
 
 solve-kind-requires : (t : ℕ) → solve-lts.Need-kind-requires (solve-claims t) (solve-at t) solve.Post
 solve-kind-requires t c κs = goal-here (c .before .pre .1 .0) _ (c .before .pre .1 .1)
 
 solve-solve-atom-requires : (t : ℕ) → solve-lts.Need-solve-atom-requires (solve-claims t) (solve-at t) solve.Post
-solve-solve-atom-requires t c κs = (omega (arith, (c .before .before .before .before .before .before .pre .0)), ((c .before .before .before .before .before .before .pre .1 .0), ((c .before .before .before .before .before .before .pre .1 .1), (sym (c .before .before .before .before .kind .ensures .0) ∙ c .before .before .before .match .keys1))))
+solve-solve-atom-requires t c κs = (
+  omega (arith, (c .before .before .before .before .before .before .pre .0)),
+  (
+    (c .before .before .before .before .before .before .pre .1 .0),
+    (
+      (c .before .before .before .before .before .before .pre .1 .1),
+      (sym (c .before .before .before .before .kind .ensures .0) ∙ c .before .before .before .match .keys1),
+    ),
+  ),
+)
 
 solve-covered-requires : (t : ℕ) → solve-lts.Need-covered-requires (solve-claims t) (solve-at t) solve.Post
 solve-covered-requires t c κs = search needs
@@ -216,22 +376,59 @@ solve-closed-requires : (t : ℕ) → solve-lts.Need-closed-requires (solve-clai
 solve-closed-requires t c κs = search needs
 
 solve-solve-tensor-requires : (t : ℕ) → solve-lts.Need-solve-tensor-requires (solve-claims t) (solve-at t) solve.Post
-solve-solve-tensor-requires t c κs = (omega (arith, (c .before .before .before .before .before .before .pre .0)), ((c .before .before .before .before .before .before .pre .1 .0), ((c .before .before .before .before .before .before .pre .1 .1), (sym (c .before .before .before .before .kind .ensures .0) ∙ c .before .before .before .match .keys4))))
+solve-solve-tensor-requires t c κs = (
+  omega (arith, (c .before .before .before .before .before .before .pre .0)),
+  (
+    (c .before .before .before .before .before .before .pre .1 .0),
+    (
+      (c .before .before .before .before .before .before .pre .1 .1),
+      (sym (c .before .before .before .before .kind .ensures .0) ∙ c .before .before .before .match .keys4),
+    ),
+  ),
+)
 
 solve-solve-with-requires : (t : ℕ) → solve-lts.Need-solve-with-requires (solve-claims t) (solve-at t) solve.Post
-solve-solve-with-requires t c κs = (omega (arith, (c .before .before .before .before .before .before .pre .0)), ((c .before .before .before .before .before .before .pre .1 .0), ((c .before .before .before .before .before .before .pre .1 .1), (sym (c .before .before .before .before .kind .ensures .0) ∙ c .before .before .before .match .keys5))))
+solve-solve-with-requires t c κs = (
+  omega (arith, (c .before .before .before .before .before .before .pre .0)),
+  (
+    (c .before .before .before .before .before .before .pre .1 .0),
+    (
+      (c .before .before .before .before .before .before .pre .1 .1),
+      (sym (c .before .before .before .before .kind .ensures .0) ∙ c .before .before .before .match .keys5),
+    ),
+  ),
+)
 
 solve-solve-lend-requires : (t : ℕ) → solve-lts.Need-solve-lend-requires (solve-claims t) (solve-at t) solve.Post
-solve-solve-lend-requires t c κs = (omega (arith, (c .before .before .before .before .before .before .pre .0)), ((c .before .before .before .before .before .before .pre .1 .0), ((c .before .before .before .before .before .before .pre .1 .1), (kind-six (c .before .before .before .before .before .before .pre .1 .0) _ (c .before .before .before .before .before .before .pre .1 .1) (λ q. c .before .before .before .match .rest .0 .0 .0 .0 .1 ((c .before .before .before .before .kind .ensures .0) ∙ q)) (λ q. c .before .before .before .match .rest .0 .0 .0 .1 ((c .before .before .before .before .kind .ensures .0) ∙ q)) (λ q. c .before .before .before .match .rest .0 .0 .1 ((c .before .before .before .before .kind .ensures .0) ∙ q)) (λ q. c .before .before .before .match .rest .0 .1 ((c .before .before .before .before .kind .ensures .0) ∙ q)) (λ q. c .before .before .before .match .rest .1 ((c .before .before .before .before .kind .ensures .0) ∙ q))))))
+solve-solve-lend-requires t c κs = (
+  omega (arith, (c .before .before .before .before .before .before .pre .0)),
+  (
+    (c .before .before .before .before .before .before .pre .1 .0),
+    (
+      (c .before .before .before .before .before .before .pre .1 .1),
+      (kind-six (c .before .before .before .before .before .before .pre .1 .0) _
+          (c .before .before .before .before .before .before .pre .1 .1)
+          (λ q. c .before .before .before .match .rest .0 .0 .0 .0 .1 ((c .before .before .before .before .kind .ensures .0) ∙ q))
+          (λ q. c .before .before .before .match .rest .0 .0 .0 .1 ((c .before .before .before .before .kind .ensures .0) ∙ q))
+          (λ q. c .before .before .before .match .rest .0 .0 .1 ((c .before .before .before .before .kind .ensures .0) ∙ q))
+          (λ q. c .before .before .before .match .rest .0 .1 ((c .before .before .before .before .kind .ensures .0) ∙ q))
+          (λ q. c .before .before .before .match .rest .1 ((c .before .before .before .before .kind .ensures .0) ∙ q))),
+    ),
+  ),
+)
 
 solve-returns : (t : ℕ) → solve-lts.Need-returns (solve-claims t) (solve-at t) solve.Post
 solve-returns t c = c .solve-atom .ensures
 
 solve-returns-2 : (t : ℕ) → solve-lts.Need-returns-2 (solve-claims t) (solve-at t) solve.Post
-solve-returns-2 t c = rest-returned (c .before .before .before .before .pre .1 .0) _ (c .before .before .before .before .pre .1 .1) (sym (c .before .before .kind .ensures .0) ∙ c .before .match .keys2) _ (c .covered .ensures)
+solve-returns-2 t c =
+    rest-returned (c .before .before .before .before .pre .1 .0) _ (c .before .before .before .before .pre .1 .1)
+    (sym (c .before .before .kind .ensures .0) ∙ c .before .match .keys2) _ (c .covered .ensures)
 
 solve-returns-3 : (t : ℕ) → solve-lts.Need-returns-3 (solve-claims t) (solve-at t) solve.Post
-solve-returns-3 t c = done-returned (c .before .before .before .before .pre .1 .0) _ (c .before .before .before .before .pre .1 .1) (search needs) (sym (c .before .before .kind .ensures .0) ∙ c .before .match .keys3) _ (c .closed .ensures)
+solve-returns-3 t c =
+    done-returned (c .before .before .before .before .pre .1 .0) _ (c .before .before .before .before .pre .1 .1) (search needs)
+    (sym (c .before .before .kind .ensures .0) ∙ c .before .match .keys3) _ (c .closed .ensures)
 
 solve-returns-4 : (t : ℕ) → solve-lts.Need-returns-4 (solve-claims t) (solve-at t) solve.Post
 solve-returns-4 t c = c .solve-tensor .ensures
@@ -246,40 +443,90 @@ solve-atom-left-requires : (t : ℕ) → solve-atom-lts.Need-left-requires (solv
 solve-atom-left-requires t c κs = goal-here (c .before .pre .1 .0) _ (c .before .pre .1 .1 .0)
 
 solve-atom-choose-requires : (t : ℕ) → solve-atom-lts.Need-choose-requires (solve-atom-claims t) (solve-atom-at t) solve-atom.Post
-solve-atom-choose-requires t c κs = ((c .before .before .before .before .before .pre .1 .0), name-small (c .before .before .before .before .before .pre .1 .0) _ (c .before .before .before .before .before .pre .1 .1 .0) (c .before .before .before .before .before .pre .1 .1 .1) _ (c .before .before .before .left .ensures .0))
+solve-atom-choose-requires t c κs = (
+  (c .before .before .before .before .before .pre .1 .0),
+  name-small (c .before .before .before .before .before .pre .1 .0) _
+      (c .before .before .before .before .before .pre .1 .1 .0) (c .before .before .before .before .before .pre .1 .1 .1) _
+      (c .before .before .before .left .ensures .0),
+)
 
 solve-atom-enum-known-choice : (t : ℕ) → solve-atom-lts.Need-enum-known-choice (solve-atom-claims t) (solve-atom-at t) solve-atom.Post
 solve-atom-enum-known-choice t c = search needs
 
 solve-atom-use-clause-requires : (t : ℕ) → solve-atom-lts.Need-use-clause-requires (solve-atom-claims t) (solve-atom-at t) solve-atom.Post
-solve-atom-use-clause-requires t c κs = atom-call (c .before .before .before .before .before .before .before .before .before .before .before .before .pre .1 .0) _ (c .before .before .before .before .before .before .before .before .before .before .before .before .pre .1 .1 .0) (c .before .before .before .before .before .before .before .before .before .before .before .before .pre .1 .1 .1) _ (c .before .before .before .before .before .before .before .before .before .before .left .ensures .0) _ _ (c .before .before .before .before .choice .given .1) (c .before .before .before .before .before .before .choose .ensures .1) t (c .before .before .before .before .before .before .before .before .before .before .before .before .pre .0)
+solve-atom-use-clause-requires t c κs =
+    atom-call (c .before .before .before .before .before .before .before .before .before .before .before .before .pre .1 .0) _
+    (c .before .before .before .before .before .before .before .before .before .before .before .before .pre .1 .1 .0)
+    (c .before .before .before .before .before .before .before .before .before .before .before .before .pre .1 .1 .1) _
+    (c .before .before .before .before .before .before .before .before .before .before .left .ensures .0) _ _
+    (c .before .before .before .before .choice .given .1) (c .before .before .before .before .before .before .choose .ensures .1) t
+    (c .before .before .before .before .before .before .before .before .before .before .before .before .pre .0)
 
 solve-atom-enum-known-choice-2 : (t : ℕ) → solve-atom-lts.Need-enum-known-choice-2 (solve-atom-claims t) (solve-atom-at t) solve-atom.Post
 solve-atom-enum-known-choice-2 t c = search needs
 
 solve-atom-returns : (t : ℕ) → solve-atom-lts.Need-returns (solve-atom-claims t) (solve-atom-at t) solve-atom.Post
-solve-atom-returns t c = atom-returned (c .before .before .before .before .before .before .before .before .before .before .before .before .before .pre .1 .0) _ (c .before .before .before .before .before .before .before .before .before .before .before .before .before .pre .1 .1 .0) (c .before .before .before .before .before .before .before .before .before .before .before .before .before .pre .1 .1 .1) _ (c .before .before .before .before .before .before .before .before .before .before .before .left .ensures .0) _ _ (c .before .before .before .before .before .choice .given .1) (c .before .before .before .before .before .before .before .choose .ensures .0) (c .use-clause .ensures)
+solve-atom-returns t c =
+    atom-returned (c .before .before .before .before .before .before .before .before .before .before .before .before .before .pre .1 .0) _
+    (c .before .before .before .before .before .before .before .before .before .before .before .before .before .pre .1 .1 .0)
+    (c .before .before .before .before .before .before .before .before .before .before .before .before .before .pre .1 .1 .1) _
+    (c .before .before .before .before .before .before .before .before .before .before .before .left .ensures .0) _ _
+    (c .before .before .before .before .before .choice .given .1)
+    (c .before .before .before .before .before .before .before .choose .ensures .0) (c .use-clause .ensures)
 
 solve-atom-returns-2 : (t : ℕ) → solve-atom-lts.Need-returns-2 (solve-atom-claims t) (solve-atom-at t) solve-atom.Post
-solve-atom-returns-2 t c = atom-stuck (c .before .before .before .before .before .before .before .before .before .pre .1 .0) _ (c .before .before .before .before .before .before .before .before .before .pre .1 .1 .0) (c .before .before .before .before .before .before .before .before .before .pre .1 .1 .1) _ (c .before .before .before .before .before .before .before .left .ensures .0) _ _ (c .before .choice2 .given .1) (c .before .before .before .choose .ensures .1) (c .before .before .before .choose .ensures .0)
+solve-atom-returns-2 t c =
+    atom-stuck (c .before .before .before .before .before .before .before .before .before .pre .1 .0) _
+    (c .before .before .before .before .before .before .before .before .before .pre .1 .1 .0)
+    (c .before .before .before .before .before .before .before .before .before .pre .1 .1 .1) _
+    (c .before .before .before .before .before .before .before .left .ensures .0) _ _ (c .before .choice2 .given .1)
+    (c .before .before .before .choose .ensures .1) (c .before .before .before .choose .ensures .0)
 
 solve-lend-left-requires : (t : ℕ) → solve-lend-lts.Need-left-requires (solve-lend-claims t) (solve-lend-at t) solve-lend.Post
 solve-lend-left-requires t c κs = goal-here (c .before .before .before .pre .1 .0) _ (c .before .before .before .pre .1 .1 .0)
 
 solve-lend-put-requires : (t : ℕ) → solve-lend-lts.Need-put-requires (solve-lend-claims t) (solve-lend-at t) solve-lend.Post
-solve-lend-put-requires t c κs = ((c .before .before .before .before .pre .1 .0) .sound, (rw (c .left .ensures .0) (lent-clause (c .before .before .before .before .pre .1 .0) _ (c .before .before .before .before .pre .1 .1 .0) (c .before .before .before .before .pre .1 .1 .1)), (lend-few (c .before .before .before .before .pre .1 .0) _ (c .before .before .before .before .pre .1 .1 .0) (c .before .before .before .before .pre .1 .1 .1), ((c .before .before .before .before .pre .1 .0) .entered .node-room, (c .before .before .before .before .pre .1 .0) .entered .head-room))))
+solve-lend-put-requires t c κs = (
+  (c .before .before .before .before .pre .1 .0) .sound,
+  (
+    rw (c .left .ensures .0) (lent-clause (c .before .before .before .before .pre .1 .0) _
+        (c .before .before .before .before .pre .1 .1 .0) (c .before .before .before .before .pre .1 .1 .1)),
+    (
+      lend-few (c .before .before .before .before .pre .1 .0) _ (c .before .before .before .before .pre .1 .1 .0)
+          (c .before .before .before .before .pre .1 .1 .1),
+      (
+        (c .before .before .before .before .pre .1 .0) .entered .node-room,
+        (c .before .before .before .before .pre .1 .0) .entered .head-room,
+      ),
+    ),
+  ),
+)
 
 solve-lend-sub-item : (t : ℕ) → solve-lend-lts.Need-sub-item (solve-lend-claims t) (solve-lend-at t) solve-lend.Post
 solve-lend-sub-item t c = rules-below (c .before .before .before .before .before .before .pre .1 .0)
 
 solve-lend-right-requires : (t : ℕ) → solve-lend-lts.Need-right-requires (solve-lend-claims t) (solve-lend-at t) solve-lend.Post
-solve-lend-right-requires t c κs = goal-here (c .before .before .before .before .before .before .pre .1 .0) _ (c .before .before .before .before .before .before .pre .1 .1 .0)
+solve-lend-right-requires t c κs =
+    goal-here (c .before .before .before .before .before .before .pre .1 .0) _
+    (c .before .before .before .before .before .before .pre .1 .1 .0)
 
 solve-lend-lent-requires : (t : ℕ) → solve-lend-lts.Need-lent-requires (solve-lend-claims t) (solve-lend-at t) solve-lend.Post
-solve-lend-lent-requires t c κs = let f = lend-few (c .before .before .before .before .before .before .before .before .before .before .pre .1 .0) _ (c .before .before .before .before .before .before .before .before .before .before .pre .1 .1 .0) (c .before .before .before .before .before .before .before .before .before .before .pre .1 .1 .1) in omega (arith, f)
+solve-lend-lent-requires t c κs =
+    let f = lend-few (c .before .before .before .before .before .before .before .before .before .before .pre .1 .0) _
+    (c .before .before .before .before .before .before .before .before .before .before .pre .1 .1 .0)
+    (c .before .before .before .before .before .before .before .before .before .before .pre .1 .1 .1) in
+    omega (arith, f)
 
 solve-lend-solve-requires : (t : ℕ) → solve-lend-lts.Need-solve-requires (solve-lend-claims t) (solve-lend-at t) solve-lend.Post
-solve-lend-solve-requires t c κs = lend-call (c .before .before .before .before .before .before .before .before .before .before .before .pre .1 .0) _ (c .before .before .before .before .before .before .before .before .before .before .before .pre .1 .1 .0) (c .before .before .before .before .before .before .before .before .before .before .before .pre .1 .1 .1) _ (c .before .before .before .before .before .before .before .left .ensures .0) (c .before .before .before .before .before .before .put .ensures .0) (c .before .before .before .before .before .before .put .ensures .1) _ (c .lent .ensures) t (c .before .before .before .before .before .before .before .before .before .before .before .pre .0) _ (c .before .before .before .before .right .ensures .0)
+solve-lend-solve-requires t c κs =
+    lend-call (c .before .before .before .before .before .before .before .before .before .before .before .pre .1 .0) _
+    (c .before .before .before .before .before .before .before .before .before .before .before .pre .1 .1 .0)
+    (c .before .before .before .before .before .before .before .before .before .before .before .pre .1 .1 .1) _
+    (c .before .before .before .before .before .before .before .left .ensures .0)
+    (c .before .before .before .before .before .before .put .ensures .0)
+    (c .before .before .before .before .before .before .put .ensures .1) _ (c .lent .ensures) t
+    (c .before .before .before .before .before .before .before .before .before .before .before .pre .0) _
+    (c .before .before .before .before .right .ensures .0)
 
 solve-lend-enum-known-inner : (t : ℕ) → solve-lend-lts.Need-enum-known-inner (solve-lend-claims t) (solve-lend-at t) solve-lend.Post
 solve-lend-enum-known-inner t c = search needs
@@ -288,13 +535,39 @@ solve-lend-enum-told : (t : ℕ) → solve-lend-lts.Need-enum-told (solve-lend-c
 solve-lend-enum-told t c = search needs
 
 solve-lend-returns : (t : ℕ) → solve-lend-lts.Need-returns (solve-lend-claims t) (solve-lend-at t) solve-lend.Post
-solve-lend-returns t c = rw (without-stuck (c .before .before .before .before .before .before .before .before .before .before .before .before .before .before .args .b .count - c .before .before .before .before .before .before .before .before .before .before .before .before .before .before .args .g .rules) (c .before .before .solve .result) (c .enum-told .given .0 .0) (c .enum-told .given .1)) at (lend-returned (c .before .before .before .before .before .before .before .before .before .before .before .before .before .before .pre .1 .0) _ (c .before .before .before .before .before .before .before .before .before .before .before .before .before .before .pre .1 .1 .0) (c .before .before .before .before .before .before .before .before .before .before .before .before .before .before .pre .1 .1 .1) _ (c .before .before .before .before .before .before .before .before .before .before .left .ensures .0) (c .before .before .before .before .before .before .before .before .before .put .ensures .0) (c .before .before .before .before .before .before .before .before .before .put .ensures .1) _ (c .before .before .before .lent .ensures) _ (c .before .before .before .before .before .before .before .right .ensures .0) _ (c .before .before .solve .ensures))
+solve-lend-returns t c =
+    rw (without-stuck (c .before .before .before .before .before .before .before .before .before .before .before .before .before .before
+    .args .b .count - c .before .before .before .before .before .before .before .before .before .before .before .before .before .before
+    .args .g .rules) (c .before .before .solve .result) (c .enum-told .given .0 .0) (c .enum-told .given .1)) at
+    (lend-returned (c .before .before .before .before .before .before .before .before .before .before .before .before .before .before .pre
+    .1 .0) _ (c .before .before .before .before .before .before .before .before .before .before .before .before .before .before .pre .1 .1
+    .0) (c .before .before .before .before .before .before .before .before .before .before .before .before .before .before .pre .1 .1 .1) _
+    (c .before .before .before .before .before .before .before .before .before .before .left .ensures .0)
+    (c .before .before .before .before .before .before .before .before .before .put .ensures .0)
+    (c .before .before .before .before .before .before .before .before .before .put .ensures .1) _
+    (c .before .before .before .lent .ensures) _ (c .before .before .before .before .before .before .before .right .ensures .0) _
+    (c .before .before .solve .ensures))
 
 solve-lend-without-requires : (t : ℕ) → solve-lend-lts.Need-without-requires (solve-lend-claims t) (solve-lend-at t) solve-lend.Post
 solve-lend-without-requires t c κs = search needs
 
 solve-lend-returns-2 : (t : ℕ) → solve-lend-lts.Need-returns-2 (solve-lend-claims t) (solve-lend-at t) solve-lend.Post
-solve-lend-returns-2 t c = rw (without-solved (c .before .before .before .before .before .before .before .before .before .before .before .before .before .before .before .before .args .b .count - c .before .before .before .before .before .before .before .before .before .before .before .before .before .before .before .before .args .g .rules) (c .before .before .inner .given .0 .0) (c .without .result) (c .before .before .before .before .solve .result) (c .before .before .inner .given .1) (c .without .ensures)) at (lend-returned (c .before .before .before .before .before .before .before .before .before .before .before .before .before .before .before .before .pre .1 .0) _ (c .before .before .before .before .before .before .before .before .before .before .before .before .before .before .before .before .pre .1 .1 .0) (c .before .before .before .before .before .before .before .before .before .before .before .before .before .before .before .before .pre .1 .1 .1) _ (c .before .before .before .before .before .before .before .before .before .before .before .before .left .ensures .0) (c .before .before .before .before .before .before .before .before .before .before .before .put .ensures .0) (c .before .before .before .before .before .before .before .before .before .before .before .put .ensures .1) _ (c .before .before .before .before .before .lent .ensures) _ (c .before .before .before .before .before .before .before .before .before .right .ensures .0) _ (c .before .before .before .before .solve .ensures))
+solve-lend-returns-2 t c =
+    rw (without-solved (c .before .before .before .before .before .before .before .before .before .before .before .before .before .before
+    .before .before .args .b .count - c .before .before .before .before .before .before .before .before .before .before .before .before
+    .before .before .before .before .args .g .rules) (c .before .before .inner .given .0 .0) (c .without .result)
+    (c .before .before .before .before .solve .result) (c .before .before .inner .given .1) (c .without .ensures)) at
+    (lend-returned (c .before .before .before .before .before .before .before .before .before .before .before .before .before .before
+    .before .before .pre .1 .0) _
+    (c .before .before .before .before .before .before .before .before .before .before .before .before .before .before .before .before .pre
+    .1 .1 .0) (c .before .before .before .before .before .before .before .before .before .before .before .before .before .before .before
+    .before .pre .1 .1 .1) _
+    (c .before .before .before .before .before .before .before .before .before .before .before .before .left .ensures .0)
+    (c .before .before .before .before .before .before .before .before .before .before .before .put .ensures .0)
+    (c .before .before .before .before .before .before .before .before .before .before .before .put .ensures .1) _
+    (c .before .before .before .before .before .lent .ensures) _
+    (c .before .before .before .before .before .before .before .before .before .right .ensures .0) _
+    (c .before .before .before .before .solve .ensures))
 
 solve-tensor-left-requires : (t : ℕ) → solve-tensor-lts.Need-left-requires (solve-tensor-claims t) (solve-tensor-at t) solve-tensor.Post
 solve-tensor-left-requires t c κs = goal-here (c .before .pre .1 .0) _ (c .before .pre .1 .1 .0)
@@ -303,46 +576,105 @@ solve-tensor-opened-requires : (t : ℕ) → solve-tensor-lts.Need-opened-requir
 solve-tensor-opened-requires t c κs = search needs
 
 solve-tensor-solve-requires : (t : ℕ) → solve-tensor-lts.Need-solve-requires (solve-tensor-claims t) (solve-tensor-at t) solve-tensor.Post
-solve-tensor-solve-requires t c κs = tensor-call-1 (c .before .before .before .before .before .before .pre .1 .0) _ (c .before .before .before .before .before .before .pre .1 .1 .0) (c .before .before .before .before .before .before .pre .1 .1 .1) t (c .before .before .before .before .before .before .pre .0) _ (c .before .before .before .before .left .ensures .0) _ (c .opened .ensures)
+solve-tensor-solve-requires t c κs =
+    tensor-call-1 (c .before .before .before .before .before .before .pre .1 .0) _
+    (c .before .before .before .before .before .before .pre .1 .1 .0) (c .before .before .before .before .before .before .pre .1 .1 .1) t
+    (c .before .before .before .before .before .before .pre .0) _ (c .before .before .before .before .left .ensures .0) _
+    (c .opened .ensures)
 
-solve-tensor-enum-known-first : (t : ℕ) → solve-tensor-lts.Need-enum-known-first (solve-tensor-claims t) (solve-tensor-at t) solve-tensor.Post
+solve-tensor-enum-known-first : (t : ℕ) → solve-tensor-lts.Need-enum-known-first (solve-tensor-claims t)
+    (solve-tensor-at t) solve-tensor.Post
 solve-tensor-enum-known-first t c = search needs
 
 solve-tensor-enum-told : (t : ℕ) → solve-tensor-lts.Need-enum-told (solve-tensor-claims t) (solve-tensor-at t) solve-tensor.Post
 solve-tensor-enum-told t c = search needs
 
 solve-tensor-returns : (t : ℕ) → solve-tensor-lts.Need-returns (solve-tensor-claims t) (solve-tensor-at t) solve-tensor.Post
-solve-tensor-returns t c = tensor-return-1 (c .before .before .before .before .before .before .before .before .before .pre .1 .0) _ (c .before .before .before .before .before .before .before .before .before .pre .1 .1 .0) (c .before .before .before .before .before .before .before .before .before .pre .1 .1 .1) _ (c .before .before .before .before .before .before .before .left .ensures .0) _ (c .before .before .before .opened .ensures) _ (c .before .before .solve .ensures) _ (c .enum-told .given .1)
+solve-tensor-returns t c =
+    tensor-return-1 (c .before .before .before .before .before .before .before .before .before .pre .1 .0) _
+    (c .before .before .before .before .before .before .before .before .before .pre .1 .1 .0)
+    (c .before .before .before .before .before .before .before .before .before .pre .1 .1 .1) _
+    (c .before .before .before .before .before .before .before .left .ensures .0) _ (c .before .before .before .opened .ensures) _
+    (c .before .before .solve .ensures) _ (c .enum-told .given .1)
 
 solve-tensor-right-requires : (t : ℕ) → solve-tensor-lts.Need-right-requires (solve-tensor-claims t) (solve-tensor-at t) solve-tensor.Post
-solve-tensor-right-requires t c κs = goal-here (c .before .before .before .before .before .before .before .before .before .before .pre .1 .0) _ (c .before .before .before .before .before .before .before .before .before .before .pre .1 .1 .0)
+solve-tensor-right-requires t c κs =
+    goal-here (c .before .before .before .before .before .before .before .before .before .before .pre .1 .0) _
+    (c .before .before .before .before .before .before .before .before .before .before .pre .1 .1 .0)
 
-solve-tensor-past-tensor-requires : (t : ℕ) → solve-tensor-lts.Need-past-tensor-requires (solve-tensor-claims t) (solve-tensor-at t) solve-tensor.Post
+solve-tensor-past-tensor-requires : (t : ℕ) → solve-tensor-lts.Need-past-tensor-requires (solve-tensor-claims t)
+    (solve-tensor-at t) solve-tensor.Post
 solve-tensor-past-tensor-requires t c κs = search needs
 
-solve-tensor-solve-requires-2 : (t : ℕ) → solve-tensor-lts.Need-solve-requires-2 (solve-tensor-claims t) (solve-tensor-at t) solve-tensor.Post
-solve-tensor-solve-requires-2 t c κs = tensor-call-2 (c .before .before .before .before .before .before .before .before .before .before .before .before .before .before .before .pre .1 .0) _ (c .before .before .before .before .before .before .before .before .before .before .before .before .before .before .before .pre .1 .1 .0) (c .before .before .before .before .before .before .before .before .before .before .before .before .before .before .before .pre .1 .1 .1) _ (c .before .before .before .before .before .before .before .before .before .before .before .before .before .left .ensures .0) _ (c .before .before .before .before .before .before .before .before .before .opened .ensures) _ (c .before .before .before .before .before .before .before .before .solve .ensures) _ (c .before .before .before .before .before .before .first .given .1) t (c .before .before .before .before .before .before .before .before .before .before .before .before .before .before .before .pre .0) _ (c .before .before .before .before .right .ensures .0) _ (c .past-tensor .ensures)
+solve-tensor-solve-requires-2 : (t : ℕ) → solve-tensor-lts.Need-solve-requires-2 (solve-tensor-claims t)
+    (solve-tensor-at t) solve-tensor.Post
+solve-tensor-solve-requires-2 t c κs =
+    tensor-call-2 (c .before .before .before .before .before .before .before .before .before .before .before .before .before .before .before
+    .pre .1 .0) _ (c .before .before .before .before .before .before .before .before .before .before .before .before .before .before .before
+    .pre .1 .1 .0) (c .before .before .before .before .before .before .before .before .before .before .before .before .before .before
+    .before .pre .1 .1 .1) _
+    (c .before .before .before .before .before .before .before .before .before .before .before .before .before .left .ensures .0) _
+    (c .before .before .before .before .before .before .before .before .before .opened .ensures) _
+    (c .before .before .before .before .before .before .before .before .solve .ensures) _
+    (c .before .before .before .before .before .before .first .given .1) t
+    (c .before .before .before .before .before .before .before .before .before .before .before .before .before .before .before .pre .0) _
+    (c .before .before .before .before .right .ensures .0) _ (c .past-tensor .ensures)
 
-solve-tensor-enum-known-second : (t : ℕ) → solve-tensor-lts.Need-enum-known-second (solve-tensor-claims t) (solve-tensor-at t) solve-tensor.Post
+solve-tensor-enum-known-second : (t : ℕ) → solve-tensor-lts.Need-enum-known-second (solve-tensor-claims t)
+    (solve-tensor-at t) solve-tensor.Post
 solve-tensor-enum-known-second t c = search needs
 
 solve-tensor-enum-told-2 : (t : ℕ) → solve-tensor-lts.Need-enum-told-2 (solve-tensor-claims t) (solve-tensor-at t) solve-tensor.Post
 solve-tensor-enum-told-2 t c = search needs
 
 solve-tensor-returns-2 : (t : ℕ) → solve-tensor-lts.Need-returns-2 (solve-tensor-claims t) (solve-tensor-at t) solve-tensor.Post
-solve-tensor-returns-2 t c = rw (joined-stuck _||_ (c .before .before .before .before .before .before .before .before .before .first .given .0 .0) (c .before .before .solve2 .result) (c .enum-told2 .given .0 .0) (c .enum-told2 .given .1)) at (tensor-joined (c .before .before .before .before .before .before .before .before .before .before .before .before .before .before .before .before .before .before .pre .1 .0) _ (c .before .before .before .before .before .before .before .before .before .before .before .before .before .before .before .before .before .before .pre .1 .1 .0) (c .before .before .before .before .before .before .before .before .before .before .before .before .before .before .before .before .before .before .pre .1 .1 .1) _ (c .before .before .before .before .before .before .before .before .before .before .before .before .before .before .before .before .left .ensures .0) _ (c .before .before .before .before .before .before .before .before .before .before .before .before .opened .ensures) _ (c .before .before .before .before .before .before .before .before .before .before .before .solve .ensures) _ (c .before .before .before .before .before .before .before .before .before .first .given .1) _ (c .before .before .before .before .before .before .before .right .ensures .0) _ (c .before .before .before .past-tensor .ensures) _ (c .before .before .solve2 .ensures))
+solve-tensor-returns-2 t c =
+    rw (joined-stuck _||_ (c .before .before .before .before .before .before .before .before .before .first .given .0 .0)
+    (c .before .before .solve2 .result) (c .enum-told2 .given .0 .0) (c .enum-told2 .given .1)) at
+    (tensor-joined (c .before .before .before .before .before .before .before .before .before .before .before .before .before .before
+    .before .before .before .before .pre .1 .0) _
+    (c .before .before .before .before .before .before .before .before .before .before .before .before .before .before .before .before
+    .before .before .pre .1 .1 .0)
+    (c .before .before .before .before .before .before .before .before .before .before .before .before .before .before .before .before
+    .before .before .pre .1 .1 .1) _
+    (c .before .before .before .before .before .before .before .before .before .before .before .before .before .before .before .before .left
+    .ensures .0) _ (c .before .before .before .before .before .before .before .before .before .before .before .before .opened .ensures) _
+    (c .before .before .before .before .before .before .before .before .before .before .before .solve .ensures) _
+    (c .before .before .before .before .before .before .before .before .before .first .given .1) _
+    (c .before .before .before .before .before .before .before .right .ensures .0) _ (c .before .before .before .past-tensor .ensures) _
+    (c .before .before .solve2 .ensures))
 
-solve-tensor-and-then-requires : (t : ℕ) → solve-tensor-lts.Need-and-then-requires (solve-tensor-claims t) (solve-tensor-at t) solve-tensor.Post
+solve-tensor-and-then-requires : (t : ℕ) → solve-tensor-lts.Need-and-then-requires (solve-tensor-claims t)
+    (solve-tensor-at t) solve-tensor.Post
 solve-tensor-and-then-requires t c κs = search needs
 
 solve-tensor-returns-3 : (t : ℕ) → solve-tensor-lts.Need-returns-3 (solve-tensor-claims t) (solve-tensor-at t) solve-tensor.Post
-solve-tensor-returns-3 t c = rw (joined-solved _||_ (c .before .before .before .before .before .before .before .before .before .before .before .first .given .0 .0) (c .before .before .second .given .0 .0) (c .and-then .result) (c .before .before .before .before .solve2 .result) (c .before .before .second .given .1) (c .and-then .ensures)) at (tensor-joined (c .before .before .before .before .before .before .before .before .before .before .before .before .before .before .before .before .before .before .before .before .pre .1 .0) _ (c .before .before .before .before .before .before .before .before .before .before .before .before .before .before .before .before .before .before .before .before .pre .1 .1 .0) (c .before .before .before .before .before .before .before .before .before .before .before .before .before .before .before .before .before .before .before .before .pre .1 .1 .1) _ (c .before .before .before .before .before .before .before .before .before .before .before .before .before .before .before .before .before .before .left .ensures .0) _ (c .before .before .before .before .before .before .before .before .before .before .before .before .before .before .opened .ensures) _ (c .before .before .before .before .before .before .before .before .before .before .before .before .before .solve .ensures) _ (c .before .before .before .before .before .before .before .before .before .before .before .first .given .1) _ (c .before .before .before .before .before .before .before .before .before .right .ensures .0) _ (c .before .before .before .before .before .past-tensor .ensures) _ (c .before .before .before .before .solve2 .ensures))
+solve-tensor-returns-3 t c =
+    rw (joined-solved _||_ (c .before .before .before .before .before .before .before .before .before .before .before .first .given .0 .0)
+    (c .before .before .second .given .0 .0) (c .and-then .result) (c .before .before .before .before .solve2 .result)
+    (c .before .before .second .given .1) (c .and-then .ensures)) at
+    (tensor-joined (c .before .before .before .before .before .before .before .before .before .before .before .before .before .before
+    .before .before .before .before .before .before .pre .1 .0) _
+    (c .before .before .before .before .before .before .before .before .before .before .before .before .before .before .before .before
+    .before .before .before .before .pre .1 .1 .0)
+    (c .before .before .before .before .before .before .before .before .before .before .before .before .before .before .before .before
+    .before .before .before .before .pre .1 .1 .1) _
+    (c .before .before .before .before .before .before .before .before .before .before .before .before .before .before .before .before
+    .before .before .left .ensures .0) _
+    (c .before .before .before .before .before .before .before .before .before .before .before .before .before .before .opened .ensures) _
+    (c .before .before .before .before .before .before .before .before .before .before .before .before .before .solve .ensures) _
+    (c .before .before .before .before .before .before .before .before .before .before .before .first .given .1) _
+    (c .before .before .before .before .before .before .before .before .before .right .ensures .0) _
+    (c .before .before .before .before .before .past-tensor .ensures) _ (c .before .before .before .before .solve2 .ensures))
 
 solve-with-left-requires : (t : ℕ) → solve-with-lts.Need-left-requires (solve-with-claims t) (solve-with-at t) solve-with.Post
 solve-with-left-requires t c κs = goal-here (c .before .pre .1 .0) _ (c .before .pre .1 .1 .0)
 
 solve-with-solve-requires : (t : ℕ) → solve-with-lts.Need-solve-requires (solve-with-claims t) (solve-with-at t) solve-with.Post
-solve-with-solve-requires t c κs = with-call-1 (c .before .before .before .before .before .pre .1 .0) _ (c .before .before .before .before .before .pre .1 .1 .0) (c .before .before .before .before .before .pre .1 .1 .1) t (c .before .before .before .before .before .pre .0) _ (c .before .before .before .left .ensures .0) _ refl
+solve-with-solve-requires t c κs =
+    with-call-1 (c .before .before .before .before .before .pre .1 .0) _ (c .before .before .before .before .before .pre .1 .1 .0)
+    (c .before .before .before .before .before .pre .1 .1 .1) t (c .before .before .before .before .before .pre .0) _
+    (c .before .before .before .left .ensures .0) _ refl
 
 solve-with-enum-known-first : (t : ℕ) → solve-with-lts.Need-enum-known-first (solve-with-claims t) (solve-with-at t) solve-with.Post
 solve-with-enum-known-first t c = search needs
@@ -351,16 +683,31 @@ solve-with-enum-told : (t : ℕ) → solve-with-lts.Need-enum-told (solve-with-c
 solve-with-enum-told t c = search needs
 
 solve-with-returns : (t : ℕ) → solve-with-lts.Need-returns (solve-with-claims t) (solve-with-at t) solve-with.Post
-solve-with-returns t c = with-return-1 (c .before .before .before .before .before .before .before .before .pre .1 .0) _ (c .before .before .before .before .before .before .before .before .pre .1 .1 .0) (c .before .before .before .before .before .before .before .before .pre .1 .1 .1) _ (c .before .before .before .before .before .before .left .ensures .0) _ refl _ (c .before .before .solve .ensures) _ (c .enum-told .given .1)
+solve-with-returns t c =
+    with-return-1 (c .before .before .before .before .before .before .before .before .pre .1 .0) _
+    (c .before .before .before .before .before .before .before .before .pre .1 .1 .0)
+    (c .before .before .before .before .before .before .before .before .pre .1 .1 .1) _
+    (c .before .before .before .before .before .before .left .ensures .0) _ refl _ (c .before .before .solve .ensures) _
+    (c .enum-told .given .1)
 
 solve-with-right-requires : (t : ℕ) → solve-with-lts.Need-right-requires (solve-with-claims t) (solve-with-at t) solve-with.Post
-solve-with-right-requires t c κs = goal-here (c .before .before .before .before .before .before .before .before .before .pre .1 .0) _ (c .before .before .before .before .before .before .before .before .before .pre .1 .1 .0)
+solve-with-right-requires t c κs =
+    goal-here (c .before .before .before .before .before .before .before .before .before .pre .1 .0) _
+    (c .before .before .before .before .before .before .before .before .before .pre .1 .1 .0)
 
 solve-with-past-with-requires : (t : ℕ) → solve-with-lts.Need-past-with-requires (solve-with-claims t) (solve-with-at t) solve-with.Post
 solve-with-past-with-requires t c κs = search needs
 
 solve-with-solve-requires-2 : (t : ℕ) → solve-with-lts.Need-solve-requires-2 (solve-with-claims t) (solve-with-at t) solve-with.Post
-solve-with-solve-requires-2 t c κs = with-call-2 (c .before .before .before .before .before .before .before .before .before .before .before .before .before .before .pre .1 .0) _ (c .before .before .before .before .before .before .before .before .before .before .before .before .before .before .pre .1 .1 .0) (c .before .before .before .before .before .before .before .before .before .before .before .before .before .before .pre .1 .1 .1) _ (c .before .before .before .before .before .before .before .before .before .before .before .before .left .ensures .0) _ refl _ (c .before .before .before .before .before .before .before .before .solve .ensures) _ (c .before .before .before .before .before .before .first .given .1) t (c .before .before .before .before .before .before .before .before .before .before .before .before .before .before .pre .0) _ (c .before .before .before .before .right .ensures .0) _ (c .past-with .ensures)
+solve-with-solve-requires-2 t c κs =
+    with-call-2 (c .before .before .before .before .before .before .before .before .before .before .before .before .before .before .pre .1
+    .0) _ (c .before .before .before .before .before .before .before .before .before .before .before .before .before .before .pre .1 .1 .0)
+    (c .before .before .before .before .before .before .before .before .before .before .before .before .before .before .pre .1 .1 .1) _
+    (c .before .before .before .before .before .before .before .before .before .before .before .before .left .ensures .0) _ refl _
+    (c .before .before .before .before .before .before .before .before .solve .ensures) _
+    (c .before .before .before .before .before .before .first .given .1) t
+    (c .before .before .before .before .before .before .before .before .before .before .before .before .before .before .pre .0) _
+    (c .before .before .before .before .right .ensures .0) _ (c .past-with .ensures)
 
 solve-with-enum-known-second : (t : ℕ) → solve-with-lts.Need-enum-known-second (solve-with-claims t) (solve-with-at t) solve-with.Post
 solve-with-enum-known-second t c = search needs
@@ -369,13 +716,41 @@ solve-with-enum-told-2 : (t : ℕ) → solve-with-lts.Need-enum-told-2 (solve-wi
 solve-with-enum-told-2 t c = search needs
 
 solve-with-returns-2 : (t : ℕ) → solve-with-lts.Need-returns-2 (solve-with-claims t) (solve-with-at t) solve-with.Post
-solve-with-returns-2 t c = rw (joined-stuck _&&_ (c .before .before .before .before .before .before .before .before .before .first .given .0 .0) (c .before .before .solve2 .result) (c .enum-told2 .given .0 .0) (c .enum-told2 .given .1)) at (with-joined (c .before .before .before .before .before .before .before .before .before .before .before .before .before .before .before .before .before .pre .1 .0) _ (c .before .before .before .before .before .before .before .before .before .before .before .before .before .before .before .before .before .pre .1 .1 .0) (c .before .before .before .before .before .before .before .before .before .before .before .before .before .before .before .before .before .pre .1 .1 .1) _ (c .before .before .before .before .before .before .before .before .before .before .before .before .before .before .before .left .ensures .0) _ refl _ (c .before .before .before .before .before .before .before .before .before .before .before .solve .ensures) _ (c .before .before .before .before .before .before .before .before .before .first .given .1) _ (c .before .before .before .before .before .before .before .right .ensures .0) _ (c .before .before .before .past-with .ensures) _ (c .before .before .solve2 .ensures))
+solve-with-returns-2 t c =
+    rw (joined-stuck _&&_ (c .before .before .before .before .before .before .before .before .before .first .given .0 .0)
+    (c .before .before .solve2 .result) (c .enum-told2 .given .0 .0) (c .enum-told2 .given .1)) at
+    (with-joined (c .before .before .before .before .before .before .before .before .before .before .before .before .before .before .before
+    .before .before .pre .1 .0) _
+    (c .before .before .before .before .before .before .before .before .before .before .before .before .before .before .before .before
+    .before .pre .1 .1 .0)
+    (c .before .before .before .before .before .before .before .before .before .before .before .before .before .before .before .before
+    .before .pre .1 .1 .1) _
+    (c .before .before .before .before .before .before .before .before .before .before .before .before .before .before .before .left
+    .ensures .0) _ refl _ (c .before .before .before .before .before .before .before .before .before .before .before .solve .ensures) _
+    (c .before .before .before .before .before .before .before .before .before .first .given .1) _
+    (c .before .before .before .before .before .before .before .right .ensures .0) _ (c .before .before .before .past-with .ensures) _
+    (c .before .before .solve2 .ensures))
 
 solve-with-beside-requires : (t : ℕ) → solve-with-lts.Need-beside-requires (solve-with-claims t) (solve-with-at t) solve-with.Post
 solve-with-beside-requires t c κs = search needs
 
 solve-with-returns-3 : (t : ℕ) → solve-with-lts.Need-returns-3 (solve-with-claims t) (solve-with-at t) solve-with.Post
-solve-with-returns-3 t c = rw (joined-solved _&&_ (c .before .before .before .before .before .before .before .before .before .before .before .first .given .0 .0) (c .before .before .second .given .0 .0) (c .beside .result) (c .before .before .before .before .solve2 .result) (c .before .before .second .given .1) (c .beside .ensures)) at (with-joined (c .before .before .before .before .before .before .before .before .before .before .before .before .before .before .before .before .before .before .before .pre .1 .0) _ (c .before .before .before .before .before .before .before .before .before .before .before .before .before .before .before .before .before .before .before .pre .1 .1 .0) (c .before .before .before .before .before .before .before .before .before .before .before .before .before .before .before .before .before .before .before .pre .1 .1 .1) _ (c .before .before .before .before .before .before .before .before .before .before .before .before .before .before .before .before .before .left .ensures .0) _ refl _ (c .before .before .before .before .before .before .before .before .before .before .before .before .before .solve .ensures) _ (c .before .before .before .before .before .before .before .before .before .before .before .first .given .1) _ (c .before .before .before .before .before .before .before .before .before .right .ensures .0) _ (c .before .before .before .before .before .past-with .ensures) _ (c .before .before .before .before .solve2 .ensures))
+solve-with-returns-3 t c =
+    rw (joined-solved _&&_ (c .before .before .before .before .before .before .before .before .before .before .before .first .given .0 .0)
+    (c .before .before .second .given .0 .0) (c .beside .result) (c .before .before .before .before .solve2 .result)
+    (c .before .before .second .given .1) (c .beside .ensures)) at
+    (with-joined (c .before .before .before .before .before .before .before .before .before .before .before .before .before .before .before
+    .before .before .before .before .pre .1 .0) _
+    (c .before .before .before .before .before .before .before .before .before .before .before .before .before .before .before .before
+    .before .before .before .pre .1 .1 .0)
+    (c .before .before .before .before .before .before .before .before .before .before .before .before .before .before .before .before
+    .before .before .before .pre .1 .1 .1) _
+    (c .before .before .before .before .before .before .before .before .before .before .before .before .before .before .before .before
+    .before .left .ensures .0) _ refl _
+    (c .before .before .before .before .before .before .before .before .before .before .before .before .before .solve .ensures) _
+    (c .before .before .before .before .before .before .before .before .before .before .before .first .given .1) _
+    (c .before .before .before .before .before .before .before .before .before .right .ensures .0) _
+    (c .before .before .before .before .before .past-with .ensures) _ (c .before .before .before .before .solve2 .ensures))
 
 use-clause-cast-tape : (t : ℕ) → use-clause-lts.Need-cast-tape (use-clause-claims t) (use-clause-at t) use-clause.Post
 use-clause-cast-tape t c = record { fits = use-byte (c .before .pre .1 .0) _ _ (c .before .pre .1 .1 .0) }
@@ -386,17 +761,26 @@ use-clause-element-write-tape t c = use-room (c .before .pre .1 .0) _ _ (c .befo
 use-clause-mul-node : (t : ℕ) → use-clause-lts.Need-mul-node (use-clause-claims t) (use-clause-at t) use-clause.Post
 use-clause-mul-node t c = let h = use-byte (c .before .pre .1 .0) _ _ (c .before .pre .1 .1 .0) in record { fits = omega (arith, h) }
 
-use-clause-element-copy-out-node : (t : ℕ) → use-clause-lts.Need-element-copy-out-node (use-clause-claims t) (use-clause-at t) use-clause.Post
+use-clause-element-copy-out-node : (t : ℕ) → use-clause-lts.Need-element-copy-out-node (use-clause-claims t)
+    (use-clause-at t) use-clause.Post
 use-clause-element-copy-out-node t c = use-byte (c .before .pre .1 .0) _ _ (c .before .pre .1 .1 .0)
 
 use-clause-cast-node : (t : ℕ) → use-clause-lts.Need-cast-node (use-clause-claims t) (use-clause-at t) use-clause.Post
-use-clause-cast-node t c = let h = use-node-low (c .before .before .pre .1 .0) _ _ (c .before .before .pre .1 .1 .0) in record { fits = omega (arith, h) }
+use-clause-cast-node t c =
+    let h = use-node-low (c .before .before .pre .1 .0) _ _ (c .before .before .pre .1 .1 .0) in
+    record { fits = omega (arith, h) }
 
 use-clause-deeper-requires : (t : ℕ) → use-clause-lts.Need-deeper-requires (use-clause-claims t) (use-clause-at t) use-clause.Post
-use-clause-deeper-requires t c κs = (use-room (c .before .before .before .before .before .pre .1 .0) _ _ (c .before .before .before .before .before .pre .1 .1 .0), (c .before .before .before .before .before .pre .1 .1 .0) .deep)
+use-clause-deeper-requires t c κs = (
+  use-room (c .before .before .before .before .before .pre .1 .0) _ _ (c .before .before .before .before .before .pre .1 .1 .0),
+  (c .before .before .before .before .before .pre .1 .1 .0) .deep,
+)
 
 use-clause-conditions-requires : (t : ℕ) → use-clause-lts.Need-conditions-requires (use-clause-claims t) (use-clause-at t) use-clause.Post
-use-clause-conditions-requires t c κs = use-call (c .before .before .before .before .before .before .pre .1 .0) _ _ (c .before .before .before .before .before .before .pre .1 .1 .0) _ (c .deeper .ensures) t (c .before .before .before .before .before .before .pre .0) (c .before .before .before .before .before .before .pre .1 .1 .1)
+use-clause-conditions-requires t c κs =
+    use-call (c .before .before .before .before .before .before .pre .1 .0) _ _
+    (c .before .before .before .before .before .before .pre .1 .1 .0) _ (c .deeper .ensures) t
+    (c .before .before .before .before .before .before .pre .0) (c .before .before .before .before .before .before .pre .1 .1 .1)
 
 use-clause-enum-known-inner : (t : ℕ) → use-clause-lts.Need-enum-known-inner (use-clause-claims t) (use-clause-at t) use-clause.Post
 use-clause-enum-known-inner t c = search needs
@@ -405,13 +789,26 @@ use-clause-enum-told : (t : ℕ) → use-clause-lts.Need-enum-told (use-clause-c
 use-clause-enum-told t c = search needs
 
 use-clause-returns : (t : ℕ) → use-clause-lts.Need-returns (use-clause-claims t) (use-clause-at t) use-clause.Post
-use-clause-returns t c = rw (behind-stuck (c .before .before .before .before .before .before .before .before .before .args .g .rules) (c .before .before .before .before .before .before .before .before .before .args .e) (c .before .before .conditions .result) (c .enum-told .given .0 .0) (c .enum-told .given .1)) at (use-returned (c .before .before .before .before .before .before .before .before .before .pre .1 .0) _ _ (c .before .before .before .before .before .before .before .before .before .pre .1 .1 .0) _ (c .before .before .before .deeper .ensures) _ (c .before .before .conditions .ensures))
+use-clause-returns t c =
+    rw (behind-stuck (c .before .before .before .before .before .before .before .before .before .args .g .rules)
+    (c .before .before .before .before .before .before .before .before .before .args .e) (c .before .before .conditions .result)
+    (c .enum-told .given .0 .0) (c .enum-told .given .1)) at
+    (use-returned (c .before .before .before .before .before .before .before .before .before .pre .1 .0) _ _
+    (c .before .before .before .before .before .before .before .before .before .pre .1 .1 .0) _
+    (c .before .before .before .deeper .ensures) _ (c .before .before .conditions .ensures))
 
 use-clause-behind-requires : (t : ℕ) → use-clause-lts.Need-behind-requires (use-clause-claims t) (use-clause-at t) use-clause.Post
 use-clause-behind-requires t c κs = search needs
 
 use-clause-returns-2 : (t : ℕ) → use-clause-lts.Need-returns-2 (use-clause-claims t) (use-clause-at t) use-clause.Post
-use-clause-returns-2 t c = rw (behind-solved (c .before .before .before .before .before .before .before .before .before .before .before .args .g .rules) (c .before .before .before .before .before .before .before .before .before .before .before .args .e) (c .before .before .inner .given .0 .0) (c .behind .result) (c .before .before .before .before .conditions .result) (c .before .before .inner .given .1) (c .behind .ensures)) at (use-returned (c .before .before .before .before .before .before .before .before .before .before .before .pre .1 .0) _ _ (c .before .before .before .before .before .before .before .before .before .before .before .pre .1 .1 .0) _ (c .before .before .before .before .before .deeper .ensures) _ (c .before .before .before .before .conditions .ensures))
+use-clause-returns-2 t c =
+    rw (behind-solved (c .before .before .before .before .before .before .before .before .before .before .before .args .g .rules)
+    (c .before .before .before .before .before .before .before .before .before .before .before .args .e)
+    (c .before .before .inner .given .0 .0) (c .behind .result) (c .before .before .before .before .conditions .result)
+    (c .before .before .inner .given .1) (c .behind .ensures)) at
+    (use-returned (c .before .before .before .before .before .before .before .before .before .before .before .pre .1 .0) _ _
+    (c .before .before .before .before .before .before .before .before .before .before .before .pre .1 .1 .0) _
+    (c .before .before .before .before .before .deeper .ensures) _ (c .before .before .before .before .conditions .ensures))
 
 pub +conditions+solve+solve-atom+solve-lend+solve-tensor+solve-with+use-clause-spec :
     {M : Type 1} → statement M

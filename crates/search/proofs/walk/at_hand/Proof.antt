@@ -3,7 +3,7 @@ use mathlib.Core.Path.{refl}
 use borrow.Author.Tests.{lt-leb, le-leb}
 use borrow.Author.Needs.{needs}
 use Rattle.calculus.specs.Items.{_∪_}
-use Rattle.search.specs.Told.{items}
+use Rattle.search.specs.Inner.Values.{items}
 use Rattle.search.proofs.walk.at_hand.Statement.{statement}
 use Rattle.search.proofs.walk.at_hand.Tie as tie
 
@@ -29,7 +29,12 @@ returns-3 : tie.Need-returns-3
 unfolding _∪_ items
 returns-3 c =
     let start = c .before .before .before .before .before .before in
-    rw (le-leb (start .args .rules) (start .args .e) (c .before .before .before .if1 .left), ← c .before .before .has .ensures, c .before .if2 .left)
+    rw (
+      le-leb (start .args .rules) (start .args .e)
+          (c .before .before .before .if1 .left),
+      ← c .before .before .has .ensures,
+      c .before .if2 .left,
+    )
     (c .has2 .ensures)
 
 pub at-hand-spec : {M : Type 1} → statement M

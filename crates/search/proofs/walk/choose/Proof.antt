@@ -2,7 +2,7 @@
 use native.Mathlib.Omega.{arith}
 use mathlib.Core.Path.{sym, _∙_}
 use borrow.Author.Needs.{needs}
-use Rattle.search.proofs.Seeks.{told-shallow, told-full, told-least, told-none}
+use Rattle.search.proofs.SeekFindsLeast.{told-shallow, told-full, told-least, told-none}
 use Rattle.search.proofs.walk.choose.Statement.{statement}
 use Rattle.search.proofs.walk.choose.Tie as tie
 
@@ -39,14 +39,17 @@ returns-4 : tie.Need-returns-4
 returns-4 c =
     let start = c .before .before .before .before .before .before .before .before .before .before .before in
     let shallow = c .before .before .before .before .before .before .before .before .if1 .left in
-    told-none (start .pre .0) (start .args .name) (omega arith) (c .before .before .before .before .before .before .if2 .left) (c .before .before .before .before .if3 .left)
-    (c .before .before .before .floor .result) (c .before .before .before .floor .ensures) (sym (c .enum-told .given .1) ∙ c .before .before .seek .ensures)
+    told-none (start .pre .0) (start .args .name) (omega arith) (c .before .before .before .before .before .before .if2 .left)
+    (c .before .before .before .before .if3 .left)
+    (c .before .before .before .floor .result) (c .before .before .before .floor .ensures)
+    (sym (c .enum-told .given .1) ∙ c .before .before .seek .ensures)
 
 returns-5 : tie.Need-returns-5
 returns-5 c =
     let start = c .before .before .before .before .before .before .before .before .before .before .before .before in
     let shallow = c .before .before .before .before .before .before .before .before .before .if1 .left in
-    told-least (start .pre .0) (start .args .name) (omega arith) (c .before .before .before .before .before .before .before .if2 .left) (c .before .before .before .before .before .if3 .left)
+    told-least (start .pre .0) (start .args .name) (omega arith) (c .before .before .before .before .before .before .before .if2 .left)
+    (c .before .before .before .before .before .if3 .left)
     (c .before .before .before .before .floor .result) (c .before .before .before .before .floor .ensures) (c .before .found .given .0 .0)
     (sym (c .before .found .given .1) ∙ c .before .before .before .seek .ensures)
 

@@ -1,7 +1,7 @@
 -- The given step is taken, or the tape is dead behind it.
 use mathlib.Core.Path.{sym, _∙_}
 use borrow.Author.Needs.{needs}
-use Rattle.search.proofs.Seeks.{told-given, told-wrong}
+use Rattle.search.proofs.SeekFindsLeast.{told-given, told-wrong}
 use Rattle.search.proofs.walk.given_step.Statement.{statement}
 use Rattle.search.proofs.walk.given_step.Tie as tie
 

@@ -5,15 +5,16 @@ use native.Mathlib.Omega.{arith}
 use mathlib.Core.Path.{_≡_, refl, sym, _∙_, ap}
 use mathlib.Core.Bool.{Bool}
 use borrow.Author.Needs.{needs}
-use Rattle.search.specs.Walk.{seek}
-use Rattle.search.specs.Told.{usableAt, entryOf}
-use Rattle.search.proofs.Seeks.{seek-taken, seek-passed}
+use Rattle.search.specs.Inner.Walk.{seek}
+use Rattle.search.specs.Inner.Values.{usableAt, soughtOf}
+use Rattle.search.proofs.SeekFindsLeast.{seek-taken, seek-passed}
 use Rattle.search.proofs.walk.seek.Statement.{statement}
 use Rattle.search.proofs.walk.seek.Tie as tie
 
 abbrev Inv-loop : tie.InvT-loop
 Inv-loop card twins tape nodes heads g b name from count e₀ e =
-    _≡_ (seek (usableAt card twins tape nodes g name b) from (b .count - from)) (seek (usableAt card twins tape nodes g name b) e (b .count - e))
+    _≡_ (seek (usableAt card twins tape nodes g name b) from (b .count - from))
+    (seek (usableAt card twins tape nodes g name b) e (b .count - e))
 
 abbrev μ-loop : tie.MeasureT-loop
 μ-loop card twins tape nodes heads g b name from count e₀ e = b .count - e
@@ -31,7 +32,7 @@ usable-requires : tie.Need-usable-requires Inv-loop μ-loop
 usable-requires c κs = search needs
 
 returns : tie.Need-returns Inv-loop μ-loop
-unfolding entryOf
+unfolding soughtOf
 returns c =
     let start = c .before .before .before .before .before in
     let turn = c .before .before .before .loop in
@@ -39,7 +40,7 @@ returns c =
     let e = turn .e in
     let n = start .args .b .count - e in
     let q : n ≡ suc (n - 1) = omega arith in
-    sym (ap entryOf (turn .inv ∙ ap (seek p e) q ∙ seek-taken p e (n - 1) (sym (c .before .usable .ensures) ∙ c .if1 .taken)))
+    sym (ap soughtOf (turn .inv ∙ ap (seek p e) q ∙ seek-taken p e (n - 1) (sym (c .before .usable .ensures) ∙ c .if1 .taken)))
 
 add-e : tie.Need-add-e Inv-loop μ-loop
 add-e c = search needs
@@ -59,12 +60,12 @@ loop-again c =
     ∙ ap (λ k. seek p k (start .args .b .count - (e + 1))) (sym (add-one e))
 
 returns-2 : tie.Need-returns-2 Inv-loop μ-loop
-unfolding entryOf seek
+unfolding soughtOf seek
 returns-2 c =
     let start = c .before .before .before in
     let e = c .before .loop .e in
     let q : start .args .b .count - e ≡ 0 = omega arith in
-    sym (ap entryOf (c .before .loop .inv ∙ ap (seek (test start) e) q))
+    sym (ap soughtOf (c .before .loop .inv ∙ ap (seek (test start) e) q))
 
 pub seek-spec : {M : Type 1} → statement M
 seek-spec =

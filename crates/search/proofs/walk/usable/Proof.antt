@@ -5,8 +5,8 @@ use mathlib.Core.Path.{sym, _∙_}
 use borrow.Author.Tests.{not-true, not-false}
 use borrow.Author.Needs.{needs}
 use lib.ListN.{getD}
-use Rattle.card.proofs.Stages.{sound-front}
-use Rattle.search.proofs.Seeks.{head-low, usable-past, usable-other, usable-away, usable-near}
+use Rattle.card.proofs.CardChecked.{sound-front}
+use Rattle.search.proofs.SeekFindsLeast.{head-low, usable-past, usable-other, usable-away, usable-near}
 use Rattle.search.proofs.walk.usable.Statement.{statement}
 use Rattle.search.proofs.walk.usable.Tie as tie
 
@@ -56,7 +56,8 @@ returns-4 : tie.Need-returns-4
 returns-4 c =
     let start = c .before .before .before .before .before .before .before in
     c .eligible .ensures
-    ∙ sym (usable-near (start .pre .0) (start .args .name) (start .args .e) (start .pre .1) (c .before .before .before .before .before .if1 .left)
+    ∙ sym (usable-near (start .pre .0) (start .args .name) (start .args .e) (start .pre .1)
+    (c .before .before .before .before .before .if1 .left)
     (c .before .before .before .if2 .left) (sym (c .before .before .at-hand .ensures) ∙ not-false _ (c .before .if3 .left)))
 
 pub usable-spec : {M : Type 1} → statement M

@@ -2,7 +2,7 @@
 use mathlib.Core.Path.{refl, ap}
 use mathlib.Core.Bool.{false}
 use borrow.Author.Needs.{needs}
-use Rattle.search.specs.Told.{closedW}
+use Rattle.search.specs.Inner.Values.{closedW}
 use Rattle.search.specs.declared.walk.Walked.the-variants.{Solved}
 use Rattle.search.proofs.walk.Branch.closed.Statement.{statement}
 use Rattle.search.proofs.walk.Branch.closed.Tie as tie

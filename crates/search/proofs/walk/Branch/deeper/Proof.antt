@@ -3,7 +3,7 @@ use Prim.Native.Nat.{_+_, _-_}
 use mathlib.Core.Path.{refl, ap₂}
 use borrow.Author.Tests.{lt-leb, le-leb}
 use borrow.Author.Needs.{needs}
-use Rattle.search.specs.Told.{deeperB}
+use Rattle.search.specs.Inner.Values.{deeperB}
 use Rattle.search.proofs.walk.Branch.deeper.Statement.{statement}
 use Rattle.search.proofs.walk.Branch.deeper.Tie as tie
 
@@ -37,7 +37,8 @@ returns-2 c =
     let start = c .before .before .before .before .before .before .before in
     let b = start .args .self in
     rw (le-leb (start .args .rules) (start .args .e) (c .before .before .before .before .if1 .left))
-    (ap₂ (λ s l. record { at = b .at + 1; count = b .count; depth = b .depth - 1; strict = s; lax = l }) (c .before .take .ensures) (c .take2 .ensures))
+    (ap₂ (λ s l. record { at = b .at + 1; count = b .count; depth = b .depth - 1; strict = s; lax = l }) (c .before .take .ensures)
+    (c .take2 .ensures))
 
 pub deeper-spec : {M : Type 1} → statement M
 deeper-spec =

@@ -13,7 +13,8 @@ join-requires c κs = search needs
 returns : tie.Need-returns
 returns c =
     let b = c .before .before .before .args .self in
-    ap₂ (λ s l. record { at = b .at; count = b .count; depth = b .depth; strict = s; lax = l }) (c .before .empty .ensures) (c .join .ensures)
+    ap₂ (λ s l. record { at = b .at; count = b .count; depth = b .depth; strict = s; lax = l }) (c .before .empty .ensures)
+    (c .join .ensures)
 
 pub opened-spec : {M : Type 1} → statement M
 opened-spec = tie.close (tie.spec empty-requires join-requires returns)

@@ -1,8 +1,8 @@
 -- By the slack of the left part.
 use mathlib.Core.Path.{ap, ap₂, _∙_}
 use borrow.Author.Needs.{needs}
-use Rattle.lines.specs.Set.{cutS}
-use Rattle.search.specs.Told.{pastTensorB}
+use Rattle.lines.specs.Inner.Set.{cutS}
+use Rattle.search.specs.Inner.Values.{pastTensorB}
 use Rattle.search.proofs.walk.Branch.past_tensor.Statement.{statement}
 use Rattle.search.proofs.walk.Branch.past_tensor.Tie as tie
 
@@ -38,7 +38,8 @@ returns-2 c =
     let b = start .args .self in
     let w = start .args .w in
     rw (c .before .before .if1 .left)
-    (ap₂ (λ s l. record { at = w .at; count = b .count; depth = b .depth; strict = s; lax = l }) (c .before .cut2 .ensures) (c .cut3 .ensures))
+    (ap₂ (λ s l. record { at = w .at; count = b .count; depth = b .depth; strict = s; lax = l }) (c .before .cut2 .ensures)
+    (c .cut3 .ensures))
 
 pub past-tensor-spec : {M : Type 1} → statement M
 past-tensor-spec =

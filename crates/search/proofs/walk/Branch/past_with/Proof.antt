@@ -1,7 +1,7 @@
 -- By the slack of the left part.
 use mathlib.Core.Path.{ap, ap₂}
 use borrow.Author.Needs.{needs}
-use Rattle.search.specs.Told.{pastWithB}
+use Rattle.search.specs.Inner.Values.{pastWithB}
 use Rattle.search.proofs.walk.Branch.past_with.Statement.{statement}
 use Rattle.search.proofs.walk.Branch.past_with.Tie as tie
 
@@ -18,7 +18,8 @@ returns c =
     let b = start .args .self in
     let w = start .args .w in
     rw (c .before .before .if1 .taken)
-    (ap₂ (λ s l. record { at = w .at; count = b .count; depth = b .depth; strict = s; lax = l }) (c .before .join .ensures) (c .cut .ensures))
+    (ap₂ (λ s l. record { at = w .at; count = b .count; depth = b .depth; strict = s; lax = l }) (c .before .join .ensures)
+    (c .cut .ensures))
 
 empty-requires : tie.Need-empty-requires
 empty-requires c κs = search needs

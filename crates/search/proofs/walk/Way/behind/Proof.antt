@@ -2,7 +2,7 @@
 use mathlib.Core.Path.{refl, ap}
 use borrow.Author.Tests.{lt-leb, le-leb}
 use borrow.Author.Needs.{needs}
-use Rattle.search.specs.Told.{behindW}
+use Rattle.search.specs.Inner.Values.{behindW}
 use Rattle.search.proofs.walk.Way.behind.Statement.{statement}
 use Rattle.search.proofs.walk.Way.behind.Tie as tie
 

@@ -1,0 +1,370 @@
+-- Renaming: a derivation goes over along a map of entries that keeps clauses and linearity, its steps mapped. Equal lines may be swapped.
+use Prim.Native.Nat.{ℕ, zero, suc, max, _+_, _≤_, _<_}
+use mathlib.Core.Path.{_≡_, refl, sym, ap, ap₂, _∙_, subst}
+use mathlib.Core.Logic.{_≢_, ite, if-pos, if-neg}
+use mathlib.Core.Bool.{Bool, true, false, not, _&&_, _||_, true≢false}
+use mathlib.Core.Option.{some}
+use mathlib.Core.List.{List, [], _∷_, _++_, map, map-append}
+use native.Mathlib.Decide.{ℕ-discrete, decLt}
+use native.Mathlib.Nat.{add-zero}
+use native.Mathlib.Omega.{arith}
+use lib.Dec.{T, eqb, eqb→eq, eqb-refl}
+use lib.ListN.{length, getD, length-map, List·getD-append, List·getD-eq-default}
+use lib.Seq.{getD-append-seam}
+use Rattle.calculus.specs.Formula.{Goal, Clause, atomᴳ, zeroᴳ, tensor, with, atomᴰ, topᴰ, lolliᴰ, fits, head, matched, residual}
+use Rattle.calculus.specs.Items.{Items, _∪_, _∖_, only, Empty, Splits, Within}
+use Rattle.calculus.specs.Derivation.{Scope, Entry, noEntry, clauseAt, linearAt, lend, Derives, res-1, res-⊤, res-⊗, res-&, res-⊸}
+use Rattle.calculus.specs.Derivation.{res-atm-int, res-atm-lin}
+use Rattle.calculus.specs.Steps.{steps, nesting}
+use Rattle.calculus.specs.Job.{Job, Listed}
+use Rattle.calculus.specs.Inner.Renaming.{Renaming, Image, Renamed, JobRenaming, swap, EqualLines}
+use Rattle.calculus.proofs.SummaryExact.{lend-length}
+
+-- An entry that is used
+
+no-zero : {es : Scope} {I : Items} → Derives es I zeroᴳ → ⊥
+no-zero d = elim d [ ]
+
+left-part : {es : Scope} {I : Items} {G H : Goal} → Derives es I (tensor G H) → (J : Items) × Derives es J G
+left-part (res-⊗ {J} s l r) = (J, l)
+
+matched-true : {es : Scope} {I : Items} (b : Bool) → Derives es I (matched b) → b ≡ true
+unfolding matched
+matched-true true d = refl
+matched-true false d = absurd (no-zero d)
+
+-- THEOREM. Only a clause whose head fits can be used.
+pub fits-head : {es : Scope} {I : Items} (a : ℕ) (D : Clause) → Derives es I (residual a D)
+    → (b : ℕ) × (head D ≡ some b) × (fits b a ≡ true)
+unfolding residual head
+fits-head a (atomᴰ b) d = (b, refl, matched-true (fits b a) d)
+fits-head a topᴰ d = absurd (no-zero d)
+fits-head a (lolliᴰ G D) d = fits-head a D (left-part d .1)
+
+-- THEOREM. An entry that is used is in scope.
+pub in-scope : {es : Scope} {I : Items} (a e : ℕ) → Derives es I (residual a (clauseAt es e)) → e < length es
+unfolding residual clauseAt
+in-scope {es} {I} a e d = go (decLt e (length es))
+  where
+    go : Dec (e < length es) → e < length es
+    go (yes h) = h
+    go (no n) =
+        let out : getD es e noEntry ≡ noEntry = List·getD-eq-default es noEntry (omega arith) in
+        absurd (no-zero (subst (λ (x : Entry). Derives es I (residual a (x .clause))) out d))
+
+-- Maps of entries and of items
+
+-- Laws of tests
+
+same-truth : (a b : Bool) → (a ≡ true → b ≡ true) → (b ≡ true → a ≡ true) → a ≡ b
+same-truth true b h k = sym (h refl)
+same-truth false true h k = k refl
+same-truth false false h k = refl
+
+not-true : (b : Bool) → (b ≡ true → ⊥) → b ≡ false
+not-true true h = absurd (h refl)
+not-true false h = refl
+
+and-left : (a b : Bool) → (a && b) ≡ true → a ≡ true
+and-left true b h = refl
+and-left false b h = h
+
+or-right : (a b : Bool) → b ≡ true → (a || b) ≡ true
+or-right true b h = refl
+or-right false b h = h
+
+absorbed : (a b : Bool) → (b ≡ true → a ≡ true) → (a && b) ≡ b
+absorbed true b h = refl
+absorbed false true h = h refl
+absorbed false false h = refl
+
+shared-whole : (j a b : Bool) → (j ≡ true → (a || b) ≡ true) → j ≡ (j && a || j && b)
+shared-whole true a b h = sym (h refl)
+shared-whole false a b h = refl
+
+shared-apart : (j a b : Bool) → (a && b) ≡ false → ((j && a) && (j && b)) ≡ false
+shared-apart true a b h = h
+shared-apart false a b h = refl
+
+truth : (b : Bool) → T b → b ≡ true
+truth true t = refl
+truth false t = absurd t
+
+eqb-true : (m n : ℕ) → eqb m n ≡ true → m ≡ n
+eqb-true m n h = eqb→eq m n (subst T (sym h) tt)
+
+true-eqb : (m n : ℕ) → m ≡ n → eqb m n ≡ true
+true-eqb m n h = truth (eqb m n) (subst (λ (k : ℕ). T (eqb m k)) h (eqb-refl m))
+
+-- f keeps numbers apart, since g undoes it
+eqb-image : (f g : ℕ → ℕ) → ((e : ℕ) → g (f e) ≡ e) → (i e : ℕ) → eqb (f i) (f e) ≡ eqb i e
+eqb-image f g u i e =
+    same-truth (eqb (f i) (f e)) (eqb i e) (λ h. true-eqb i e (sym (u i) ∙ ap g (eqb-true (f i) (f e) h) ∙ u e))
+    (λ h. true-eqb (f i) (f e) (ap f (eqb-true i e h)))
+
+-- Images of item sets
+
+splits-left : {I A B : Items} → Splits I A B → Within A I
+splits-left {B} s = record { kept = λ i h. s .whole i ∙ ap (λ (b : Bool). b || B i) h }
+
+splits-right : {I A B : Items} → Splits I A B → Within B I
+splits-right {A} {B} s = record { kept = λ i h. s .whole i ∙ or-right (A i) (B i) h }
+
+-- the items of J that come from A
+share : (ℕ → ℕ) → Items → Items → Items
+share g J A k = J k && A (g k)
+
+module _ {f g : ℕ → ℕ} {I J : Items} (m : Image f g I J) where
+  image-back : (k : ℕ) → J k ≡ true → I (g k) ≡ true
+  image-back k h = sym (m .taken (g k)) ∙ ap J (m .sole k h) ∙ h
+
+  image-empty : Empty I → Empty J
+  image-empty v = record { vacant = λ k. not-true (J k) (λ h. true≢false (sym (image-back k h) ∙ v .vacant (g k))) }
+
+  splits-share : {A B : Items} → Splits I A B → Splits J (share g J A) (share g J B)
+  unfolding share
+  splits-share {A} {B} s =
+      record {
+        whole = λ k. shared-whole (J k) (A (g k)) (B (g k)) (λ h. sym (s .whole (g k)) ∙ image-back k h);
+        apart = λ k. shared-apart (J k) (A (g k)) (B (g k)) (s .apart (g k));
+      }
+
+  image-share : ((e : ℕ) → g (f e) ≡ e) → {A : Items} → Within A I → Image f g A (share g J A)
+  unfolding share
+  image-share u {A} w =
+      record {
+        taken = λ i. ap₂ _&&_ (m .taken i) (ap A (u i)) ∙ absorbed (I i) (A i) (w .kept i);
+        sole = λ k h. m .sole k (and-left (J k) (A (g k)) h);
+      }
+
+  image-less : ((e : ℕ) → g (f e) ≡ e) → (e : ℕ) → Image f g (I ∖ only e) (J ∖ only (f e))
+  unfolding _∖_ only
+  image-less u e =
+      record {
+        taken = λ i. ap₂ (λ (a b : Bool). a && not b) (m .taken i) (eqb-image f g u i e);
+        sole = λ k h. m .sole k (and-left (J k) (not (eqb k (f e))) h);
+      }
+
+  image-more : ((e : ℕ) → g (f e) ≡ e) → (e k : ℕ) → f e ≡ k → Image f g (I ∪ only e) (J ∪ only k)
+  unfolding _∪_ only
+  image-more u e k q =
+      record {
+        taken = λ i. ap₂ _||_ (m .taken i) (ap (eqb (f i)) (sym q) ∙ eqb-image f g u i e);
+        sole = λ i h. go i (J i) refl h;
+      }
+    where
+      go : (i : ℕ) (b : Bool) → J i ≡ b → (b || eqb i k) ≡ true → f (g i) ≡ i
+      go i true h t = m .sole i h
+      go i false h t = let p : i ≡ f e = eqb-true i k t ∙ sym q in ap (λ (x : ℕ). f (g x)) p ∙ ap f (u e) ∙ sym p
+
+-- the images of the items of I
+pub pushed : (ℕ → ℕ) → (ℕ → ℕ) → Items → Items
+pushed f g = share g (λ k. eqb (f (g k)) k)
+
+-- THEOREM. Every item set has its image.
+pub image-pushed : (f g : ℕ → ℕ) → ((e : ℕ) → g (f e) ≡ e) → (I : Items) → Image f g I (pushed f g I)
+unfolding pushed
+image-pushed f g u I = image-share reached u (record { kept = λ i h. refl })
+  where
+    reached : Image f g (λ i. true) (λ k. eqb (f (g k)) k)
+    reached = record { taken = λ i. true-eqb (f (g (f i))) (f i) (ap f (u i)); sole = λ k h. eqb-true (f (g k)) k h }
+
+-- A lent clause takes the next number on both sides
+
+beyond-lend : (es : Scope) (D : Clause) (k : ℕ) → length (lend es D) + k ≡ length es + suc k
+beyond-lend es D k = omega (arith, lend-length es D)
+
+pub entry-before : (es : Scope) (D : Clause) (e : ℕ) → e < length es → getD (lend es D) e noEntry ≡ getD es e noEntry
+unfolding lend
+entry-before es D e h = List·getD-append es _ noEntry e h
+
+pub entry-lent : (es : Scope) (D : Clause) (e : ℕ) → e ≡ length es → getD (lend es D) e noEntry ≡ record { clause = D; linear = true }
+unfolding lend
+entry-lent es D e h = ap (λ (k : ℕ). getD (lend es D) k noEntry) h ∙ getD-append-seam es _ [] noEntry
+
+-- an entry after lending stood before, or is the lent clause
+pub lent-cases : (es : Scope) (D : Clause) (P : ℕ → Type 0) → ((e : ℕ) → e < length es → P e) → P (length es)
+    → (e : ℕ) → e < length (lend es D) → P e
+lent-cases es D P old lent e h = go (decLt e (length es))
+  where
+    go : Dec (e < length es) → P e
+    go (yes k) = old e k
+    go (no n) = subst P (omega (arith, lend-length es D)) lent
+
+next-image : {es fs : Scope} {f g : ℕ → ℕ} → Renaming es fs f g → f (length es) ≡ length fs
+next-image {es} {fs} {f} r = ap f (sym (add-zero (length es))) ∙ r .beyond zero ∙ add-zero (length fs)
+
+entry-kept : {es fs : Scope} {f g : ℕ → ℕ} → Renaming es fs f g → (e : ℕ) → e < length es → getD fs (f e) noEntry ≡ getD es e noEntry
+unfolding clauseAt linearAt
+entry-kept r e h = λ i. record { clause = r .clause e h i; linear = r .linear e h i }
+
+lent-entry-kept : {es fs : Scope} {f g : ℕ → ℕ} → Renaming es fs f g → (D : Clause) (e : ℕ) → e < length (lend es D)
+    → getD (lend fs D) (f e) noEntry ≡ getD (lend es D) e noEntry
+lent-entry-kept {es} {fs} {f} r D =
+    lent-cases es D (λ e. getD (lend fs D) (f e) noEntry ≡ getD (lend es D) e noEntry)
+    (λ e h. entry-before fs D (f e) (r .within e h) ∙ entry-kept r e h ∙ sym (entry-before es D e h))
+    (entry-lent fs D (f (length es)) (next-image r) ∙ sym (entry-lent es D (length es) refl))
+
+-- THEOREM. A renaming goes on holding where both scopes are lent a clause.
+pub renaming-lend : {es fs : Scope} {f g : ℕ → ℕ} → Renaming es fs f g → (D : Clause) → Renaming (lend es D) (lend fs D) f g
+unfolding clauseAt linearAt
+renaming-lend {es} {fs} {f} r D =
+    record {
+      within =
+          lent-cases es D (λ e. f e < length (lend fs D)) (λ e h. omega (arith, r .within e h, lend-length fs D))
+          (omega (arith, next-image r, lend-length fs D));
+      clause = λ e h. ap (λ (x : Entry). x .clause) (lent-entry-kept r D e h);
+      linear = λ e h. ap (λ (x : Entry). x .linear) (lent-entry-kept r D e h);
+      undone = r .undone;
+      beyond = λ k. ap f (beyond-lend es D k) ∙ r .beyond (suc k) ∙ sym (beyond-lend fs D k);
+    }
+
+-- Derivations go over
+
+-- two parts go over; a use does, once the residual of its entry has
+renamed-⊗ : {fs : Scope} {I J K : Items} {G H : Goal} {k l m : List ℕ} {n o : ℕ} → Splits I J K
+    → Renamed fs J G l n → Renamed fs K H m o → k ≡ l ++ m → Renamed fs I (tensor G H) k (max n o)
+unfolding steps nesting
+renamed-⊗ s x y q =
+    record {
+      tree = res-⊗ s (x .tree) (y .tree);
+      list = ap₂ _++_ (x .list) (y .list) ∙ sym q;
+      depth = ap₂ max (x .depth) (y .depth);
+    }
+
+renamed-& : {fs : Scope} {I : Items} {G H : Goal} {k l m : List ℕ} {n o : ℕ}
+    → Renamed fs I G l n → Renamed fs I H m o → k ≡ l ++ m → Renamed fs I (with G H) k (max n o)
+unfolding steps nesting
+renamed-& x y q =
+    record {
+      tree = res-& (x .tree) (y .tree);
+      list = ap₂ _++_ (x .list) (y .list) ∙ sym q;
+      depth = ap₂ max (x .depth) (y .depth);
+    }
+
+module _ {es fs : Scope} {f g : ℕ → ℕ} {J : Items} {l : List ℕ} {n : ℕ} (r : Renaming es fs f g) (a e : ℕ) (h : e < length es) where
+  renamed-rule : linearAt es e ≡ false → Renamed fs J (residual a (clauseAt es e)) l n → Renamed fs J (atomᴳ a) (f e ∷ l) (suc n)
+  unfolding steps nesting
+  renamed-rule q x =
+      let y = subst (λ (D : Clause). Renamed fs J (residual a D) l n) (sym (r .clause e h)) x in
+      record { tree = res-atm-int (f e) (r .linear e h ∙ q) (y .tree); list = ap (λ k. f e ∷ k) (y .list); depth = ap suc (y .depth) }
+
+  renamed-item : linearAt es e ≡ true → J (f e) ≡ true → Renamed fs (J ∖ only (f e)) (residual a (clauseAt es e)) l n
+      → Renamed fs J (atomᴳ a) (f e ∷ l) (suc n)
+  unfolding steps nesting
+  renamed-item q t x =
+      let y = subst (λ (D : Clause). Renamed fs (J ∖ only (f e)) (residual a D) l n) (sym (r .clause e h)) x in
+      record { tree = res-atm-lin (f e) (r .linear e h ∙ q) t (y .tree); list = ap (λ k. f e ∷ k) (y .list); depth = ap suc (y .depth) }
+
+-- THEOREM. A derivation goes over along a renaming, with its steps mapped and the same nesting.
+pub rename : {es fs : Scope} {f g : ℕ → ℕ} {I J : Items} {G : Goal} → Renaming es fs f g → Image f g I J → (d : Derives es I G)
+    → Renamed fs J G (map f (steps d)) (nesting d)
+unfolding steps nesting
+rename r m (res-1 v) = record { tree = res-1 (image-empty m v); list = refl; depth = refl }
+rename r m res-⊤ = record { tree = res-⊤; list = refl; depth = refl }
+rename {f} r m (res-⊗ s c d) =
+    let x = rename r (image-share m (r .undone) (splits-left s)) c in
+    let y = rename r (image-share m (r .undone) (splits-right s)) d in
+    renamed-⊗ (splits-share m s) x y (map-append f (steps c) (steps d))
+rename {f} r m (res-& c d) = renamed-& (rename r m c) (rename r m d) (map-append f (steps c) (steps d))
+rename {J} r m (res-⊸ {es} {D} h d) =
+    let x = rename (renaming-lend r D) (image-more m (r .undone) (length es) _ (next-image r)) d in
+    record { tree = res-⊸ (ap J (sym (next-image r)) ∙ m .taken (length es) ∙ h) (x .tree); list = x .list; depth = x .depth }
+rename r m (res-atm-int {a} e n d) = renamed-rule r a e (in-scope a e d) n (rename r m d)
+rename r m (res-atm-lin {a} e n h d) =
+    renamed-item r a e (in-scope a e d) n (m .taken e ∙ h) (rename r (image-less m (r .undone) e) d)
+
+-- Jobs go over
+
+module _ {j k : Job} {f g : ℕ → ℕ} {I J : Items} (r : JobRenaming j k f g) (m : Image f g I J) where
+  strict-over : Within (j .strict) I → Within (k .strict) J
+  strict-over w =
+      record { kept = λ i h. let s = r .strict-from i h in ap J (sym (s .0)) ∙ m .taken (g i) ∙ w .kept (g i) (s .1) }
+
+  lines-over : Within I (j .strict ∪ j .lax) → Within J (k .strict ∪ k .lax)
+  lines-over w =
+      record { kept = λ i h. ap (k .strict ∪ k .lax) (sym (m .sole i h)) ∙ r .lines-to (g i) (w .kept (g i) (image-back m i h)) }
+
+-- a renamed derivation from a set between the must lines and all lines
+listed-by : {k : Job} {J : Items} {l : List ℕ} {n : ℕ} → Within (k .strict) J → Within J (k .strict ∪ k .lax)
+    → Renamed (k .scope) J (k .goal) l n → n ≤ k .depth → length l ≤ k .length-limit → Listed k l
+listed-by {J} s w z h c =
+    record {
+      derivation = record { items = J; all-strict = s; none-else = w; tree = z .tree };
+      limited = record { nested = omega (arith, z .depth); counted = omega (arith, ap length (z .list)) };
+      list = z .list;
+    }
+
+-- THEOREM. The lists of j within limits, mapped, are lists of k within limits.
+pub rename-listed : {j k : Job} {f g : ℕ → ℕ} → JobRenaming j k f g → (l : List ℕ) → Listed j l → Listed k (map f l)
+rename-listed {k} {f} {g} r l m =
+    let d = m .derivation in
+    let J = pushed f g (d .items) in
+    let i : Image f g (d .items) J = image-pushed f g (r .entries .undone) (d .items) in
+    let z = rename (r .entries) i (d .tree) in
+    let over = subst (λ (G : Goal). Renamed (k .scope) J G (map f (steps (d .tree))) (nesting (d .tree))) (r .same-goal) z in
+    let shallow : nesting (d .tree) ≤ k .depth = omega (arith, m .limited .nested, r .no-shallower) in
+    let short : length (map f (steps (d .tree))) ≤ k .length-limit =
+    omega (arith, length-map (steps (d .tree)) f, m .limited .counted, r .no-shorter) in
+    subst (λ (x : List ℕ). Listed k (map f x)) (m .list)
+    (listed-by (strict-over r i (d .all-strict)) (lines-over r i (d .none-else)) over shallow short)
+
+-- Equal lines
+
+pub swap-first : (x y : ℕ) → swap x y x ≡ y
+unfolding swap
+swap-first x y = if-pos (ℕ-discrete x x) refl y (ite (ℕ-discrete x y) x x)
+
+pub swap-second : (x y : ℕ) → swap x y y ≡ x
+unfolding swap
+swap-second x y = go (ℕ-discrete y x)
+  where
+    go : Dec (y ≡ x) → swap x y y ≡ x
+    go (yes p) = ap (swap x y) p ∙ swap-first x y ∙ p
+    go (no n) = if-neg (ℕ-discrete y x) n y (ite (ℕ-discrete y y) x y) ∙ if-pos (ℕ-discrete y y) refl x y
+
+pub swap-other : (x y e : ℕ) → e ≢ x → e ≢ y → swap x y e ≡ e
+unfolding swap
+swap-other x y e n k = if-neg (ℕ-discrete e x) n y (ite (ℕ-discrete e y) x e) ∙ if-neg (ℕ-discrete e y) k x e
+
+-- a fact about each number and the one it is swapped for, by the three cases
+pub swap-cases : (P : ℕ → ℕ → Type 0) (x y : ℕ) → P x y → P y x → ((e : ℕ) → e ≢ x → e ≢ y → P e e) → (e : ℕ) → P e (swap x y e)
+swap-cases P x y first second other e = go (ℕ-discrete e x) (ℕ-discrete e y)
+  where
+    go : Dec (e ≡ x) → Dec (e ≡ y) → P e (swap x y e)
+    go (yes p) q = subst (λ (k : ℕ). P k (swap x y k)) (sym p) (subst (P x) (sym (swap-first x y)) first)
+    go (no n) (yes q) = subst (λ (k : ℕ). P k (swap x y k)) (sym q) (subst (P y) (sym (swap-second x y)) second)
+    go (no n) (no k) = subst (P e) (sym (swap-other x y e n k)) (other e n k)
+
+pub swap-swap : (x y e : ℕ) → swap x y (swap x y e) ≡ e
+swap-swap x y = swap-cases (λ e k. swap x y k ≡ e) x y (swap-second x y) (swap-first x y) (swap-other x y)
+
+-- what does not tell x from y does not tell a number from the one it is swapped for
+pub swap-keeps : {A : Type 0} (h : ℕ → A) (x y : ℕ) → h x ≡ h y → (e : ℕ) → h (swap x y e) ≡ h e
+swap-keeps h x y q = swap-cases (λ e k. h k ≡ h e) x y (sym q) q (λ e n k. refl)
+
+pub swap-within : (n x y : ℕ) → x < n → y < n → (e : ℕ) → e < n → swap x y e < n
+swap-within n x y h k = swap-cases (λ e i. e < n → i < n) x y (λ _. k) (λ _. h) (λ e _ _ i. i)
+
+pub swapping : (j : Job) (x y : ℕ) → EqualLines j x y → JobRenaming j j (swap x y) (swap x y)
+unfolding _∪_
+swapping j x y q =
+    record {
+      entries =
+          record {
+            within = swap-within (length (j .scope)) x y (q .x-within) (q .y-within);
+            clause = λ e h. swap-keeps (clauseAt (j .scope)) x y (q .same-clause) e;
+            linear = λ e h. swap-keeps (linearAt (j .scope)) x y (q .same-linear) e;
+            undone = swap-swap x y;
+            beyond = λ k. swap-other x y (length (j .scope) + k) (omega (arith, q .x-within)) (omega (arith, q .y-within));
+          };
+      strict-from = λ i h. (swap-swap x y i, swap-keeps (j .strict) x y (q .same-strict) i ∙ h);
+      lines-to = λ i h. swap-keeps (j .strict ∪ j .lax) x y (ap₂ _||_ (q .same-strict) (q .same-lax)) i ∙ h;
+      same-goal = refl;
+      no-shallower = omega arith;
+      no-shorter = omega arith;
+    }
+
+-- THEOREM. Equal lines may be swapped in a list.
+pub swap-lines : (j : Job) (x y : ℕ) → EqualLines j x y → (l : List ℕ) → Listed j l → Listed j (map (swap x y) l)
+swap-lines j x y q = rename-listed (swapping j x y q)

@@ -1,0 +1,358 @@
+-- Laws of item sets, each by the truth table of its statement at one item.
+use Prim.Native.Nat.{ℕ, zero, suc}
+use mathlib.Core.Path.{_≡_, refl, sym, ap, _∙_, subst, fun-ext}
+use mathlib.Core.Logic.{_⊎_, inl, inr, _↔_}
+use mathlib.Core.Bool.{Bool, true, false, not, _&&_, _||_, Bool·beq, false≢true}
+use lib.Dec.{T, eqb, eqb→eq, eqb-refl}
+use Rattle.calculus.specs.Items.{Items, ∅, _∪_, _∖_, only, Empty, Splits, Within}
+use Rattle.calculus.specs.Inner.Summary.{Same, Joins, Without, Plus, Covers}
+
+-- A statement about Booleans: an equation, or that one statement implies another.
+infix 20 _≐_
+infixr 15 _⟹_
+pub data Law : Type 0 where
+  _≐_ : Bool → Bool → Law
+  _⟹_ : Law → Law → Law
+
+abbrev pub Stated : Law → Type 0
+Stated (a ≐ b) = a ≡ b
+Stated (p ⟹ q) = Stated p → Stated q
+
+abbrev pub test : Law → Bool
+test (a ≐ b) = Bool·beq a b
+test (p ⟹ q) = not (test p) || test q
+
+-- a statement over n Booleans
+abbrev pub Rows : ℕ → Type 0
+Rows zero = Law
+Rows (suc n) = Bool → Rows n
+
+-- it holds at every row
+abbrev pub Every : (n : ℕ) → Rows n → Type 0
+Every zero p = Stated p
+Every (suc n) f = (b : Bool) → Every n (f b)
+
+-- its truth table
+abbrev pub passes : (n : ℕ) → Rows n → Bool
+passes zero p = test p
+passes (suc n) f = passes n (f true) && passes n (f false)
+
+beq-sound : (a b : Bool) → Bool·beq a b ≡ true → a ≡ b
+beq-sound true true h = refl
+beq-sound true false h = absurd (false≢true h)
+beq-sound false true h = absurd (false≢true h)
+beq-sound false false h = refl
+
+beq-refl : (a : Bool) → Bool·beq a a ≡ true
+beq-refl true = refl
+beq-refl false = refl
+
+implied : (a b : Bool) → (not a || b) ≡ true → a ≡ true → b ≡ true
+implied true b h k = h
+implied false b h k = absurd (false≢true k)
+
+implies : (a b : Bool) → (a ≡ true → b ≡ true) → (not a || b) ≡ true
+implies true b f = f refl
+implies false b f = refl
+
+tested : (p : Law) → (test p ≡ true) ↔ Stated p
+tested (a ≐ b) = (beq-sound a b, λ e. subst (λ (c : Bool). Bool·beq a c ≡ true) e (beq-refl a))
+tested (p ⟹ q) = (
+  λ h k. tested q .0 (implied (test p) (test q) h (tested p .1 k)),
+  λ f. implies (test p) (test q) (λ t. tested q .1 (f (tested p .0 t))),
+)
+
+and-left : (a b : Bool) → (a && b) ≡ true → a ≡ true
+and-left true b h = refl
+and-left false b h = h
+
+and-right : (a b : Bool) → (a && b) ≡ true → b ≡ true
+and-right true b h = h
+and-right false b h = absurd (false≢true h)
+
+pub table : (n : ℕ) (f : Rows n) → passes n f ≡ true → Every n f
+table zero p h = tested p .0 h
+table (suc n) f h = elim [
+  | true ↦ table n (f true) (and-left _ (passes n (f false)) h)
+  | false ↦ table n (f false) (and-right (passes n (f true)) _ h)
+]
+
+-- one membership implies another
+infix 18 _⊑_
+abbrev pub _⊑_ : Bool → Bool → Law
+a ⊑ b = (a ≐ true) ⟹ (b ≐ true)
+
+-- the same items are the same set
+pub same-path : {I J : Items} → Same I J → I ≡ J
+same-path s = fun-ext (s .same)
+
+pub within-trans : {I J K : Items} → Within I J → Within J K → Within I K
+within-trans h k = record { kept = λ i p. k .kept i (h .kept i p) }
+
+-- "there is slack or nothing is left"
+pub covers : {v : Bool} {U I : Items} → ((v ≡ true) ⊎ Within I U) ↔ Covers v U I
+covers {v} {U} {I} = (to v, from v)
+  where
+    to : (v : Bool) → (v ≡ true) ⊎ Within I U → Covers v U I
+    to v (inl s) = record { cover = λ i. table 3 (λ v u i. v ≐ true ⟹ i ⊑ (v || u)) refl v (U i) (I i) s }
+    to v (inr w) = record { cover = λ i. table 3 (λ v u i. i ⊑ u ⟹ i ⊑ (v || u)) refl v (U i) (I i) (w .kept i) }
+
+    from : (v : Bool) → Covers v U I → (v ≡ true) ⊎ Within I U
+    from true c = inl refl
+    from false c = inr (record { kept = c .cover })
+
+-- a test that is not passed has failed
+pub not-true : (b : Bool) → (b ≡ true → ⊥) → b ≡ false
+not-true true f = absurd (f refl)
+not-true false f = refl
+
+T-true : (b : Bool) → T b → b ≡ true
+T-true true t = refl
+T-true false t = absurd t
+
+true-T : (b : Bool) → b ≡ true → T b
+true-T b e = subst T (sym e) tt
+
+pub only-self : (e : ℕ) → only e e ≡ true
+unfolding only
+only-self e = T-true (eqb e e) (eqb-refl e)
+
+pub only-eq : (e i : ℕ) → only e i ≡ true → i ≡ e
+unfolding only
+only-eq e i h = eqb→eq i e (true-T (eqb i e) h)
+
+-- what holds at e holds wherever the item is e
+pub only-at : (I : Items) (e : ℕ) {b : Bool} → I e ≡ b → (i : ℕ) → only e i ≡ true → I i ≡ b
+only-at I e p i h = ap I (only-eq e i h) ∙ p
+
+pub empty-∅ : Empty ∅
+unfolding ∅
+empty-∅ = record { vacant = λ i. refl }
+
+pub empty-within : {I J : Items} → Empty I → Within I J
+empty-within {I} {J} n = record { kept = λ i. table 2 (λ i j. i ≐ false ⟹ i ⊑ j) refl (I i) (J i) (n .vacant i) }
+
+-- what is empty is covered, and what an empty set covers without slack is empty
+pub empty-covered : {v : Bool} {U I : Items} → Empty I → Covers v U I
+empty-covered {v} {U} {I} n = record { cover = λ i. table 3 (λ v u i. i ≐ false ⟹ i ⊑ v || u) refl v (U i) (I i) (n .vacant i) }
+
+pub covered-empty : {U I : Items} → Empty U → Covers false U I → Empty I
+covered-empty {U} {I} n c = record {
+  vacant = λ i. table 2 (λ u i. u ≐ false ⟹ i ⊑ false || u ⟹ i ≐ false) refl (U i) (I i) (n .vacant i) (c .cover i);
+}
+
+pub slack-covers : {U I : Items} → Covers true U I
+slack-covers = record { cover = λ i h. refl }
+
+-- what covers a set covers each set within it
+pub covers-within : {v : Bool} {U I J : Items} → Covers v U I → Within J I → Covers v U J
+covers-within c w = record { cover = λ i h. c .cover i (w .kept i h) }
+
+pub join-left : {T U W : Items} → Joins T U W → Within U T
+join-left {T} {U} {W} s = record { kept = λ i. table 3 (λ t u w. t ≐ (u || w) ⟹ u ⊑ t) refl (T i) (U i) (W i) (s .joined i) }
+
+pub join-right : {T U W : Items} → Joins T U W → Within W T
+join-right {T} {U} {W} s = record { kept = λ i. table 3 (λ t u w. t ≐ (u || w) ⟹ w ⊑ t) refl (T i) (U i) (W i) (s .joined i) }
+
+pub join-within : {T U W I : Items} → Joins T U W → Within U I → Within W I → Within T I
+join-within {T} {U} {W} {I} s p q = record {
+  kept = λ i. table 4 (λ t u w i. t ≐ (u || w) ⟹ u ⊑ i ⟹ w ⊑ i ⟹ t ⊑ i) refl
+      (T i) (U i) (W i) (I i) (s .joined i) (p .kept i) (q .kept i);
+}
+
+pub ∪-joins : (U W : Items) → Joins (U ∪ W) U W
+unfolding _∪_
+∪-joins U W = record { joined = λ i. refl }
+
+pub ∪-cases : (I J : Items) (i : ℕ) → (I ∪ J) i ≡ true → (I i ≡ true) ⊎ (J i ≡ true)
+unfolding _∪_
+∪-cases I J i = at (I i)
+  where
+    at : (b : Bool) → (b || J i) ≡ true → (b ≡ true) ⊎ (J i ≡ true)
+    at true h = inl refl
+    at false h = inr h
+
+pub ∖-within : (I J : Items) → Within (I ∖ J) I
+unfolding _∖_
+∖-within I J = record { kept = λ i. table 2 (λ i j. i && not j ⊑ i) refl (I i) (J i) }
+
+pub only-without : (W : Items) (e : ℕ) → Without (W ∖ only e) W e
+unfolding _∖_
+only-without W e = record { without = λ i. refl }
+
+pub only-plus : (W : Items) (e : ℕ) → Plus (W ∪ only e) W e
+unfolding _∪_
+only-plus W e = record { plus = λ i. refl }
+
+pub ∅-∪-within : (I : Items) → Within (∅ ∪ I) I
+unfolding ∅ _∪_
+∅-∪-within I = record { kept = λ i h. h }
+
+pub ∪-swap : (I J K : Items) → Within (I ∪ J ∪ K) (I ∪ K ∪ J)
+unfolding _∪_
+∪-swap I J K = record { kept = λ i. table 3 (λ i j k. i || j || k ⊑ i || k || j) refl (I i) (J i) (K i) }
+
+pub ∖-spread : (I J K : Items) → Within ((I ∪ J) ∖ K) (I ∖ K ∪ J ∖ K)
+unfolding _∪_ _∖_
+∖-spread I J K = record { kept = λ i. table 3 (λ i j k. (i || j) && not k ⊑ (i && not k) || (j && not k)) refl (I i) (J i) (K i) }
+
+pub ∖-gather : (I J K : Items) → Within (I ∖ K ∪ J ∖ K) ((I ∪ J) ∖ K)
+unfolding _∪_ _∖_
+∖-gather I J K = record { kept = λ i. table 3 (λ i j k. (i && not k) || (j && not k) ⊑ (i || j) && not k) refl (I i) (J i) (K i) }
+
+-- what U covers it covers together with U
+pub join-covers : {v : Bool} {T U I : Items} → Joins T I U → Covers v U I → Covers v U T
+join-covers {v} {T} {U} {I} s c = record {
+  cover = λ i. table 4 (λ v t u i. t ≐ (i || u) ⟹ i ⊑ v || u ⟹ t ⊑ v || u) refl v (T i) (U i) (I i) (s .joined i) (c .cover i);
+}
+
+-- Shares (⊗).
+pub split-left : {I J K : Items} → Splits I J K → Within J I
+split-left {I} {J} {K} s = record { kept = λ i. table 3 (λ i j k. i ≐ (j || k) ⟹ j ⊑ i) refl (I i) (J i) (K i) (s .whole i) }
+
+pub split-right : {I J K : Items} → Splits I J K → Within K I
+split-right {I} {J} {K} s = record { kept = λ i. table 3 (λ i j k. i ≐ (j || k) ⟹ k ⊑ i) refl (I i) (J i) (K i) (s .whole i) }
+
+-- sets within two shares are apart, and cover the whole if they cover the shares
+pub split-apart : {I J K T U W : Items} → Splits I J K → Within U J → Within W K → Joins T U W → Splits T U W
+split-apart {I} {J} {K} {T} {U} {W} s p q j = record {
+  whole = j .joined;
+  apart = λ i. table 4 (λ j k u w. (j && k) ≐ false ⟹ u ⊑ j ⟹ w ⊑ k ⟹ (u && w) ≐ false) refl (J i) (K i) (U i) (W i)
+      (s .apart i) (p .kept i) (q .kept i);
+}
+
+pub split-joins : {T U W : Items} → Splits T U W → Joins T U W
+split-joins s = record { joined = s .whole }
+
+pub split-covers : {I J K U W : Items} {v w : Bool} → Splits I J K → Covers v U J → Covers w W K → Covers (v || w) (U ∪ W) I
+unfolding _∪_
+split-covers {I} {J} {K} {U} {W} {v} {w} s p q = record {
+  cover = λ i. table 7 (λ i j k u w a b. i ≐ (j || k) ⟹ j ⊑ a || u ⟹ k ⊑ b || w ⟹ i ⊑ (a || b) || (u || w)) refl
+      (I i) (J i) (K i) (U i) (W i) v w (s .whole i) (p .cover i) (q .cover i);
+}
+
+-- the left share of I: what the left part takes and, if it has slack, all that the right does not take
+unfoldable pub share : Bool → Items → Items → Items → Items
+share v U W I i = U i || (v && (I i && not (W i)))
+
+pub share-splits : {I T U W : Items} (v : Bool) → Splits T U W → Within T I → Splits I (share v U W I) (I ∖ share v U W I)
+unfolding _∖_ share
+share-splits {I} {T} {U} {W} v s p = record {
+  whole = λ i. table 5 (λ v i t u w. t ≐ (u || w) ⟹ t ⊑ i
+      ⟹ i ≐ ((u || (v && (i && not w))) || (i && not (u || (v && (i && not w)))))) refl v (I i) (T i) (U i) (W i) (s .whole i) (p .kept i);
+  apart = λ i. table 2 (λ i x. (x && (i && not x)) ≐ false) refl (I i) (share v U W I i);
+}
+
+pub share-left : (v : Bool) (U W I : Items) → Within U (share v U W I)
+unfolding share
+share-left v U W I = record { kept = λ i. table 4 (λ v i u w. u ⊑ u || (v && (i && not w))) refl v (I i) (U i) (W i) }
+
+pub share-right : {I T U W : Items} (v : Bool) → Splits T U W → Within T I → Within W (I ∖ share v U W I)
+unfolding _∖_ share
+share-right {I} {T} {U} {W} v s p = record {
+  kept = λ i. table 5 (λ v i t u w. t ≐ (u || w) ⟹ (u && w) ≐ false ⟹ t ⊑ i ⟹ w ⊑ i && not (u || (v && (i && not w)))) refl
+      v (I i) (T i) (U i) (W i) (s .whole i) (s .apart i) (p .kept i);
+}
+
+pub share-left-covers : (v : Bool) (U W I : Items) → Covers v U (share v U W I)
+unfolding share
+share-left-covers v U W I = record {
+  cover = λ i. table 4 (λ v i u w. u || (v && (i && not w)) ⊑ v || u) refl v (I i) (U i) (W i);
+}
+
+pub share-right-covers : {I T U W : Items} {x : Bool} (v w : Bool)
+    → x ≡ (v || w) → Splits T U W → Covers x T I → Covers w W (I ∖ share v U W I)
+unfolding _∖_ share
+share-right-covers {I} {T} {U} {W} {x} v w e s c = record {
+  cover = λ i. table 7 (λ x v y i t u w. x ≐ (v || y) ⟹ t ≐ (u || w) ⟹ i ⊑ x || t ⟹ i && not (u || (v && (i && not w))) ⊑ y || w) refl
+      x v w (I i) (T i) (U i) (W i) e (s .whole i) (c .cover i);
+}
+
+-- Two sides (&).
+pub both-cover : {v w : Bool} {U W I : Items} → Covers v U I → Covers w W I → Covers (v && w) (U ∪ W) I
+unfolding _∪_
+both-cover {v} {w} {U} {W} {I} p q = record {
+  cover = λ i. table 5 (λ v w u t i. i ⊑ v || u ⟹ i ⊑ w || t ⟹ i ⊑ (v && w) || (u || t)) refl
+      v w (U i) (W i) (I i) (p .cover i) (q .cover i);
+}
+
+-- if a side covers the other, it covers what both cover
+pub left-covers : {x v : Bool} {T U W I : Items} (w : Bool) → x ≡ (v && w) → Joins T U W → Covers v U W → Covers x T I → Covers v U I
+left-covers {x} {v} {T} {U} {W} {I} w e s c d = record {
+  cover = λ i. table 7 (λ x v y t u w i. x ≐ (v && y) ⟹ t ≐ (u || w) ⟹ w ⊑ v || u ⟹ i ⊑ x || t ⟹ i ⊑ v || u) refl
+      x v w (T i) (U i) (W i) (I i) e (s .joined i) (c .cover i) (d .cover i);
+}
+
+pub right-covers : {x w : Bool} {T U W I : Items} (v : Bool) → x ≡ (v && w) → Joins T U W → Covers w W U → Covers x T I → Covers w W I
+right-covers {x} {w} {T} {U} {W} {I} v e s c d = record {
+  cover = λ i. table 7 (λ x v y t u w i. x ≐ (v && y) ⟹ t ≐ (u || w) ⟹ u ⊑ y || w ⟹ i ⊑ x || t ⟹ i ⊑ y || w) refl
+      x v w (T i) (U i) (W i) (I i) e (s .joined i) (c .cover i) (d .cover i);
+}
+
+-- One item more (⊸): W is taken from I with e lent, U is W without e.
+pub lent-within : {U W : Items} {e : ℕ} (I : Items) → Without U W e → Within W (I ∪ only e) → Within U I
+unfolding _∪_
+lent-within {U} {W} {e} I s p = record {
+  kept = λ i. table 4 (λ u w i o. u ≐ (w && not o) ⟹ w ⊑ i || o ⟹ u ⊑ i) refl (U i) (W i) (I i) (only e i) (s .without i) (p .kept i);
+}
+
+pub lent-covers : {v : Bool} {U W : Items} {e : ℕ} (I : Items) → Without U W e → I e ≡ false → Covers v W (I ∪ only e) → Covers v U I
+unfolding _∪_
+lent-covers {v} {U} {W} {e} I s n c = record {
+  cover = λ i. table 5 (λ v u w i o. u ≐ (w && not o) ⟹ (o ≐ true ⟹ i ≐ false) ⟹ i || o ⊑ v || w ⟹ i ⊑ v || u) refl
+      v (U i) (W i) (I i) (only e i) (s .without i) (only-at I e n i) (c .cover i);
+}
+
+pub lent-used : {v : Bool} {W : Items} (I : Items) (e : ℕ) → Covers v W (I ∪ only e) → (v || W e) ≡ true
+unfolding _∪_
+lent-used I e c = c .cover e (table 2 (λ i o. o ⊑ i || o) refl (I e) (only e e) (only-self e))
+
+pub relend-within : {U W I : Items} {e : ℕ} → Without U W e → Within U I → Within W (I ∪ only e)
+unfolding _∪_
+relend-within {U} {W} {I} {e} s p = record {
+  kept = λ i. table 4 (λ u w i o. u ≐ (w && not o) ⟹ u ⊑ i ⟹ w ⊑ i || o) refl (U i) (W i) (I i) (only e i) (s .without i) (p .kept i);
+}
+
+pub relend-covers : {v : Bool} {U W I : Items} {e : ℕ} → Without U W e → (v || W e) ≡ true → Covers v U I → Covers v W (I ∪ only e)
+unfolding _∪_
+relend-covers {v} {U} {W} {I} {e} s h c = record {
+  cover = λ i. table 5 (λ v u w i o. u ≐ (w && not o) ⟹ o ⊑ v || w ⟹ i ⊑ v || u ⟹ i || o ⊑ v || w) refl
+      v (U i) (W i) (I i) (only e i) (s .without i) (only-at (λ i. v || W i) e h i) (c .cover i);
+}
+
+-- One item less (a use): W is taken from I without e, U is W and e.
+pub used-out : {W : Items} (I : Items) (e : ℕ) → Within W (I ∖ only e) → W e ≡ false
+unfolding _∖_
+used-out {W} I e p = table 3 (λ w i o. o ≐ true ⟹ w ⊑ i && not o ⟹ w ≐ false) refl (W e) (I e) (only e e) (only-self e) (p .kept e)
+
+pub used-within : {U W : Items} {e : ℕ} (I : Items) → Plus U W e → I e ≡ true → Within W (I ∖ only e) → Within U I
+unfolding _∖_
+used-within {U} {W} {e} I s h p = record {
+  kept = λ i. table 4 (λ u w i o. u ≐ (w || o) ⟹ o ⊑ i ⟹ w ⊑ i && not o ⟹ u ⊑ i) refl
+      (U i) (W i) (I i) (only e i) (s .plus i) (only-at I e h i) (p .kept i);
+}
+
+pub used-covers : {v : Bool} {U W : Items} {e : ℕ} (I : Items) → Plus U W e → Covers v W (I ∖ only e) → Covers v U I
+unfolding _∖_
+used-covers {v} {U} {W} {e} I s c = record {
+  cover = λ i. table 5 (λ v u w i o. u ≐ (w || o) ⟹ i && not o ⊑ v || w ⟹ i ⊑ v || u) refl
+      v (U i) (W i) (I i) (only e i) (s .plus i) (c .cover i);
+}
+
+pub before-use-at : {U W I : Items} {e : ℕ} → Plus U W e → Within U I → I e ≡ true
+before-use-at {U} {W} {I} {e} s p = table 4 (λ u w i o. o ≐ true ⟹ u ≐ (w || o) ⟹ u ⊑ i ⟹ i ≐ true) refl
+    (U e) (W e) (I e) (only e e) (only-self e) (s .plus e) (p .kept e)
+
+pub before-use-within : {U W I : Items} {e : ℕ} → Plus U W e → W e ≡ false → Within U I → Within W (I ∖ only e)
+unfolding _∖_
+before-use-within {U} {W} {I} {e} s n p = record {
+  kept = λ i. table 4 (λ u w i o. u ≐ (w || o) ⟹ (o ≐ true ⟹ w ≐ false) ⟹ u ⊑ i ⟹ w ⊑ i && not o) refl
+      (U i) (W i) (I i) (only e i) (s .plus i) (only-at W e n i) (p .kept i);
+}
+
+pub before-use-covers : {v : Bool} {U W I : Items} {e : ℕ} → Plus U W e → Covers v U I → Covers v W (I ∖ only e)
+unfolding _∖_
+before-use-covers {v} {U} {W} {I} {e} s c = record {
+  cover = λ i. table 5 (λ v u w i o. u ≐ (w || o) ⟹ i ⊑ v || u ⟹ i && not o ⊑ v || w) refl
+      v (U i) (W i) (I i) (only e i) (s .plus i) (c .cover i);
+}

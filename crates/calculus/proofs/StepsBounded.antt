@@ -1,0 +1,113 @@
+-- How far up the entry numbers of a derivation's steps go: clauses of height 8 at most lend six clauses a use, one inside the other.
+use Prim.Native.Nat.{ℕ, _+_, _*_, _≤_, _<_}
+use native.Mathlib.Omega.{arith}
+use mathlib.Core.Path.{_≡_, refl, sym, ap, _∙_}
+use mathlib.Core.Bool.{Bool, true, false, _||_, false≢true}
+use mathlib.Core.List.{List, [], _∷_, _++_}
+use lib.ListN.{length}
+use lib.Dec.{eqb}
+use borrow.Author.Tests.{eqb-true}
+use Rattle.calculus.specs.Formula.{Goal, Clause, atomᴳ, topᴳ, oneᴳ, zeroᴳ, tensor, with, lolliᴳ, atomᴰ, topᴰ, lolliᴰ, fits, matched}
+use Rattle.calculus.specs.Formula.{residual}
+use Rattle.calculus.specs.Items.{Items}
+use Rattle.calculus.specs.Derivation.{Scope, Entry, clauseAt, lend, Derives, res-1, res-⊤, res-⊗, res-&, res-⊸, res-atm-int}
+use Rattle.calculus.specs.Derivation.{res-atm-lin}
+use Rattle.calculus.specs.Steps.{steps, nesting, stands}
+use Rattle.calculus.specs.Inner.Height.{heightᴳ, heightᴰ, lends, Low, Below}
+use Rattle.calculus.proofs.RenamingKeeps.{in-scope, lent-cases, entry-before, entry-lent}
+use Rattle.calculus.proofs.SummaryExact.{lend-length}
+
+low-lend : {es : Scope} (D : Clause) → Low es → heightᴰ D ≤ 8 → Low (lend es D)
+unfolding clauseAt
+low-lend {es} D l h =
+    record {
+      low =
+          lent-cases es D (λ e. heightᴰ (clauseAt (lend es D) e) ≤ 8)
+          (λ e g. omega (arith, l .low e g, ap (λ (x : Entry). heightᴰ (x .clause)) (entry-before es D e g)))
+          (omega (arith, ap (λ (x : Entry). heightᴰ (x .clause)) (entry-lent es D (length es) refl)));
+    }
+
+-- a goal lends fewer clauses, one inside the other, than it is high
+pub lends-fewer : (G : Goal) → lends G < heightᴳ G
+unfolding lends heightᴳ
+lends-fewer (atomᴳ a) = omega arith
+lends-fewer topᴳ = omega arith
+lends-fewer oneᴳ = omega arith
+lends-fewer zeroᴳ = omega arith
+lends-fewer (tensor G H) = let g = lends-fewer G in let h = lends-fewer H in omega arith
+lends-fewer (with G H) = let g = lends-fewer G in let h = lends-fewer H in omega arith
+lends-fewer (lolliᴳ D G) = let g = lends-fewer G in omega arith
+
+matched-height : (b : Bool) → heightᴳ (matched b) ≡ 1
+unfolding matched heightᴳ
+matched-height true = refl
+matched-height false = refl
+
+matched-lends : (b : Bool) → lends (matched b) ≡ 0
+unfolding matched lends
+matched-lends true = refl
+matched-lends false = refl
+
+-- what is left of a clause is no higher than it, and its conditions lend at most six, one inside the other, if it is at most 8 high
+residual-height : (a : ℕ) (D : Clause) → heightᴳ (residual a D) ≤ heightᴰ D
+unfolding residual heightᴳ heightᴰ
+residual-height a (atomᴰ b) = omega (arith, matched-height (fits b a))
+residual-height a topᴰ = omega arith
+residual-height a (lolliᴰ G D) = let d = residual-height a D in omega arith
+
+residual-lends : (a : ℕ) (D : Clause) → heightᴰ D ≤ 8 → lends (residual a D) ≤ 6
+unfolding residual lends heightᴰ
+residual-lends a (atomᴰ b) h = omega (arith, matched-lends (fits b a))
+residual-lends a topᴰ h = omega arith
+residual-lends a (lolliᴰ G D) h = let d = residual-lends a D (omega arith) in let g = lends-fewer G in omega arith
+
+below-none : {m : ℕ} → Below m []
+unfolding stands
+below-none = record { below = λ e h. absurd (false≢true h) }
+
+or-cases : (a b : Bool) (P : Type 0) → (a || b) ≡ true → (a ≡ true → P) → (b ≡ true → P) → P
+or-cases true b P h f g = f refl
+or-cases false b P h f g = g h
+
+below-cons : {m x : ℕ} {l : List ℕ} → x < m → Below m l → Below m (x ∷ l)
+unfolding stands
+below-cons {m} {x} {l} h b =
+    record { below = λ e s. or-cases (eqb e x) (stands e l) (e < m) s (λ q. omega (arith, eqb-true e x q)) (b .below e) }
+
+stands-parts : (e : ℕ) (l k : List ℕ) → stands e (l ++ k) ≡ (stands e l || stands e k)
+unfolding stands
+stands-parts e [] k = refl
+stands-parts e (x ∷ l) k = ap (λ (b : Bool). eqb e x || b) (stands-parts e l k) ∙ sym (or-assoc (eqb e x) (stands e l) (stands e k))
+  where
+    or-assoc : (a b c : Bool) → ((a || b) || c) ≡ (a || (b || c))
+    or-assoc true b c = refl
+    or-assoc false b c = refl
+
+below-parts : {m : ℕ} {l k : List ℕ} → Below m l → Below m k → Below m (l ++ k)
+below-parts {m} {l} {k} b c =
+    record {
+      below = λ e s. or-cases (stands e l) (stands e k) (e < m) (sym (stands-parts e l k) ∙ s) (b .below e) (c .below e);
+    }
+
+-- THEOREM. With clauses at most 8 high, the steps of a derivation are below what stands in scope, the lends of its goal, and six for each
+-- nesting.
+pub steps-below : (m : ℕ) {es : Scope} {I : Items} {G : Goal} → Low es → heightᴳ G ≤ 8 → (d : Derives es I G)
+    → length es + lends G + 6 * nesting d ≤ m → Below m (steps d)
+unfolding steps nesting heightᴳ lends
+steps-below m l h (res-1 n) b = below-none
+steps-below m l h res-⊤ b = below-none
+steps-below m l h (res-⊗ s c d) b =
+    below-parts (steps-below m l (omega arith) c (omega arith)) (steps-below m l (omega arith) d (omega arith))
+steps-below m l h (res-& c d) b =
+    below-parts (steps-below m l (omega arith) c (omega arith)) (steps-below m l (omega arith) d (omega arith))
+steps-below m l h (res-⊸ {es} {D} f d) b = steps-below m (low-lend D l (omega arith)) (omega arith) d (omega (arith, lend-length es D))
+steps-below m {es} l h (res-atm-int {a} e n d) b =
+    let in-it = in-scope a e d in
+    let low = l .low e in-it in
+    below-cons (omega arith)
+    (steps-below m l (omega (arith, residual-height a (clauseAt es e))) d (omega (arith, residual-lends a (clauseAt es e) low)))
+steps-below m {es} l h (res-atm-lin {a} e n i d) b =
+    let in-it = in-scope a e d in
+    let low = l .low e in-it in
+    below-cons (omega arith)
+    (steps-below m l (omega (arith, residual-height a (clauseAt es e))) d (omega (arith, residual-lends a (clauseAt es e) low)))

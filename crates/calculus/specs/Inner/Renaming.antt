@@ -1,0 +1,55 @@
+-- Maps of entries: from one scope to another, from one job to another, and the swap of two lines.
+use Prim.Native.Nat.{ℕ, _+_, _≤_, _<_}
+use mathlib.Core.Path.{_≡_}
+use mathlib.Core.Logic.{ite}
+use mathlib.Core.Bool.{true}
+use mathlib.Core.List.{List}
+use native.Mathlib.Decide.{ℕ-discrete}
+use lib.ListN.{length}
+use Rattle.calculus.specs.Formula.{Goal}
+use Rattle.calculus.specs.Items.{Items, _∪_}
+use Rattle.calculus.specs.Derivation.{Scope, clauseAt, linearAt, Derives}
+use Rattle.calculus.specs.Steps.{steps, nesting}
+use Rattle.calculus.specs.Job.{Job}
+
+-- f takes the entries of one scope to those of another, keeping clauses and linearity; g undoes it; lent clauses go on from the end.
+pub record Renaming (es fs : Scope) (f g : ℕ → ℕ) : Type 0 where
+  pub within : (e : ℕ) → e < length es → f e < length fs
+  pub clause : (e : ℕ) → e < length es → clauseAt fs (f e) ≡ clauseAt es e
+  pub linear : (e : ℕ) → e < length es → linearAt fs (f e) ≡ linearAt es e
+  pub undone : (e : ℕ) → g (f e) ≡ e
+  pub beyond : (k : ℕ) → f (length es + k) ≡ length fs + k
+
+-- J holds the images of the items of I and no others.
+pub record Image (f g : ℕ → ℕ) (I J : Items) : Type 0 where
+  pub taken : (i : ℕ) → J (f i) ≡ I i
+  pub sole : (k : ℕ) → J k ≡ true → f (g k) ≡ k
+
+-- a derivation with this list and this nesting
+pub record Renamed (fs : Scope) (J : Items) (G : Goal) (l : List ℕ) (n : ℕ) : Type 0 where
+  pub tree : Derives fs J G
+  pub list : steps tree ≡ l
+  pub depth : nesting tree ≡ n
+
+-- The job j goes over into k along f: its entries do, each must line of k is one of j, each line of j is one of k, the goal is the same
+-- and the limits are no lower.
+pub record JobRenaming (j k : Job) (f g : ℕ → ℕ) : Type 0 where
+  pub entries : Renaming (j .scope) (k .scope) f g
+  pub strict-from : (i : ℕ) → k .strict i ≡ true → (f (g i) ≡ i) × (j .strict (g i) ≡ true)
+  pub lines-to : (i : ℕ) → (j .strict ∪ j .lax) i ≡ true → (k .strict ∪ k .lax) (f i) ≡ true
+  pub same-goal : j .goal ≡ k .goal
+  pub no-shallower : j .depth ≤ k .depth
+  pub no-shorter : j .length-limit ≤ k .length-limit
+
+-- x for y, y for x, any other number for itself
+unfoldable pub swap : ℕ → ℕ → ℕ → ℕ
+swap x y e = ite (ℕ-discrete e x) y (ite (ℕ-discrete e y) x e)
+
+-- x and y are entries of the scope with the same clause, linearity and status.
+pub record EqualLines (j : Job) (x y : ℕ) : Type 0 where
+  pub x-within : x < length (j .scope)
+  pub y-within : y < length (j .scope)
+  pub same-clause : clauseAt (j .scope) x ≡ clauseAt (j .scope) y
+  pub same-linear : linearAt (j .scope) x ≡ linearAt (j .scope) y
+  pub same-strict : j .strict x ≡ j .strict y
+  pub same-lax : j .lax x ≡ j .lax y

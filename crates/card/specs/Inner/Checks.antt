@@ -1,0 +1,30 @@
+-- What the checks 1 to 9 ask and answer on the way.
+use Prim.Native.Nat.{ℕ, _+_, _*_, _≤_, _<_}
+use mathlib.Core.Path.{_≡_}
+use mathlib.Core.Bool.{cond, _&&_}
+use mathlib.Core.List.{List}
+use lib.ListN.{length, take}
+use lib.Dec.{leb}
+use Rattle.card.specs.Format.{ruleCount, lineCount, nodeCount, depthLimit, cardLength, grow}
+use Rattle.card.specs.declared.checks.Built.{Built}
+use Rattle.card.specs.declared.checks.Built.the-variants.{Height, Faulty}
+use Rattle.card.specs.Fault.{wellBuilt, heightStep, heightAt}
+
+-- What the check of node i answers.
+unfoldable pub builtAt : List ℕ → ℕ → Built
+builtAt bs i = cond (wellBuilt bs i && leb (heightAt bs i) 8) (Height (heightAt bs i)) Faulty
+
+-- What later checks ask of the card, once the front has passed.
+pub record Framed (bs : List ℕ) : Type 0 where
+  pub whole : cardLength bs ≡ length bs
+  pub few : nodeCount bs ≤ 512
+  pub rules : ruleCount bs ≤ 64
+  pub lines : lineCount bs ≤ 64
+  pub depth : depthLimit bs ≤ 16
+
+-- Node i stands on the card, and t begins with the heights of the nodes before it.
+pub record Tabled (bs : List ℕ) (i : ℕ) (t : List ℕ) : Type 0 where
+  pub here : 16 + 5 * i ≤ length bs
+  pub few : i < 512
+  pub size : length t ≡ 512
+  pub heights : take i t ≡ grow (heightStep bs) i

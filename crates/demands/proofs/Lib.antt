@@ -1,0 +1,4 @@
+-- The three demands, and what they rest on here.
+pub mod WrittenIsRead
+pub mod SamplesComeOut
+pub mod Main

@@ -1,0 +1,76 @@
+-- The three demands on one page, each proved by citing the theorem that does the work.
+--
+-- The contract of planner::plan says of its answer and of the buffer afterwards that they are a `Planning` of the card and the buffer
+-- before; that of reader::read says of its answer that it is a `Reading` of the card and the sheet. Neither asks anything of its
+-- arguments. So what is said here of every outcome is said of every call.
+use Prim.Native.Nat.{ℕ, _+_, _≤_, _<_}
+use mathlib.Core.Path.{_≡_}
+use mathlib.Core.Logic.{_↔_}
+use mathlib.Core.Bool.{true}
+use mathlib.Core.List.{List}
+use lib.ListN.{length, take}
+use Rattle.calculus.specs.Steps.{steps, stands}
+use Rattle.calculus.specs.Job.{Derivable}
+use Rattle.calculus.specs.Ways.{ListsNameWays}
+use Rattle.calculus.proofs.ListsNameWays.{job-lists-name-ways}
+use Rattle.card.specs.Format.{Bytes, ruleCount, lineCount}
+use Rattle.card.specs.Fault.{Sound}
+use Rattle.card.specs.Decode.{jobOf}
+use Rattle.card.proofs.StepsFitAByte.{steps-fit}
+use Rattle.planner.specs.Plan.{PlanVerdict, planned, roomOf, Planning, PlanDecided, Carries}
+use Rattle.planner.proofs.PlannedExactly.{plan-decided, plan-determined, planned-exactly, planned-sheet}
+use Rattle.reader.specs.Read.{ReadVerdict, accepted, Reading, ReadDecided, Holds, AcceptsExactly}
+use Rattle.reader.proofs.AcceptedExactly.{read-decided, read-determined, accepts-exactly, holds-accepted}
+use Rattle.demands.proofs.WrittenIsRead as WrittenIsRead
+
+-- Demand 1. "Every card and sheet, however broken, gets a decision: planned, accepted, or refused with its number and place, within all
+-- bounds. A refused call writes nothing." That every call ends within all bounds is part of what is proved of each function.
+module _ {bs old new : List ℕ} {a : PlanVerdict} where
+  pub plan-decides : Planning bs old a new → PlanDecided bs old new a
+  plan-decides = plan-decided
+
+module _ {bs sh : List ℕ} {a : ReadVerdict} where
+  pub read-decides : Reading bs sh a → ReadDecided bs a
+  read-decides = read-decided
+
+-- There is one decision: "Card, the reader's sheet, old buffer and these rules therefore determine every answer and byte."
+pub plan-decides-once : {bs old new new′ : List ℕ} {a b : PlanVerdict}
+    → Planning bs old a new → Planning bs old b new′ → (a ≡ b) × (new ≡ new′)
+plan-decides-once = plan-determined
+
+pub read-decides-once : {bs sh : List ℕ} {a b : ReadVerdict} → Reading bs sh a → Reading bs sh b → a ≡ b
+read-decides-once = read-determined
+
+-- Demand 2. "Given room for the longest sheet its limits allow, a sound card is planned if and only if Figure 1 of document 000 derives
+-- its goal, with its rules, from all must lines and any of the may lines, within its limits on nesting and steps;
+pub planned-if-derivable : {bs old new : List ℕ} {a : PlanVerdict} → Sound bs → roomOf bs ≤ length old → Planning bs old a new
+    → ((k : ℕ) × (a ≡ planned k)) ↔ Derivable (jobOf bs)
+planned-if-derivable = planned-exactly
+
+-- and the sheet carries the first such list in the stated order."
+pub sheet-carries-first : {bs old new : List ℕ} {k : ℕ} → Planning bs old (planned k) new → Carries bs old new k
+sheet-carries-first = planned-sheet
+
+-- Demand 3. "The list names one way of doing the job: any two derivations within limits have equal lists exactly when the same entry serves
+-- every need; otherwise neither list is a beginning of the other.
+pub lists-name-ways : (bs : List ℕ) (c d : Derivable (jobOf bs)) → ListsNameWays (jobOf bs) (c .derivation) (d .derivation)
+lists-name-ways bs c d = job-lists-name-ways (jobOf bs) (c .derivation) (d .derivation)
+
+-- The reader accepts exactly when the card is sound and the sheet holds the list of such a derivation with its true marks; its k is that
+-- list's length." Every lent slice is `Bytes`, so the contract of reader::read says this of its answer with no premise. What holds a list
+-- is accepted in any case.
+pub accepted-if-holds : {bs sh : List ℕ} {a : ReadVerdict} → Bytes sh → Reading bs sh a → AcceptsExactly bs sh a
+accepted-if-holds = accepts-exactly
+
+pub holds-is-accepted : {bs sh : List ℕ} {k : ℕ} → Holds bs sh k → Reading bs sh (accepted k)
+holds-is-accepted = holds-accepted
+
+-- Together: what the planner writes, the reader accepts with the same k.
+pub written-is-read : {bs old new : List ℕ} {k : ℕ} → Planning bs old (planned k) new → Reading bs (take (5 + k + lineCount bs) new)
+    (accepted k)
+written-is-read = WrittenIsRead.written-is-read
+
+-- "At most 103 stand in scope, so a number fits a byte": every step of a sound card's list.
+pub steps-fit-a-byte : {bs : List ℕ} → Sound bs → (d : Derivable (jobOf bs)) (e : ℕ) → stands e (steps (d .derivation .tree)) ≡ true
+    → e < ruleCount bs + lineCount bs + 103
+steps-fit-a-byte = steps-fit

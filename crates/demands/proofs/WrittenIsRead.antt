@@ -1,0 +1,26 @@
+-- What the planner writes, the reader accepts with the same k.
+use Prim.Native.Nat.{ℕ, _+_}
+use mathlib.Core.Path.{_≡_, sym, _∙_, ap, subst}
+use mathlib.Core.List.{List}
+use lib.ListN.{length, take, drop}
+use lib.Seq.{take-at}
+use Rattle.card.specs.Format.{lineCount}
+use Rattle.card.specs.Sheet.{sheetOf}
+use Rattle.planner.specs.Plan.{Planning, planned, Carries}
+use Rattle.planner.proofs.PlannedExactly.{planned-sheet}
+use Rattle.reader.specs.Read.{Reading, accepted}
+use Rattle.reader.proofs.AcceptedExactly.{sheet-length, round-trip}
+
+carried : {bs old new : List ℕ} {k : ℕ} → Carries bs old new k → Reading bs (take (5 + k + lineCount bs) new) (accepted k)
+carried {bs} {old} {new} {k} c =
+    let long : length (sheetOf bs (c .list)) ≡ 5 + k + lineCount bs =
+    sheet-length bs (c .list) ∙ ap (λ n. 5 + n + lineCount bs) (c .count) in
+    let cut : take (5 + k + lineCount bs) new ≡ sheetOf bs (c .list) =
+    ap (take (5 + k + lineCount bs)) (c .bytes)
+    ∙ take-at (sheetOf bs (c .list)) (drop (5 + k + lineCount bs) old) (5 + k + lineCount bs) long in
+    subst (λ s. Reading bs s (accepted k)) (sym cut)
+    (subst (λ n. Reading bs (sheetOf bs (c .list)) (accepted n)) (c .count) (round-trip bs (c .list) (c .card) (c .first)))
+
+pub written-is-read : {bs old new : List ℕ} {k : ℕ} → Planning bs old (planned k) new → Reading bs (take (5 + k + lineCount bs) new)
+    (accepted k)
+written-is-read p = carried (planned-sheet p)

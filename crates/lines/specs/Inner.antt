@@ -1,0 +1,2 @@
+-- What the line set's own contracts cite.
+pub mod Set

@@ -1,0 +1,137 @@
+-- What 01 asks of the planner's outcomes, for every card and buffer. The contract of `plan` says that its answer and the new buffer are
+-- an outcome; these theorems say what follows.
+use Prim.Native.Nat.{ℕ, _+_, _≤_}
+use mathlib.Core.Path.{_≡_, refl, sym, ap, _∙_}
+use mathlib.Core.Logic.{_↔_, _⊎_, inl, inr}
+use mathlib.Core.List.{List, _++_}
+use native.Mathlib.Omega.{arith}
+use lib.ListN.{length, getD, drop}
+use Rattle.calculus.specs.Steps.{Before, here, there}
+use Rattle.calculus.specs.Job.{Job, Derivable, Listed, First}
+use Rattle.card.specs.Format.{Bytes, lineCount}
+use Rattle.card.specs.Verdict.{Verdict, Where, fault}
+use Rattle.card.specs.Fault.{firstFault, Placed, Sound}
+use Rattle.card.specs.Decode.{jobOf}
+use Rattle.card.specs.Sheet.{word, sheetOf}
+use Rattle.card.proofs.CardChecked.{sound-front}
+use Rattle.card.proofs.FaultsInRange.{fault-in-range}
+use Rattle.card.proofs.NodesDecoded.{listed-short}
+use Rattle.planner.specs.declared.Answer.{Answer}
+use Rattle.planner.specs.declared.Answer.the-variants.{Planned}
+use Rattle.planner.specs.Plan.{PlanVerdict, planned, refused, toldPlan, roomOf, Planning, faulty, short, underivable, planned-as}
+use Rattle.planner.specs.Plan.{roomForAny, NeverShort, PlanDecided, is-planned, is-refused, Carries}
+
+-- The first list is the only one.
+before-not-both : {l m : List ℕ} → Before l m → Before m l → ⊥
+before-not-both (here p) (here q) = omega arith
+before-not-both (here p) (there q) = omega arith
+before-not-both (there p) (here q) = omega arith
+before-not-both (there p) (there q) = before-not-both p q
+
+pub first-unique : (j : Job) (l m : List ℕ) → First j l → First j m → l ≡ m
+first-unique j l m f g = at (f .least m (g .listed)) (g .least l (f .listed))
+  where
+    at : (m ≡ l) ⊎ Before l m → (l ≡ m) ⊎ Before m l → l ≡ m
+    at (inl e) q = sym e
+    at (inr b) (inl e) = e
+    at (inr b) (inr d) = absurd (before-not-both b d)
+
+-- a list within limits is that of a derivation within limits, and the other way round
+pub derivable : {j : Job} {l : List ℕ} → Listed j l → Derivable j
+derivable x = record { derivation = x .derivation; limited = x .limited }
+
+-- The cases of an outcome exclude each other.
+sound-or-faulty : {bs : List ℕ} {n : ℕ} {w : Where} → Sound bs → firstFault bs ≡ fault n w → ⊥
+sound-or-faulty s e = let p = s .faultless in let z : _≡_ {A = ℕ} 0 1 = cc in omega arith
+
+same-fault : {u : Verdict} {n m : ℕ} {w v : Where} → u ≡ fault n w → u ≡ fault m v → refused n w ≡ refused m v
+same-fault p q = cc
+
+-- "Card, .. old buffer and these rules therefore determine every answer and byte."
+pub plan-determined : {bs old : List ℕ} {a b : PlanVerdict} {m n : List ℕ} → Planning bs old a m → Planning bs old b n → (a ≡ b) × (m ≡ n)
+plan-determined (faulty p) (faulty q) = (same-fault p q, refl)
+plan-determined (faulty p) (short s h) = absurd (sound-or-faulty s p)
+plan-determined (faulty p) (underivable s h u) = absurd (sound-or-faulty s p)
+plan-determined (faulty p) (planned-as s h l f) = absurd (sound-or-faulty s p)
+plan-determined (short s h) (faulty q) = absurd (sound-or-faulty s q)
+plan-determined (short s h) (short t i) = (refl, refl)
+plan-determined (short s h) (underivable t i u) = absurd (omega arith)
+plan-determined (short s h) (planned-as t i l f) = absurd (omega arith)
+plan-determined (underivable s h u) (faulty q) = absurd (sound-or-faulty s q)
+plan-determined (underivable s h u) (short t i) = absurd (omega arith)
+plan-determined (underivable s h u) (underivable t i v) = (refl, refl)
+plan-determined (underivable s h u) (planned-as t i l f) = absurd (u (derivable (f .listed)))
+plan-determined (planned-as s h l f) (faulty q) = absurd (sound-or-faulty s q)
+plan-determined (planned-as s h l f) (short t i) = absurd (omega arith)
+plan-determined (planned-as s h l f) (underivable t i u) = absurd (u (derivable (f .listed)))
+plan-determined {bs} {old} (planned-as s h l f) (planned-as t i m g) =
+    let e = first-unique (jobOf bs) l m f g in
+    (ap (λ (x : List ℕ). planned (length x)) e, ap (λ (x : List ℕ). sheetOf bs x ++ drop (5 + length x + lineCount bs) old) e)
+
+-- Demand 2. Of a sound card and a buffer with room: it is planned exactly if there is a derivation within limits.
+pub planned-exactly : {bs old new : List ℕ} {a : PlanVerdict} → Sound bs → roomOf bs ≤ length old → Planning bs old a new
+    → ((k : ℕ) × (a ≡ planned k)) ↔ Derivable (jobOf bs)
+planned-exactly s r (faulty p) = absurd (sound-or-faulty s p)
+planned-exactly s r (short t h) = absurd (omega arith)
+planned-exactly s r (underivable t h u) = (λ q. let z : _≡_ {A = ℕ} 0 1 = cc (q .1) in absurd (omega arith), λ d. absurd (u d))
+planned-exactly s r (planned-as t h l f) = (λ q. derivable (f .listed), λ d. (length l, refl))
+
+-- Demand 2, the sheet.
+pub planned-sheet : {bs old new : List ℕ} {k : ℕ} → Planning bs old (planned k) new → Carries bs old new k
+planned-sheet {k} p = at p refl
+  where
+    at : {bs old new : List ℕ} {a : PlanVerdict} → Planning bs old a new → a ≡ planned k → Carries bs old new k
+    at (faulty q) e = let z : _≡_ {A = ℕ} 0 1 = cc in absurd (omega arith)
+    at (short s h) e = let z : _≡_ {A = ℕ} 0 1 = cc in absurd (omega arith)
+    at (underivable s h u) e = let z : _≡_ {A = ℕ} 0 1 = cc in absurd (omega arith)
+    at (planned-as s h l f) e =
+        let c : length l ≡ k = cc in
+        let few = listed-short _ l (f .listed) in
+        record { card = s; list = l; first = f; count = c; within = omega arith; bytes = rw c }
+
+-- the step count and T, as they stand in the sheet
+pub count-byte : {bs old new : List ℕ} {k : ℕ} → Carries bs old new k → getD new 3 0 ≡ k
+unfolding sheetOf word
+count-byte s = ap (λ (x : List ℕ). getD x 3 0) (s .bytes) ∙ s .count
+
+pub lines-byte : {bs old new : List ℕ} {k : ℕ} → Carries bs old new k → getD new 4 0 ≡ lineCount bs
+unfolding sheetOf word
+lines-byte s = ap (λ (x : List ℕ). getD x 4 0) (s .bytes)
+
+-- for a caller that reads the sheet by its byte 4: the steps and the marks lie within the buffer
+pub planned-room : (bs old new : List ℕ) (a : Answer) (k : ℕ) → a ≡ Planned k → Planning bs old (toldPlan a) new
+    → 5 + k + getD new 4 0 ≤ length old
+unfolding toldPlan
+planned-room bs old new a k e p =
+    let q : Planning bs old (planned k) new = rw e at p in
+    let s = planned-sheet q in
+    let t = lines-byte s in
+    omega arith
+
+-- "after a refusal neither it nor anything else lent has changed"
+pub refused-keeps : {bs old new : List ℕ} {n : ℕ} {w : Where} → Planning bs old (refused n w) new → new ≡ old
+refused-keeps {n} {w} p = at p refl
+  where
+    at : {bs old new : List ℕ} {a : PlanVerdict} → Planning bs old a new → a ≡ refused n w → new ≡ old
+    at (faulty q) e = refl
+    at (short s h) e = refl
+    at (underivable s h u) e = refl
+    at (planned-as s h l f) e = let z : _≡_ {A = ℕ} 0 1 = cc in absurd (omega arith)
+
+-- Demand 1. Every card and every buffer get a decision.
+pub plan-decided : {bs old new : List ℕ} {a : PlanVerdict} → Planning bs old a new → PlanDecided bs old new a
+unfolding Placed
+plan-decided {bs} (faulty {n} {w} p) = let r = fault-in-range bs p in is-refused {n = n} {w = w} (r .0, omega arith) (r .2) refl
+plan-decided (short s h) = is-refused {n = 10} (omega arith, omega arith) tt refl
+plan-decided (underivable s h u) = is-refused {n = 11} (omega arith, omega arith) tt refl
+plan-decided {bs} (planned-as s h l f) = is-planned (listed-short bs l (f .listed))
+
+-- With room for any sheet the answer is not 10.
+pub never-short : {bs old new : List ℕ} {a : PlanVerdict} → Bytes bs → roomForAny ≤ length old → Planning bs old a new → NeverShort a
+never-short {bs} b h (faulty p) = record { not-short = λ w e. let r = fault-in-range bs p in let q = number e in omega arith }
+  where
+    number : {n m : ℕ} {w v : Where} → refused n w ≡ refused m v → n ≡ m
+    number e = cc
+never-short {bs} b h (short s g) = record { not-short = λ w e. omega (arith, sound-front bs s .lines, b .byte 10) }
+never-short b h (underivable s g u) = record { not-short = λ w e. let z : _≡_ {A = ℕ} 11 10 = cc in omega arith }
+never-short b h (planned-as s g l f) = record { not-short = λ w e. let z : _≡_ {A = ℕ} 0 1 = cc in omega arith }

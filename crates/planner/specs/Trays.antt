@@ -1,0 +1,129 @@
+-- The trays of document 01 that are to be proved (01, "Trays tried by hand"): one list of cards and outcomes, and one statement about
+-- derivations; and beside its sample card one whose list has a rule, a line and a lent clause.
+use Prim.Native.Nat.{ℕ}
+use mathlib.Core.Path.{_≡_}
+use mathlib.Core.List.{List, [], _∷_}
+use Rattle.calculus.specs.Job.{Derivable, First}
+use Rattle.card.specs.Fault.{Sound}
+use Rattle.card.specs.Decode.{jobOf}
+use Rattle.card.specs.Sheet.{marksOf}
+use Rattle.card.specs.Sample.{sample}
+
+-- What a tray's row says: the first list and its marks, or 11.
+pub data TrayOutcome : Type 0 where
+  planned : List ℕ → List ℕ → TrayOutcome
+  underivable : TrayOutcome
+
+pub record Tray : Type 0 where
+  pub bytes : List ℕ
+  pub outcome : TrayOutcome
+
+abbrev pub tray : List ℕ → TrayOutcome → Tray
+tray bs o = record { bytes = bs; outcome = o }
+
+-- the list is the first of the card's lists within limits, and these are its marks
+pub record PlannedAs (bs l m : List ℕ) : Type 0 where
+  pub sound : Sound bs
+  pub first : First (jobOf bs) l
+  pub marks : marksOf bs l ≡ m
+
+-- no derivation within limits exists
+pub record Underivable (bs : List ℕ) : Type 0 where
+  pub sound : Sound bs
+  pub none : Derivable (jobOf bs) → ⊥
+
+abbrev pub Comes : List ℕ → TrayOutcome → Type 0
+Comes bs (planned l m) = PlannedAs bs l m
+Comes bs underivable = Underivable bs
+
+abbrev pub EachComes : List Tray → Type 0
+EachComes [] = Unit {0}
+EachComes (t ∷ ts) = Comes (t .bytes) (t .outcome) × EachComes ts
+
+-- The starred rows: twelve, one of them with two outcomes.
+abbrev pub trays : List Tray
+trays =
+    -- nothing, done
+    tray
+    (0 ∷ 16 ∷ 1 ∷ 0 ∷ 0 ∷ 0 ∷ 1 ∷ 0 ∷ 0 ∷ 4 ∷ 8 ∷ 3 ∷ 0 ∷ 0 ∷ 0 ∷ 0 ∷ [])
+    (planned [] [])
+    ∷
+    -- must a, done
+    tray
+    (0 ∷ 24 ∷ 1 ∷ 0 ∷ 1 ∷ 0 ∷ 2 ∷ 0 ∷ 0 ∷ 4 ∷ 8 ∷ 3 ∷ 0 ∷ 0 ∷ 0 ∷ 0 ∷ 1 ∷ 0 ∷ 1 ∷ 0 ∷ 0 ∷ 0 ∷ 1 ∷ 1 ∷ [])
+    underivable
+    ∷
+    -- may a, done
+    tray
+    (0 ∷ 24 ∷ 1 ∷ 0 ∷ 1 ∷ 0 ∷ 2 ∷ 0 ∷ 0 ∷ 4 ∷ 8 ∷ 3 ∷ 0 ∷ 0 ∷ 0 ∷ 0 ∷ 1 ∷ 0 ∷ 1 ∷ 0 ∷ 0 ∷ 0 ∷ 1 ∷ 0 ∷ [])
+    (planned [] (0 ∷ []))
+    ∷
+    -- must a, rest
+    tray
+    (0 ∷ 24 ∷ 1 ∷ 0 ∷ 1 ∷ 0 ∷ 2 ∷ 0 ∷ 0 ∷ 4 ∷ 8 ∷ 2 ∷ 0 ∷ 0 ∷ 0 ∷ 0 ∷ 1 ∷ 0 ∷ 1 ∷ 0 ∷ 0 ∷ 0 ∷ 1 ∷ 1 ∷ [])
+    (planned [] (2 ∷ []))
+    ∷
+    -- must a, a both a
+    tray
+    (0 ∷ 24 ∷ 1 ∷ 0 ∷ 1 ∷ 0 ∷ 2 ∷ 0 ∷ 1 ∷ 4 ∷ 8 ∷ 1 ∷ 0 ∷ 1 ∷ 0 ∷ 0 ∷ 4 ∷ 0 ∷ 0 ∷ 0 ∷ 0 ∷ 0 ∷ 0 ∷ 1 ∷ [])
+    underivable
+    ∷
+    -- must a, must a, a both a
+    tray
+    (0 ∷ 27 ∷ 1 ∷ 0 ∷ 2 ∷ 0 ∷ 2 ∷ 0 ∷ 1 ∷ 4 ∷ 8 ∷ 1 ∷ 0 ∷ 1 ∷ 0 ∷ 0 ∷ 4 ∷ 0 ∷ 0 ∷ 0 ∷ 0 ∷ 0 ∷ 0 ∷ 1 ∷ 0 ∷ 0 ∷ 1 ∷ [])
+    (planned (0 ∷ 1 ∷ []) (1 ∷ 1 ∷ []))
+    ∷
+    -- must a, a either way a
+    tray
+    (0 ∷ 24 ∷ 1 ∷ 0 ∷ 1 ∷ 0 ∷ 2 ∷ 0 ∷ 1 ∷ 4 ∷ 8 ∷ 1 ∷ 0 ∷ 1 ∷ 0 ∷ 0 ∷ 5 ∷ 0 ∷ 0 ∷ 0 ∷ 0 ∷ 0 ∷ 0 ∷ 1 ∷ [])
+    (planned (0 ∷ 0 ∷ []) (1 ∷ []))
+    ∷
+    -- must a, must b, rest both a
+    tray
+    (0 ∷ 37 ∷ 1 ∷ 0 ∷ 2 ∷ 0 ∷ 4 ∷ 0 ∷ 2 ∷ 4 ∷ 8 ∷ 2 ∷ 0 ∷ 0 ∷ 0 ∷ 0 ∷ 1 ∷ 0 ∷ 1 ∷ 0 ∷ 0 ∷ 4 ∷ 0 ∷ 0 ∷ 0 ∷ 1 ∷ 1 ∷ 0 ∷ 2 ∷ 0
+    ∷ 0 ∷ 0 ∷ 1 ∷ 1 ∷ 0 ∷ 3 ∷ 1 ∷ [])
+    (planned (0 ∷ []) (1 ∷ 2 ∷ []))
+    ∷
+    -- may a, must a, a
+    tray
+    (0 ∷ 22 ∷ 1 ∷ 0 ∷ 2 ∷ 0 ∷ 1 ∷ 0 ∷ 0 ∷ 4 ∷ 8 ∷ 1 ∷ 0 ∷ 1 ∷ 0 ∷ 0 ∷ 0 ∷ 0 ∷ 0 ∷ 0 ∷ 0 ∷ 1 ∷ [])
+    (planned (1 ∷ []) (0 ∷ 1 ∷ []))
+    ∷
+    -- rules a; b; a gives (b gives c); goal c
+    tray
+    (0 ∷ 42 ∷ 1 ∷ 3 ∷ 0 ∷ 0 ∷ 5 ∷ 0 ∷ 0 ∷ 4 ∷ 8 ∷ 1 ∷ 0 ∷ 3 ∷ 0 ∷ 0 ∷ 1 ∷ 0 ∷ 1 ∷ 0 ∷ 0 ∷ 1 ∷ 0 ∷ 2 ∷ 0 ∷ 0 ∷ 7 ∷ 0 ∷ 2 ∷ 0
+    ∷ 0 ∷ 7 ∷ 0 ∷ 1 ∷ 0 ∷ 3 ∷ 0 ∷ 1 ∷ 0 ∷ 2 ∷ 0 ∷ 4 ∷ [])
+    (planned (2 ∷ 1 ∷ 0 ∷ []) [])
+    ∷
+    -- the same with d = 1
+    tray
+    (0 ∷ 42 ∷ 1 ∷ 3 ∷ 0 ∷ 0 ∷ 5 ∷ 0 ∷ 0 ∷ 1 ∷ 8 ∷ 1 ∷ 0 ∷ 3 ∷ 0 ∷ 0 ∷ 1 ∷ 0 ∷ 1 ∷ 0 ∷ 0 ∷ 1 ∷ 0 ∷ 2 ∷ 0 ∷ 0 ∷ 7 ∷ 0 ∷ 2 ∷ 0
+    ∷ 0 ∷ 7 ∷ 0 ∷ 1 ∷ 0 ∷ 3 ∷ 0 ∷ 1 ∷ 0 ∷ 2 ∷ 0 ∷ 4 ∷ [])
+    underivable
+    ∷
+    -- lend a to a
+    tray
+    (0 ∷ 21 ∷ 1 ∷ 0 ∷ 0 ∷ 0 ∷ 2 ∷ 0 ∷ 1 ∷ 4 ∷ 8 ∷ 1 ∷ 0 ∷ 1 ∷ 0 ∷ 0 ∷ 6 ∷ 0 ∷ 0 ∷ 0 ∷ 0 ∷ [])
+    (planned (0 ∷ []) [])
+    ∷
+    -- (lend a to done) both rest
+    tray
+    (0 ∷ 36 ∷ 1 ∷ 0 ∷ 0 ∷ 0 ∷ 5 ∷ 0 ∷ 4 ∷ 4 ∷ 8 ∷ 1 ∷ 0 ∷ 1 ∷ 0 ∷ 0 ∷ 3 ∷ 0 ∷ 0 ∷ 0 ∷ 0 ∷ 6 ∷ 0 ∷ 0 ∷ 0 ∷ 1 ∷ 2 ∷ 0 ∷ 0 ∷ 0
+    ∷ 0 ∷ 4 ∷ 0 ∷ 2 ∷ 0 ∷ 3 ∷ [])
+    underivable
+    ∷ []
+
+-- A rule, a line and a lent clause: rule b and a give c; must a; goal lend b to c; d = 2, s = 3.
+abbrev pub mixed : List ℕ
+mixed =
+    0x00 ∷ 0x2E ∷ 0x01 ∷ 0x01 ∷ 0x01 ∷ 0x00 ∷ 0x06 ∷ 0x00 ∷ 0x02 ∷ 0x02 ∷ 0x03 ∷ 0x01 ∷ 0x00 ∷ 0x02 ∷ 0x00 ∷ 0x00 ∷ 0x01
+    ∷ 0x00 ∷ 0x03 ∷ 0x00 ∷ 0x00 ∷ 0x06 ∷ 0x00 ∷ 0x00 ∷ 0x00 ∷ 0x01 ∷ 0x01 ∷ 0x00 ∷ 0x01 ∷ 0x00 ∷ 0x00 ∷ 0x07 ∷ 0x00 ∷ 0x00
+    ∷ 0x00 ∷ 0x01 ∷ 0x07 ∷ 0x00 ∷ 0x03 ∷ 0x00 ∷ 0x04 ∷ 0x00 ∷ 0x05 ∷ 0x00 ∷ 0x03 ∷ 0x01 ∷ []
+
+-- Their lists and marks.
+abbrev pub samples : List Tray
+samples = tray sample (planned (1 ∷ 0 ∷ []) (1 ∷ 1 ∷ 0 ∷ [])) ∷ tray mixed (planned (0 ∷ 2 ∷ 1 ∷ []) (1 ∷ [])) ∷ []
+
+-- The second one's sheet.
+abbrev pub mixedSheet : List ℕ
+mixedSheet = 0x00 ∷ 0x09 ∷ 0x01 ∷ 0x03 ∷ 0x01 ∷ 0x00 ∷ 0x02 ∷ 0x01 ∷ 0x01 ∷ []

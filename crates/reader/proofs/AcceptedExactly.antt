@@ -1,0 +1,207 @@
+-- What 01 asks of the reader's outcomes, for every card and sheet. The contract of `read` says that its answer is an outcome; these
+-- theorems say what follows.
+use Prim.Native.Nat.{ℕ, zero, suc, _+_, _*_, _/_, _%_, _≤_, _<_}
+use native.Mathlib.Omega.{arith}
+use mathlib.Core.Path.{_≡_, refl, sym, ap, _∙_}
+use mathlib.Core.Logic.{inl, inr}
+use mathlib.Core.List.{List, [], _∷_, _++_}
+use lib.ListN.{length, getD, drop, length-append, length-drop, take-append-drop}
+use lib.Seq.{take-append-seam, drop-append-seam, drop-drop, ext-getD}
+use borrow.Author.Tests.{eqb-true, not-false}
+use Rattle.calculus.specs.Job.{Listed, First}
+use Rattle.card.specs.Format.{byteAt, Bytes, lineCount, listing}
+use Rattle.card.specs.Verdict.{Verdict, Where, sound, fault, firstOf}
+use Rattle.card.specs.Fault.{Placed, Sound}
+use Rattle.card.specs.Decode.{jobOf}
+use Rattle.card.specs.Sheet.{markOf, marksOf, word, sheetOf}
+use Rattle.card.proofs.TablesGrow.{length-listing, listing-at}
+use Rattle.card.proofs.FaultsInOrder.{not-applied, first-each, first-goes}
+use Rattle.card.proofs.NodesDecoded.{listed-short}
+use Rattle.card.proofs.FaultsInRange.{Tells, tells-refuse, tells-first, fault-in-range}
+use Rattle.sheet.specs.Front.{stepCount, stepsOf, marksIn, sheetFault}
+use Rattle.sheet.specs.Inner.Fitting.{Fitting}
+use Rattle.sheet.specs.Marks.{markFault}
+use Rattle.sheet.proofs.SheetFits.{fitting, all-fit, sheet-fits, steps-length}
+use Rattle.sheet.proofs.SheetWritten.{mark-right}
+use Rattle.reader.specs.Read.{ReadVerdict, accepted, refused, marksFault, Reading, faulty, misfit, no-list, wrong-mark, accepted-as}
+use Rattle.reader.specs.Read.{ReadDecided, is-accepted, is-refused, Holds, AcceptsExactly}
+
+-- The cases of an outcome exclude each other.
+sound-or-faulty : {v : Verdict} {n : ℕ} {w : Where} → v ≡ sound → v ≡ fault n w → ⊥
+sound-or-faulty p q = let z : _≡_ {A = ℕ} 0 1 = cc in omega arith
+
+same-fault : {v : Verdict} {n m : ℕ} {w u : Where} → v ≡ fault n w → v ≡ fault m u → refused n w ≡ refused m u
+same-fault p q = cc
+
+-- "Card, the reader's sheet .. and these rules therefore determine every answer".
+pub read-determined : {bs sh : List ℕ} {a b : ReadVerdict} → Reading bs sh a → Reading bs sh b → a ≡ b
+read-determined (faulty p) (faulty q) = same-fault p q
+read-determined (faulty p) (misfit s q) = absurd (sound-or-faulty (s .faultless) p)
+read-determined (faulty p) (no-list s f n) = absurd (sound-or-faulty (s .faultless) p)
+read-determined (faulty p) (wrong-mark s f x q) = absurd (sound-or-faulty (s .faultless) p)
+read-determined (faulty p) (accepted-as s f x m) = absurd (sound-or-faulty (s .faultless) p)
+read-determined (misfit s p) (faulty q) = absurd (sound-or-faulty (s .faultless) q)
+read-determined (misfit s p) (misfit t q) = same-fault p q
+read-determined (misfit s p) (no-list t f n) = absurd (sound-or-faulty f p)
+read-determined (misfit s p) (wrong-mark t f x q) = absurd (sound-or-faulty f p)
+read-determined (misfit s p) (accepted-as t f x m) = absurd (sound-or-faulty f p)
+read-determined (no-list s f n) (faulty q) = absurd (sound-or-faulty (s .faultless) q)
+read-determined (no-list s f n) (misfit t q) = absurd (sound-or-faulty f q)
+read-determined (no-list s f n) (no-list t g m) = refl
+read-determined (no-list s f n) (wrong-mark t g x q) = absurd (n x)
+read-determined (no-list s f n) (accepted-as t g x m) = absurd (n x)
+read-determined (wrong-mark s f x p) (faulty q) = absurd (sound-or-faulty (s .faultless) q)
+read-determined (wrong-mark s f x p) (misfit t q) = absurd (sound-or-faulty f q)
+read-determined (wrong-mark s f x p) (no-list t g n) = absurd (n x)
+read-determined (wrong-mark s f x p) (wrong-mark t g y q) = same-fault p q
+read-determined (wrong-mark s f x p) (accepted-as t g y m) = absurd (sound-or-faulty m p)
+read-determined (accepted-as s f x m) (faulty q) = absurd (sound-or-faulty (s .faultless) q)
+read-determined (accepted-as s f x m) (misfit t q) = absurd (sound-or-faulty f q)
+read-determined (accepted-as s f x m) (no-list t g n) = absurd (n x)
+read-determined (accepted-as s f x m) (wrong-mark t g y q) = absurd (sound-or-faulty m q)
+read-determined (accepted-as s f x m) (accepted-as t g y n) = refl
+
+marks-length : (bs l : List ℕ) → length (marksOf bs l) ≡ lineCount bs
+unfolding marksOf
+marks-length bs l = length-listing (markOf bs l) (lineCount bs)
+
+front-of : (s : List ℕ) → 5 ≤ length s → s ≡ byteAt s 0 ∷ byteAt s 1 ∷ byteAt s 2 ∷ byteAt s 3 ∷ byteAt s 4 ∷ drop 5 s
+front-of [] h = absurd (omega arith)
+front-of (a ∷ []) h = absurd (omega arith)
+front-of (a ∷ b ∷ []) h = absurd (omega arith)
+front-of (a ∷ b ∷ c ∷ []) h = absurd (omega arith)
+front-of (a ∷ b ∷ c ∷ d ∷ []) h = absurd (omega arith)
+front-of (a ∷ b ∷ c ∷ d ∷ e ∷ s) h = refl
+
+word-of : (a b n : ℕ) → b < 256 → a * 256 + b ≡ n → word n ≡ a ∷ b ∷ []
+unfolding word
+word-of a b n g e =
+    let p : n / 256 ≡ a = omega arith in
+    let q : n % 256 ≡ b = omega arith in
+    rw (p, q) refl
+
+first-all : (n : ℕ) (f : ℕ → Verdict) → ((i : ℕ) → i < n → f i ≡ sound) → firstOf n f ≡ sound
+unfolding firstOf
+first-all zero f h = refl
+first-all (suc n) f h = first-goes n f (first-all n f (λ i g. h i (omega arith))) (h n (omega arith))
+
+-- A sheet that fits and has no wrong mark is the sheet of its steps.
+module _ {bs sh : List ℕ} (f : Fitting bs sh) where
+  marks-true : marksFault bs sh ≡ sound → drop (stepCount sh) (drop 5 sh) ≡ marksOf bs (stepsOf sh)
+  unfolding marksFault markFault marksOf
+  marks-true e =
+      ext-getD 0 (drop (stepCount sh) (drop 5 sh)) (listing (lineCount bs) (markOf bs (stepsOf sh)))
+      (size ∙ sym (length-listing (markOf bs (stepsOf sh)) (lineCount bs)))
+      (λ i h.
+      let g : i < lineCount bs = omega (arith, size) in
+      let r = first-each (lineCount bs) (markFault bs (stepsOf sh) (marksIn sh)) e i g in
+      ap (λ (x : List ℕ). getD x i 0) (drop-drop (stepCount sh) 5 sh)
+      ∙ eqb-true (byteAt (marksIn sh) i) (markOf bs (stepsOf sh) i) (not-false _ (not-applied _ _ _ r))
+      ∙ sym (listing-at (markOf bs (stepsOf sh)) (lineCount bs) i 0 g))
+    where
+      size : length (drop (stepCount sh) (drop 5 sh)) ≡ lineCount bs
+      size = let g = f .long in let l = f .lines in simp (length-drop) (omega arith)
+
+  is-sheet : Bytes sh → marksFault bs sh ≡ sound → sh ≡ sheetOf bs (stepsOf sh)
+  unfolding sheetOf
+  is-sheet b e =
+      let k = steps-length f in
+      let w : word (5 + length (stepsOf sh) + lineCount bs) ≡ byteAt sh 0 ∷ byteAt sh 1 ∷ [] =
+      word-of (byteAt sh 0) (byteAt sh 1) (5 + length (stepsOf sh) + lineCount bs) (b .byte 1)
+      (omega (arith, f .whole, f .long, f .lines))
+      in
+      let r : drop 5 sh ≡ stepsOf sh ++ marksOf bs (stepsOf sh) =
+      sym (take-append-drop (stepCount sh) (drop 5 sh)) ∙ ap (λ (x : List ℕ). stepsOf sh ++ x) (marks-true e)
+      in
+      let p = f .first in
+      let q = f .lines in
+      front-of sh (f .front) ∙ rw w (cc)
+
+-- The sheet of a list fits and has no wrong mark.
+module _ (bs l : List ℕ) where
+  pub sheet-length : length (sheetOf bs l) ≡ 5 + length l + lineCount bs
+  unfolding sheetOf word
+  sheet-length = omega (arith, length-append l (marksOf bs l), marks-length bs l)
+
+  sheet-steps : stepsOf (sheetOf bs l) ≡ l
+  unfolding sheetOf word
+  sheet-steps = take-append-seam l (marksOf bs l)
+
+  sheet-marks : marksIn (sheetOf bs l) ≡ marksOf bs l
+  unfolding sheetOf word
+  sheet-marks = sym (drop-drop (length l) 5 (sheetOf bs l)) ∙ drop-append-seam l (marksOf bs l)
+
+  sheet-fitting : Listed (jobOf bs) l → Fitting bs (sheetOf bs l)
+  unfolding sheetOf word
+  sheet-fitting x =
+      let long = sheet-length in
+      record {
+        front = omega arith;
+        whole = omega arith;
+        first = refl;
+        lines = refl;
+        long = omega arith;
+        few = listed-short bs l x;
+      }
+
+  sheet-faultless : marksFault bs (sheetOf bs l) ≡ sound
+  unfolding marksFault marksOf
+  sheet-faultless = rw (sheet-steps, sheet-marks)
+      (first-all (lineCount bs) (markFault bs l (marksOf bs l))
+      (λ i h. mark-right bs l (marksOf bs l) i (listing-at (markOf bs l) (lineCount bs) i 0 h)))
+
+  -- Demand 3, the reader: the sheet of a derivation's list within limits is accepted.
+  pub sheet-accepted : Sound bs → Listed (jobOf bs) l → Reading bs (sheetOf bs l) (accepted (length l))
+  sheet-accepted s x =
+      let fits = sheet-fits bs (sheetOf bs l) (sym (all-fit bs (sheetOf bs l) (sheet-fitting x))) in
+      let y : Listed (jobOf bs) (stepsOf (sheetOf bs l)) = rw sheet-steps x in
+      rw sheet-steps at (accepted-as s fits y sheet-faultless)
+
+-- What a sheet that is accepted holds. Its second byte is below 256, as every byte is: else another pair of numbers gave the same length.
+accepted-holds : {bs sh : List ℕ} {a : ReadVerdict} → Bytes sh → Reading bs sh a → (k : ℕ) → a ≡ accepted k → Holds bs sh k
+accepted-holds b (faulty q) k e = let z : _≡_ {A = ℕ} 0 1 = cc in absurd (omega arith)
+accepted-holds b (misfit s q) k e = let z : _≡_ {A = ℕ} 0 1 = cc in absurd (omega arith)
+accepted-holds b (no-list s f n) k e = let z : _≡_ {A = ℕ} 0 1 = cc in absurd (omega arith)
+accepted-holds b (wrong-mark s f x q) k e = let z : _≡_ {A = ℕ} 0 1 = cc in absurd (omega arith)
+accepted-holds {bs} {sh} b (accepted-as s f x m) k e = record {
+  card = s;
+  list = stepsOf sh;
+  listed = x;
+  bytes = is-sheet (fitting bs sh f) b m;
+  count = cc;
+}
+
+-- What holds a list is accepted with its length.
+pub holds-accepted : {bs sh : List ℕ} {k : ℕ} → Holds bs sh k → Reading bs sh (accepted k)
+holds-accepted {bs} h = rw (h .count, ← h .bytes) at (sheet-accepted bs (h .list) (h .card) (h .listed))
+
+-- Demand 3, second half, of a sheet of bytes.
+pub accepts-exactly : {bs sh : List ℕ} {a : ReadVerdict} → Bytes sh → Reading bs sh a → AcceptsExactly bs sh a
+accepts-exactly b r = record { exactly = λ k. (accepted-holds b r k, λ h. read-determined r (holds-accepted h)) }
+
+-- The sheet of a card's first list, which the planner writes, is read back.
+pub round-trip : (bs l : List ℕ) → Sound bs → First (jobOf bs) l → Reading bs (sheetOf bs l) (accepted (length l))
+round-trip bs l s f = sheet-accepted bs l s (f .listed)
+
+-- 12 and 14 tell of the sheet and of a mark that there is.
+abbrev OfSheet : List ℕ → ℕ → Where → Type 0
+OfSheet bs n w = (12 ≤ n) × (n ≤ 14) × Placed bs w
+
+sheet-told : (bs sh : List ℕ) → Tells (OfSheet bs) (sheetFault bs sh)
+unfolding sheetFault Placed
+sheet-told bs sh = tells-refuse (OfSheet bs) _ (omega arith, omega arith, tt)
+
+marks-told : (bs sh : List ℕ) → Tells (OfSheet bs) (marksFault bs sh)
+unfolding marksFault markFault Placed
+marks-told bs sh = tells-first (OfSheet bs) (lineCount bs) _ (λ i h. tells-refuse (OfSheet bs) _ (omega arith, omega arith, h))
+
+-- Demand 1. Every card and every sheet get a decision.
+pub read-decided : {bs sh : List ℕ} {a : ReadVerdict} → Reading bs sh a → ReadDecided bs a
+unfolding Placed
+read-decided {bs} (faulty {n} {w} p) = let r = fault-in-range bs p in is-refused {n = n} {w = w} (inl (r .0, r .1)) (r .2)
+read-decided {bs} {sh} (misfit {n} {w} s p) =
+    let r = sheet-told bs sh .told-so p in is-refused {n = n} {w = w} (inr (r .0, r .1)) (r .2)
+read-decided (no-list s f n) = is-refused {n = 13} (inr (omega arith, omega arith)) tt
+read-decided {bs} {sh} (wrong-mark {n} {w} s f x p) =
+    let r = marks-told bs sh .told-so p in is-refused {n = n} {w = w} (inr (r .0, r .1)) (r .2)
+read-decided {bs} {sh} (accepted-as s f x m) = is-accepted (listed-short bs (stepsOf sh) x)

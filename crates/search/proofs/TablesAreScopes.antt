@@ -1,0 +1,253 @@
+-- Laws of the tables: the scope that they stand for, how it grows, and the twins.
+use Prim.Native.Nat.{ℕ, zero, suc, _+_, _-_, _<_, _≤_}
+use native.Mathlib.Decide.{decLt}
+use native.Mathlib.Nat.{eq-or-lt-of-le}
+use native.Mathlib.Omega.{arith}
+use mathlib.Core.Path.{_≡_, refl, sym, _∙_, ap, ap₂, fun-ext}
+use mathlib.Core.Logic.{⊎-elim}
+use mathlib.Core.Bool.{Bool, true, false, _||_}
+use mathlib.Core.Option.{Option, none, some}
+use mathlib.Core.List.{List, [], _∷_, _++_, append-assoc}
+use lib.ListN.{length, getD, take, set, length-set, List·getD-eq-default, List·getD-append}
+use lib.Seq.{getD-take, getD-set-same, getD-set-other, take-set-le, take-suc-set, ext-getD, getD-append-add}
+use lib.Dec.{leb, ltb, eqb}
+use borrow.Author.Tests.{le-leb, lt-leb, leb-true, ltb-true, eq-eqb, ne-eqb}
+use Rattle.calculus.specs.Formula.{topᴰ, fits, head}
+use Rattle.calculus.specs.Derivation.{Entry, noEntry, clauseAt, linearAt, lend}
+use Rattle.calculus.specs.Steps.{stands}
+use Rattle.card.specs.Format.{ruleCount, lineCount, nodeCount, ruleNode, lineNode, listing}
+use Rattle.card.specs.Fault.{clausePart}
+use Rattle.card.specs.Decode.{clauseOf, ruleEntry, lineEntry, jobOf}
+use Rattle.card.proofs.FrontChecked.{both-left, both-right}
+use Rattle.card.proofs.TablesGrow.{length-listing, listing-at}
+use Rattle.card.proofs.NodesDecoded.{scope-length, rule-at, line-at}
+use Rattle.search.specs.Inner.Walk.{headFits}
+use Rattle.search.specs.Inner.Twins.{twinOf, isLine, twinStands, eligible}
+use Rattle.search.specs.Inner.Entries.{headCode, scopeIn, Entered, twinCode, codeTwin, Twinned, eligibleBy}
+
+-- Lists that agree before n agree at each index before n.
+pub cell-kept : (n : ℕ) (l m : List ℕ) → take n l ≡ take n m → (e : ℕ) → e < n → getD l e 0 ≡ getD m e 0
+cell-kept n l m p e h = sym (getD-take n l e 0 h) ∙ ap (λ (x : List ℕ). getD x e 0) p ∙ getD-take n m e 0 h
+
+-- A table that lists f behind its front, with one value more.
+pub listed-more : (front : List ℕ) (f : ℕ → ℕ) (l : List ℕ) (k i : ℕ) → k < length l → take k l ≡ front ++ listing i f
+    → take (suc k) (set l k (f i)) ≡ front ++ listing (suc i) f
+unfolding listing
+listed-more front f l k i h p =
+    take-suc-set l k (f i) h ∙ ap (λ (x : List ℕ). x ++ (f i ∷ [])) p ∙ append-assoc front (listing i f) (f i ∷ [])
+
+-- The scope
+
+-- the entry that the table has at e
+abbrev entryAt : List ℕ → List ℕ → ℕ → Entry
+entryAt bs nodes e = record { clause = clauseOf bs (getD nodes e 0); linear = leb (ruleCount bs) e }
+
+module _ (bs nodes : List ℕ) (n : ℕ) where
+  pub scope-len : length (scopeIn bs nodes n) ≡ n
+  unfolding scopeIn
+  scope-len = length-listing _ n
+
+  module _ (e : ℕ) where
+    scope-at : e < n → getD (scopeIn bs nodes n) e noEntry ≡ entryAt bs nodes e
+    unfolding scopeIn
+    scope-at = listing-at _ n e noEntry
+
+    pub scope-clause : e < n → clauseAt (scopeIn bs nodes n) e ≡ clauseOf bs (getD nodes e 0)
+    unfolding clauseAt
+    scope-clause h = ap (λ x. x .clause) (scope-at h)
+
+    pub scope-linear : e < n → linearAt (scopeIn bs nodes n) e ≡ leb (ruleCount bs) e
+    unfolding linearAt
+    scope-linear h = ap (λ x. x .linear) (scope-at h)
+
+    pub scope-past : n ≤ e → clauseAt (scopeIn bs nodes n) e ≡ topᴰ
+    unfolding clauseAt
+    scope-past h = ap (λ x. x .clause) (List·getD-eq-default (scopeIn bs nodes n) noEntry (omega (arith, scope-len)))
+
+-- the scope depends on the nodes in it alone
+pub scope-kept : (bs nodes nodes′ : List ℕ) (n : ℕ) → take n nodes ≡ take n nodes′ → scopeIn bs nodes n ≡ scopeIn bs nodes′ n
+scope-kept bs nodes nodes′ n p =
+    let l = scope-len bs nodes n in
+    ext-getD noEntry (scopeIn bs nodes n) (scopeIn bs nodes′ n) (l ∙ sym (scope-len bs nodes′ n))
+    (λ e h.
+    let k : e < n = omega arith in
+    scope-at bs nodes n e k
+    ∙ ap (λ c. record { clause = clauseOf bs c; linear = leb (ruleCount bs) e }) (cell-kept n nodes nodes′ p e k)
+    ∙ sym (scope-at bs nodes′ n e k))
+
+-- a node that is put behind the scope is lent
+pub lend-scope : (bs nodes : List ℕ) (n c : ℕ) → n < length nodes → ruleCount bs ≤ n
+    → scopeIn bs (set nodes n c) (suc n) ≡ lend (scopeIn bs nodes n) (clauseOf bs c)
+unfolding scopeIn listing lend
+lend-scope bs nodes n c h k =
+    ap₂ (λ es x. es ++ (x ∷ []))
+    (scope-kept bs (set nodes n c) nodes n (take-set-le n nodes n c (omega arith)))
+    (ap₂ (λ d b. record { clause = clauseOf bs d; linear = b }) (getD-set-same nodes n c 0 h) (le-leb (ruleCount bs) n k))
+
+-- The nodes of the rules, then those of the lines, stand for the job's scope.
+module _ (bs nodes : List ℕ)
+    (listed : take (ruleCount bs + lineCount bs) nodes ≡ listing (ruleCount bs) (ruleNode bs) ++ listing (lineCount bs) (lineNode bs)) where
+  rules : List ℕ
+  rules = listing (ruleCount bs) (ruleNode bs)
+
+  lines : List ℕ
+  lines = listing (lineCount bs) (lineNode bs)
+
+  rule-cell : (e : ℕ) → e < ruleCount bs → getD nodes e 0 ≡ ruleNode bs e
+  unfolding rules lines
+  rule-cell e h =
+      let r = length-listing (ruleNode bs) (ruleCount bs) in
+      sym (getD-take (ruleCount bs + lineCount bs) nodes e 0 (omega arith)) ∙ ap (λ (x : List ℕ). getD x e 0) listed
+      ∙ List·getD-append rules lines 0 e (omega arith) ∙ listing-at (ruleNode bs) (ruleCount bs) e 0 h
+
+  line-cell : (i : ℕ) → i < lineCount bs → getD nodes (ruleCount bs + i) 0 ≡ lineNode bs i
+  unfolding rules lines
+  line-cell i h =
+      sym (getD-take (ruleCount bs + lineCount bs) nodes (ruleCount bs + i) 0 (omega arith))
+      ∙ ap (λ (x : List ℕ). getD x (ruleCount bs + i) 0) listed
+      ∙ ap (λ k. getD (rules ++ lines) (k + i) 0) (sym (length-listing (ruleNode bs) (ruleCount bs)))
+      ∙ getD-append-add rules lines i 0 ∙ listing-at (lineNode bs) (lineCount bs) i 0 h
+
+  entry-at : (e : ℕ) → e < ruleCount bs + lineCount bs → entryAt bs nodes e ≡ getD (jobOf bs .scope) e noEntry
+  unfolding ruleEntry lineEntry
+  entry-at e h = go (decLt e (ruleCount bs))
+    where
+      line : (i : ℕ) → e ≡ ruleCount bs + i → entryAt bs nodes e ≡ getD (jobOf bs .scope) e noEntry
+      line i p =
+          let k : i < lineCount bs = omega arith in
+          ap₂ (λ d b. record { clause = clauseOf bs d; linear = b })
+          (ap (λ x. getD nodes x 0) p ∙ line-cell i k) (le-leb (ruleCount bs) e (omega arith))
+          ∙ sym (ap (λ x. getD (jobOf bs .scope) x noEntry) p ∙ line-at bs i k)
+
+      go : Dec (e < ruleCount bs) → entryAt bs nodes e ≡ getD (jobOf bs .scope) e noEntry
+      go (yes k) =
+          ap₂ (λ d b. record { clause = clauseOf bs d; linear = b }) (rule-cell e k) (lt-leb (ruleCount bs) e k) ∙ sym (rule-at bs e k)
+      go (no k) = line (e - ruleCount bs) (omega arith)
+
+  pub job-scope : scopeIn bs nodes (ruleCount bs + lineCount bs) ≡ jobOf bs .scope
+  job-scope =
+      let n = ruleCount bs + lineCount bs in
+      let l = scope-len bs nodes n in
+      ext-getD noEntry (scopeIn bs nodes n) (jobOf bs .scope) (l ∙ sym (scope-length bs))
+      (λ e h. let k : e < n = omega arith in scope-at bs nodes n e k ∙ entry-at e k)
+
+-- Entries
+
+set-here : (l : List ℕ) (n c e : ℕ) → e ≡ n → n < length l → getD (set l n c) e 0 ≡ c
+set-here l n c e p h = ap (λ x. getD (set l n c) x 0) p ∙ getD-set-same l n c 0 h
+
+set-below : (l : List ℕ) (n c e : ℕ) → e < n → getD (set l n c) e 0 ≡ getD l e 0
+set-below l n c e h = getD-set-other l n e c 0 (λ p. omega arith)
+
+-- an entry more: its node and its head
+pub entered-more : {bs nodes heads : List ℕ} {n : ℕ} (c : ℕ) → Entered bs nodes heads n → n < 256
+    → clausePart bs (nodeCount bs) c ≡ true → Entered bs (set nodes n c) (set heads n (headCode (head (clauseOf bs c)))) (suc n)
+entered-more {bs} {nodes} {heads} {n} c t l p =
+    let k = headCode (head (clauseOf bs c)) in
+    let in-nodes : n < length nodes = omega (arith, t .node-room) in
+    let in-heads : n < length heads = omega (arith, t .head-room) in
+    record {
+      node-room = length-set nodes n c ∙ t .node-room;
+      head-room = length-set heads n k ∙ t .head-room;
+      clauses = λ e h.
+          ⊎-elim (λ q. rw (set-here nodes n c e q in-nodes) p) (λ q. rw (set-below nodes n c e q) (t .clauses e q))
+          (eq-or-lt-of-le {n = e} {m = n} (omega arith));
+      headed = λ e h.
+          ⊎-elim (λ q. rw (set-here nodes n c e q in-nodes) (set-here heads n k e q in-heads))
+          (λ q. rw (set-below nodes n c e q) (set-below heads n k e q ∙ t .headed e q))
+          (eq-or-lt-of-le {n = e} {m = n} (omega arith));
+    }
+
+pub entered-kept : {bs nodes heads : List ℕ} {n : ℕ} (nodes′ heads′ : List ℕ) → Entered bs nodes heads n
+    → length nodes′ ≡ 256 → length heads′ ≡ 256 → take n nodes ≡ take n nodes′ → take n heads ≡ take n heads′
+    → Entered bs nodes′ heads′ n
+entered-kept {bs} {nodes} {heads} {n} nodes′ heads′ t ln lh p q =
+    record {
+      node-room = ln;
+      head-room = lh;
+      clauses = λ e h. rw (cell-kept n nodes nodes′ p e h) at (t .clauses e h);
+      headed = λ e h. rw (cell-kept n nodes nodes′ p e h, cell-kept n heads heads′ q e h) at (t .headed e h);
+    }
+
+pub entered-fewer : {bs nodes heads : List ℕ} {n : ℕ} (m : ℕ) → m ≤ n → Entered bs nodes heads n → Entered bs nodes heads m
+entered-fewer m k t =
+    record {
+      node-room = t .node-room;
+      head-room = t .head-room;
+      clauses = λ e h. t .clauses e (omega arith);
+      headed = λ e h. t .headed e (omega arith);
+    }
+
+pub entered-none : {bs nodes heads : List ℕ} → length nodes ≡ 256 → length heads ≡ 256 → Entered bs nodes heads 0
+entered-none ln lh =
+    record { node-room = ln; head-room = lh; clauses = λ e h. absurd (omega arith); headed = λ e h. absurd (omega arith) }
+
+-- a head's code fits a wanted name where the head does
+pub head-fits : (o : Option ℕ) (a : ℕ) → a ≤ 999 → headFits o a ≡ fits (headCode o) a
+unfolding headFits headCode fits
+head-fits none a h = sym (ne-eqb 1000 a (λ p. omega arith))
+head-fits (some b) a h = refl
+
+-- Twins
+
+pub line-inside : (bs : List ℕ) (e : ℕ) → isLine bs e ≡ true → (ruleCount bs ≤ e) × (e < ruleCount bs + lineCount bs)
+unfolding isLine
+line-inside bs e h =
+    let a = leb (ruleCount bs) e in
+    let b = ltb e (ruleCount bs + lineCount bs) in
+    (leb-true _ _ (both-left a b h), ltb-true _ _ (both-right a b h))
+
+code-twin : (o : Option ℕ) → codeTwin (twinCode o) ≡ o
+unfolding codeTwin twinCode
+code-twin none = refl
+code-twin (some k) = refl
+
+-- THEOREM. By the card's twins an entry is eligible as it should be.
+pub eligible-twins : {bs tw : List ℕ} → Twinned bs tw → eligibleBy bs tw ≡ eligible bs
+unfolding eligibleBy eligible
+eligible-twins {bs} {tw} t = fun-ext (λ done. fun-ext (λ e. by-test done e (isLine bs e) refl))
+  where
+    by-test : (done : List ℕ) (e : ℕ) (b : Bool) → isLine bs e ≡ b
+        → _≡_ {A = Bool} (elim b [ true ↦ twinStands bs done (codeTwin (getD tw (e - ruleCount bs) 0)) | false ↦ true ])
+        (elim b [ true ↦ twinStands bs done (twinOf bs (e - ruleCount bs)) | false ↦ true ])
+    by-test done e true h =
+        let w = line-inside bs e h in
+        let i = e - ruleCount bs in
+        ap (twinStands bs done) (ap codeTwin (t .coded i (omega arith)) ∙ code-twin (twinOf bs i))
+    by-test done e false h = refl
+
+-- THEOREM. With no twins every entry is eligible.
+pub eligible-all : (bs tw : List ℕ) → ((i : ℕ) → getD tw i 0 ≡ 0) → eligibleBy bs tw ≡ (λ done e. true)
+unfolding eligibleBy codeTwin twinStands
+eligible-all bs tw z = fun-ext (λ done. fun-ext (λ e. by-test done e (isLine bs e)))
+  where
+    by-test : (done : List ℕ) (e : ℕ) (b : Bool)
+        → elim b [ true ↦ twinStands bs done (codeTwin (getD tw (e - ruleCount bs) 0)) | false ↦ true ] ≡ true
+    by-test done e true = ap (λ k. twinStands bs done (codeTwin k)) (z (e - ruleCount bs))
+    by-test done e false = refl
+
+-- Steps so far
+
+or-right : (a b : Bool) → b ≡ true → (a || b) ≡ true
+or-right true b h = refl
+or-right false b h = h
+
+-- a step that is one of the first n
+pub stands-here : (e : ℕ) (l : List ℕ) (n i : ℕ) → i < n → i < length l → getD l i 0 ≡ e → stands e (take n l) ≡ true
+unfolding stands
+stands-here e [] n i h k p = absurd (omega arith)
+stands-here e (x ∷ l) zero i h k p = absurd (omega arith)
+stands-here e (x ∷ l) (suc n) zero h k p = rw (eq-eqb e x (sym p)) refl
+stands-here e (x ∷ l) (suc n) (suc i) h k p =
+    or-right (eqb e x) (stands e (take n l)) (stands-here e l n i (omega arith) (omega arith) p)
+
+-- a step that is none of the first n
+pub stands-nowhere : (e : ℕ) (l : List ℕ) (n : ℕ) → n ≤ length l → ((i : ℕ) → i < n → getD l i 0 ≡ e → ⊥)
+    → stands e (take n l) ≡ false
+unfolding stands
+stands-nowhere e [] zero k f = refl
+stands-nowhere e [] (suc n) k f = absurd (omega arith)
+stands-nowhere e (x ∷ l) zero k f = refl
+stands-nowhere e (x ∷ l) (suc n) k f =
+    ap₂ _||_ (ne-eqb e x (λ p. f zero (omega arith) (sym p)))
+    (stands-nowhere e l n (omega arith) (λ i h p. f (suc i) (omega arith) p))

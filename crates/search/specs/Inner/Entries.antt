@@ -1,0 +1,49 @@
+-- The tables a walk goes by: each entry's node and head, and each line's twin.
+use Prim.Native.Nat.{ℕ, zero, suc, _+_, _-_, _<_, _≤_}
+use mathlib.Core.Path.{_≡_}
+use mathlib.Core.Bool.{Bool, true, false}
+use mathlib.Core.Option.{Option, none, some}
+use mathlib.Core.List.{List}
+use lib.ListN.{length, getD}
+use lib.Dec.{leb}
+use Rattle.calculus.specs.Formula.{head}
+use Rattle.calculus.specs.Derivation.{Scope}
+use Rattle.card.specs.Format.{ruleCount, lineCount, nodeCount, listing}
+use Rattle.card.specs.Fault.{clausePart}
+use Rattle.card.specs.Decode.{clauseOf}
+use Rattle.search.specs.Inner.Twins.{twinOf, isLine, twinStands}
+
+-- A head in two bytes: names are at most 999, and 1000 stands for no head.
+unfoldable pub headCode : Option ℕ → ℕ
+headCode none = 1000
+headCode (some b) = b
+
+-- The scope that the first n nodes of the table stand for: rules stay, all others are items.
+unfoldable pub scopeIn : List ℕ → List ℕ → ℕ → Scope
+scopeIn bs nodes n = listing n (λ e. record { clause = clauseOf bs (getD nodes e 0); linear = leb (ruleCount bs) e })
+
+-- The first n entries of the tables: clauses of the card, each with its head.
+pub record Entered (bs nodes heads : List ℕ) (n : ℕ) : Type 0 where
+  pub node-room : length nodes ≡ 256
+  pub head-room : length heads ≡ 256
+  pub clauses : (e : ℕ) → e < n → clausePart bs (nodeCount bs) (getD nodes e 0) ≡ true
+  pub headed : (e : ℕ) → e < n → getD heads e 0 ≡ headCode (head (clauseOf bs (getD nodes e 0)))
+
+-- A twin in one byte: 0 stands for none, k + 1 for line k.
+unfoldable pub twinCode : Option ℕ → ℕ
+twinCode none = 0
+twinCode (some k) = suc k
+
+unfoldable pub codeTwin : ℕ → Option ℕ
+codeTwin zero = none
+codeTwin (suc k) = some k
+
+-- The twins of a card's lines.
+pub record Twinned (bs twins : List ℕ) : Type 0 where
+  pub room : length twins ≡ 64
+  pub coded : (i : ℕ) → i < lineCount bs → getD twins i 0 ≡ twinCode (twinOf bs i)
+
+-- A line may be used once the twin that the table has for it has been; any other entry always.
+unfoldable pub eligibleBy : List ℕ → List ℕ → List ℕ → ℕ → Bool
+eligibleBy bs twins done e =
+    elim (isLine bs e) [ true ↦ twinStands bs done (codeTwin (getD twins (e - ruleCount bs) 0)) | false ↦ true ]

@@ -1,0 +1,25 @@
+-- `mark_check` meets its contract: 14 is told of a mark that is not the one asked for.
+use borrow.Author.Needs.{needs}
+use Rattle.card.specs.Verdict.{whereOf}
+use Rattle.sheet.specs.Marks.{markFault}
+use Rattle.sheet.proofs.mark_check.Statement.{statement}
+use Rattle.sheet.proofs.mark_check.Tie as tie
+
+mark-requires : tie.Need-mark-requires
+mark-requires c κs = search needs
+
+shared-slice-read-refuse : tie.Need-shared-slice-read-refuse
+shared-slice-read-refuse c = search needs
+
+cast-t10 : tie.Need-cast-t10
+cast-t10 c = search needs
+
+refuse-requires : tie.Need-refuse-requires
+refuse-requires c κs = search needs
+
+returns : tie.Need-returns
+unfolding markFault whereOf
+returns c = cc
+
+pub mark-check-spec : {M : Type 1} → statement M
+mark-check-spec = tie.close (tie.spec mark-requires shared-slice-read-refuse cast-t10 refuse-requires returns)
