@@ -1,15 +1,15 @@
 -- Laws of checks taken apart one after the other, of the whole check, and of a sound card.
 use Prim.Native.Nat.{ℕ, _+_, _<_}
 use native.Mathlib.Numerals.{add-one}
-use mathlib.Core.Path.{_≡_, sym, _∙_, ap}
+use mathlib.Core.Path.{_≡_, sym, _∙_, ap, subst}
 use mathlib.Core.List.{List}
 use Rattle.card.specs.declared.Checked.{Checked}
 use Rattle.card.specs.declared.Checked.the-variants.{Sound as SoundCard, Refused}
 use Rattle.card.specs.declared.Refusal.{Refusal}
 use Rattle.card.specs.Format.{nodeCount, ruleCount, lineCount}
-use Rattle.card.specs.Verdict.{Verdict, sound, _▹_, firstOf, told}
+use Rattle.card.specs.Verdict.{Verdict, Where, sound, fault, _▹_, firstOf, told, whereOf}
 use Rattle.card.specs.Fault.{frontFault, nodeFault, goalFault, ruleFault, lineFault, firstFault, Sound}
-use Rattle.card.specs.Inner.Checks.{Framed}
+use Rattle.card.specs.Inner.Checks.{answerOf, Framed}
 use Rattle.card.proofs.FaultsInOrder.{after-sound, at-fault, sound-left, sound-right, first-stops, first-goes, first-each}
 use Rattle.card.proofs.FrontChecked.{framed}
 
@@ -23,7 +23,18 @@ pub passed : (u : Verdict) (a : Checked) → a ≡ SoundCard → told a ≡ u �
 unfolding told
 passed u a e t = sym t ∙ ap told e
 
--- and leaves those after it: what they find, all find
+pub found-sound : (bs : List ℕ) (a : Checked) → a ≡ SoundCard → told a ≡ firstFault bs → Sound bs
+found-sound bs a e t = record { faultless = passed (firstFault bs) a e t }
+
+-- a call that answers with a check's refusal: what holds of the refusal holds of the answer
+pub stopped : {A : Type 0} (P : A → Type 0) (fine : ℕ → A) (refusal : ℕ → Where → A) (v : Verdict) (a : Checked) (r : Refusal) (k : ℕ)
+    {x : A} → a ≡ Refused r → told a ≡ v → x ≡ answerOf fine refusal (told a) k
+    → (v ≡ fault (r .number) (whereOf (r .place)) → P (refusal (r .number) (whereOf (r .place)))) → P x
+unfolding told answerOf
+stopped P fine refusal v a r k e t q h =
+    subst P (sym (q ∙ ap (λ (y : Checked). answerOf fine refusal (told y) k) e)) (h (sym t ∙ ap told e))
+
+-- a check that has passed leaves those after it: what they find, all find
 pub onward : {u v w : Verdict} → u ≡ sound → w ≡ v → w ≡ u ▹ v
 onward {u} {v} e q = q ∙ sym (after-sound u v e)
 

@@ -1,17 +1,13 @@
 -- What each way out of the planner's code shows of the outcome.
 use Prim.Native.Nat.{ℕ, _+_, _≤_, _<_}
-use mathlib.Core.Path.{_≡_, refl, sym, subst, ap, _∙_}
+use mathlib.Core.Path.{_≡_, refl, sym, subst}
 use mathlib.Core.List.{List, _++_}
 use native.Mathlib.Omega.{arith}
 use lib.ListN.{length, take, drop}
 use lib.Seq.{length-take-le}
 use Rattle.calculus.specs.Job.{Derivable, Listed}
-use Rattle.card.specs.declared.Checked.{Checked}
-use Rattle.card.specs.declared.Checked.the-variants.{Sound as SoundCard, Refused as RefusedCard}
-use Rattle.card.specs.declared.Refusal.{Refusal}
 use Rattle.card.specs.Format.{lineCount, stepLimit}
-use Rattle.card.specs.Verdict.{told, whereOf}
-use Rattle.card.specs.Fault.{firstFault, Sound}
+use Rattle.card.specs.Fault.{Sound}
 use Rattle.card.specs.Decode.{jobOf}
 use Rattle.card.specs.Sheet.{sheetOf}
 use Rattle.card.proofs.NodesDecoded.{listed-short}
@@ -20,21 +16,10 @@ use Rattle.search.specs.declared.Found.the-variants.{List as ListOf, Nothing}
 use Rattle.search.specs.Inner.Found.{FirstOn, Finds}
 use Rattle.planner.specs.declared.Room.{Room}
 use Rattle.planner.specs.declared.Room.the-variants.{Enough, Short}
-use Rattle.planner.specs.Inner.Checks.{planAnswer, RoomSays}
-use Rattle.planner.specs.Plan.{PlanVerdict, planned, refused, roomOf, Planning, faulty, planned-as}
+use Rattle.planner.specs.Inner.Room.{RoomSays}
+use Rattle.planner.specs.Plan.{planned, roomOf, Planning, planned-as}
 
 -- the answers of the checks, taken apart
-pub found-sound : (bs : List ℕ) (a : Checked) → a ≡ SoundCard → told a ≡ firstFault bs → Sound bs
-unfolding told
-found-sound bs a e t = record { faultless = sym t ∙ ap told e }
-
-pub found-faulty : (bs old : List ℕ) (a : Checked) (r : Refusal) (k : ℕ) {v : PlanVerdict} → a ≡ RefusedCard r → told a ≡ firstFault bs
-    → v ≡ planAnswer (told a) k → Planning bs old v old
-unfolding told planAnswer
-found-faulty bs old a r k {v} e t q =
-    let same : v ≡ refused (r .number) (whereOf (r .place)) = q ∙ ap (λ (x : Checked). planAnswer (told x) k) e in
-    subst (λ (x : PlanVerdict). Planning bs old x old) (sym same) (faulty (sym t ∙ ap told e))
-
 module _ (bs : List ℕ) where
   pub room-enough : {n : ℕ} {r : Room} → r ≡ Enough → RoomSays bs n r → roomOf bs ≤ n
   unfolding RoomSays

@@ -9,8 +9,9 @@ ghost use Prim.Native.Nat.{_≤_};
 ghost use lib.ListN.{length};
 ghost use Rattle.card.specs.Fault.{Sound};
 ghost use Rattle.card.specs.Verdict.{told};
-ghost use Rattle.planner.specs.Inner.Checks.{planAnswer, RoomSays};
-ghost use Rattle.planner.specs.Plan.{toldPlan, Planning};
+ghost use Rattle.card.specs.Inner.Checks.{answerOf};
+ghost use Rattle.planner.specs.Inner.Room.{RoomSays};
+ghost use Rattle.planner.specs.Plan.{planned, refused, toldPlan, Planning};
 
 // 01: "The planner answers planned with k, or a refusal".
 pub enum Answer {
@@ -20,7 +21,7 @@ pub enum Answer {
 
 // A check's answer as the call's: its refusal, or planned with k where it found nothing.
 fn answered(found: Checked, k: u8) -> Answer
-    ensures { λ r. ⌜ toldPlan r ≡ planAnswer (told found) k ⌝ }
+    ensures { λ r. ⌜ toldPlan r ≡ answerOf planned refused (told found) k ⌝ }
 {
     match found {
         Checked::Sound => Answer::Planned(k),

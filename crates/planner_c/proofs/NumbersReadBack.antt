@@ -21,7 +21,7 @@ use Rattle.reader.specs.declared.Answer.the-variants.{Accepted, Refused as NotA
 use Rattle.reader.specs.Read.{ReadVerdict, accepted, refused as not-accepted, toldRead, Reading, AcceptsExactly, ReadDecided, is-accepted}
 use Rattle.reader.specs.Read.{is-refused as is-not-accepted}
 use Rattle.reader.proofs.AcceptedExactly.{read-decided}
-use Rattle.planner_c.specs.Numbers.{numberIn, placeIn, indexIn, placeOf, planIn, readIn}
+use Rattle.planner_c.specs.Numbers.{numberIn, placeIn, indexIn, placeOf, saidBy, planIn, readIn}
 use Rattle.planner_c.specs.Inner.Pack.{pack, placeNumber, placeIndex, packRefusal, packPlan, packRead}
 
 -- a refusal whose place is known
@@ -77,44 +77,33 @@ refusal-back n w h = (
 )
 
 -- what a number says, once its parts are known
-plan-says-planned : (r k : ℕ) → numberIn r ≡ 0 → indexIn r ≡ k → planIn r ≡ planned k
-unfolding planIn
-plan-says-planned r k e f =
-    ap (λ (n : ℕ). cond (eqb n 0) (planned (indexIn r)) (refused n (placeOf (placeIn r) (indexIn r)))) e ∙ ap planned f
+module _ {A : Type 0} (fine : ℕ → A) (refusal : ℕ → Where → A) where
+  fine-back : (k : ℕ) → k < 65536 → saidBy fine refusal (pack 0 0 k) ≡ fine k
+  unfolding saidBy
+  fine-back k h =
+      ap (λ (n : ℕ). cond (eqb n 0) (fine (indexIn (pack 0 0 k))) (refusal n (placeOf (placeIn (pack 0 0 k)) (indexIn (pack 0 0 k)))))
+      (number-back 0 0 k (omega arith) h)
+      ∙ ap fine (index-back 0 0 k h)
 
-plan-says-refused : (r n : ℕ) (w : Where) → 1 ≤ n → numberIn r ≡ n → placeOf (placeIn r) (indexIn r) ≡ w → planIn r ≡ refused n w
-unfolding planIn
-plan-says-refused r n w h e f =
-    ap₂ (λ (m : ℕ) (x : Where). cond (eqb m 0) (planned (indexIn r)) (refused m x)) e f ∙ rw (ne-eqb n 0 (λ z. omega arith)) refl
-
-read-says-accepted : (r k : ℕ) → numberIn r ≡ 0 → indexIn r ≡ k → readIn r ≡ accepted k
-unfolding readIn
-read-says-accepted r k e f =
-    ap (λ (n : ℕ). cond (eqb n 0) (accepted (indexIn r)) (not-accepted n (placeOf (placeIn r) (indexIn r)))) e ∙ ap accepted f
-
-read-says-refused : (r n : ℕ) (w : Where) → 1 ≤ n → numberIn r ≡ n → placeOf (placeIn r) (indexIn r) ≡ w → readIn r ≡ not-accepted n w
-unfolding readIn
-read-says-refused r n w h e f =
-    ap₂ (λ (m : ℕ) (x : Where). cond (eqb m 0) (accepted (indexIn r)) (not-accepted m x)) e f ∙ rw (ne-eqb n 0 (λ z. omega arith)) refl
+  said-back : (n : ℕ) (w : Where) → 1 ≤ n → placeIndex w < 65536 → saidBy fine refusal (packRefusal n w) ≡ refusal n w
+  unfolding saidBy
+  said-back n w h i =
+      let r = refusal-back n w i in
+      ap₂ (λ (m : ℕ) (x : Where). cond (eqb m 0) (fine (indexIn (packRefusal n w))) (refusal m x)) (r .0) (r .1)
+      ∙ rw (ne-eqb n 0 (λ z. omega arith)) refl
 
 -- THEOREM. A planner's decision is read back from its number.
 pub plan-back : {bs old new : List ℕ} {v : PlanVerdict} → Bytes bs → PlanDecided bs old new v → planIn (packPlan v) ≡ v
-unfolding packPlan
-plan-back b (is-planned {k} h) =
-    let few : k < 65536 = omega (arith, b .byte 10) in
-    plan-says-planned (pack 0 0 k) k (number-back 0 0 k (omega arith) few) (index-back 0 0 k few)
-plan-back b (is-refused {n} {w} h p e) =
-    let r = refusal-back n w (index-few b w p) in plan-says-refused (packRefusal n w) n w (h .0) (r .0) (r .1)
+unfolding packPlan planIn
+plan-back b (is-planned {k} h) = fine-back planned refused k (omega (arith, b .byte 10))
+plan-back b (is-refused {n} {w} h p e) = said-back planned refused n w (h .0) (index-few b w p)
 
 -- THEOREM. A reader's decision is read back from its number.
 pub read-back : {bs : List ℕ} {v : ReadVerdict} → Bytes bs → ReadDecided bs v → readIn (packRead v) ≡ v
-unfolding packRead
-read-back b (is-accepted {k} h) =
-    let few : k < 65536 = omega (arith, b .byte 10) in
-    read-says-accepted (pack 0 0 k) k (number-back 0 0 k (omega arith) few) (index-back 0 0 k few)
+unfolding packRead readIn
+read-back b (is-accepted {k} h) = fine-back accepted not-accepted k (omega (arith, b .byte 10))
 read-back b (is-not-accepted {n} {w} h p) =
-    let r = refusal-back n w (index-few b w p) in
-    read-says-refused (packRefusal n w) n w (⊎-elim (λ q. q .0) (λ q. omega (arith, q .0)) h) (r .0) (r .1)
+    said-back accepted not-accepted n w (⊎-elim (λ q. q .0) (λ q. omega (arith, q .0)) h) (index-few b w p)
 
 -- THEOREM. No two decisions share a number, whatever the cards.
 pub plan-numbers-apart : {bs old new bs′ old′ new′ : List ℕ} {v u : PlanVerdict} → Bytes bs → Bytes bs′ → PlanDecided bs old new v

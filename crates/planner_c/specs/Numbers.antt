@@ -26,9 +26,12 @@ placeOf p i =
     (cond (eqb p 5) steps
     (cond (eqb p 6) (mark i) card)))))
 
--- what a number says: 0 as the refusal's number is planned, or accepted, with k
+-- what a number says: with 0 as the refusal's number, the call's own word with k; else the refusal
+unfoldable pub saidBy : {A : Type 0} → (ℕ → A) → (ℕ → Where → A) → ℕ → A
+saidBy fine refusal r = cond (eqb (numberIn r) 0) (fine (indexIn r)) (refusal (numberIn r) (placeOf (placeIn r) (indexIn r)))
+
 unfoldable pub planIn : ℕ → PlanVerdict
-planIn r = cond (eqb (numberIn r) 0) (planned (indexIn r)) (refused (numberIn r) (placeOf (placeIn r) (indexIn r)))
+planIn r = saidBy planned refused r
 
 unfoldable pub readIn : ℕ → ReadVerdict
-readIn r = cond (eqb (numberIn r) 0) (accepted (indexIn r)) (not-accepted (numberIn r) (placeOf (placeIn r) (indexIn r)))
+readIn r = saidBy accepted not-accepted r

@@ -1,7 +1,7 @@
 -- What each way out of the reader's code shows of the outcome.
 use Prim.Native.Nat.{ℕ, suc, _+_, _-_, _≤_, _<_}
 use native.Mathlib.Omega.{arith}
-use mathlib.Core.Path.{_≡_, refl, sym, ap, subst, _∙_}
+use mathlib.Core.Path.{_≡_, refl, sym, ap, _∙_}
 use mathlib.Core.List.{List}
 use lib.ListN.{length, getD, take, drop, set, length-drop}
 use lib.Seq.{take-suc, take-suc-set, take-all, getD-drop}
@@ -10,8 +10,8 @@ use Rattle.card.specs.declared.Checked.{Checked}
 use Rattle.card.specs.declared.Checked.the-variants.{Sound as SoundCard, Refused as RefusedCard}
 use Rattle.card.specs.declared.Refusal.{Refusal}
 use Rattle.card.specs.Format.{lineCount}
-use Rattle.card.specs.Verdict.{Verdict, sound, fault, firstOf, told, whereOf, steps}
-use Rattle.card.specs.Fault.{firstFault, Sound}
+use Rattle.card.specs.Verdict.{sound, firstOf, told, steps}
+use Rattle.card.specs.Fault.{Sound}
 use Rattle.card.specs.Decode.{jobOf}
 use Rattle.search.specs.Inner.Found.{ListedSays}
 use Rattle.search.specs.declared.follow.Followed.{Followed}
@@ -19,22 +19,10 @@ use Rattle.search.specs.declared.follow.Followed.the-variants.{Listed as Listed
 use Rattle.sheet.specs.Front.{stepCount, stepsOf, sheetFault}
 use Rattle.sheet.specs.Inner.Fitting.{Fitting}
 use Rattle.sheet.specs.Marks.{markFault}
-use Rattle.card.proofs.CardChecked.{passed}
+use Rattle.card.proofs.CardChecked.{passed, stopped}
 use Rattle.sheet.proofs.SheetFits.{fitting, steps-length}
-use Rattle.reader.specs.Inner.Checks.{readAnswer}
+use Rattle.card.specs.Inner.Checks.{answerOf}
 use Rattle.reader.specs.Read.{ReadVerdict, accepted, refused, marksFault, Reading, no-list, wrong-mark, accepted-as}
-
--- a check's refusal is the call's answer
-pub stopped : {bs sh : List ℕ} (v : Verdict) (a : Checked) (r : Refusal) (k : ℕ) {x : ReadVerdict} → a ≡ RefusedCard r → told a ≡ v
-    → x ≡ readAnswer (told a) k
-    → (v ≡ fault (r .number) (whereOf (r .place)) → Reading bs sh (refused (r .number) (whereOf (r .place)))) → Reading bs sh x
-unfolding told readAnswer
-stopped {bs} {sh} v a r k e t q h =
-    subst (Reading bs sh) (sym (q ∙ ap (λ (y : Checked). readAnswer (told y) k) e)) (h (sym t ∙ ap told e))
-
--- the card's check has passed
-pub found-sound : (bs : List ℕ) (a : Checked) → a ≡ SoundCard → told a ≡ firstFault bs → Sound bs
-found-sound bs a e t = record { faultless = passed (firstFault bs) a e t }
 
 -- one more step is copied
 pub copied : (tape sh : List ℕ) (i : ℕ) → i < length tape → 5 + i < length sh → take i tape ≡ take i (drop 5 sh)
@@ -87,8 +75,8 @@ module _ {bs sh : List ℕ} {k : ℕ} {tape : List ℕ} (c : Copied bs sh k tape
     unfolding marksFault
     told-marks = t ∙ rw (kept, same-steps, lent-marks, c .count) refl
 
-    pub found-mark : (r : Refusal) (n : ℕ) {y : ReadVerdict} → a ≡ RefusedCard r → y ≡ readAnswer (told a) n → Reading bs sh y
-    found-mark r n e q = stopped (marksFault bs sh) a r n e told-marks q (wrong-mark (c .card) (c .fits) x)
+    pub found-mark : (r : Refusal) (n : ℕ) {y : ReadVerdict} → a ≡ RefusedCard r → y ≡ answerOf accepted refused (told a) n → Reading bs sh y
+    found-mark r n e q = stopped (Reading bs sh) accepted refused (marksFault bs sh) a r n e told-marks q (wrong-mark (c .card) (c .fits) x)
 
     pub found-right : a ≡ SoundCard → Reading bs sh (accepted k)
     found-right e = rw count-steps at (accepted-as (c .card) (c .fits) x (passed (marksFault bs sh) a e told-marks))

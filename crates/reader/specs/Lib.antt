@@ -1,3 +1,2 @@
--- What a reader must believe of the reader's answers; apart from it, Inner.
+-- What a reader must believe of the reader's answers.
 pub mod Read
-pub mod Inner

@@ -10,8 +10,8 @@ ghost use lib.ListN.{length, take, drop};
 ghost use Rattle.card.specs.Fault.{Sound};
 ghost use Rattle.card.specs.Verdict.{sound, told};
 ghost use Rattle.sheet.specs.Front.{sheetFault};
-ghost use Rattle.reader.specs.Read.{toldRead, Reading, AcceptsExactly};
-ghost use Rattle.reader.specs.Inner.Checks.{readAnswer};
+ghost use Rattle.reader.specs.Read.{accepted, refused, toldRead, Reading, AcceptsExactly};
+ghost use Rattle.card.specs.Inner.Checks.{answerOf};
 
 // 01: "the reader answers accepted with k, or a refusal".
 pub enum Answer {
@@ -21,7 +21,7 @@ pub enum Answer {
 
 // A check's answer as the call's: its refusal, or accepted with k where it found nothing.
 fn answered(found: Checked, k: u8) -> Answer
-    ensures { λ r. ⌜ toldRead r ≡ readAnswer (told found) k ⌝ }
+    ensures { λ r. ⌜ toldRead r ≡ answerOf accepted refused (told found) k ⌝ }
 {
     match found {
         Checked::Sound => Answer::Accepted(k),

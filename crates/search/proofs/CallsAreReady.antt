@@ -37,7 +37,8 @@ use Rattle.search.proofs.BranchesAreStates.{items-empty, items-join, it
 use Rattle.search.proofs.AnswersCompose.{kept-self, kept-set, joined, behind, without, onward, same-place, same-outcome, after-step}
 use Rattle.search.proofs.AnswersCompose.{after-lent}
 use Rattle.search.proofs.AnswersCompose.{tensor-strict-items, tensor-lax-items, with-strict-items, with-lax-items, spent-items}
-use Rattle.search.proofs.ModelByConnective.{tensor-stuck, tensor-solved, with-stuck, with-solved, lend-walk, top-walk, one-walk, atom-walk}
+use Rattle.search.proofs.ModelByConnective.{tensor-stuck, tensor-solved, with-stuck, with-solved, lend-walk, top-walk, one-walk}
+use Rattle.search.proofs.ModelByConnective.{atom-walk}
 use Rattle.search.proofs.ModelByConnective.{empty-test}
 
 ∪-left : (I J : Items) → Within I (I ∪ J)

@@ -41,10 +41,12 @@ use Rattle.search.specs.Inner.Values.{CanUse, IsDead, Chose, usableAt}
 use Rattle.card.proofs.SoundNodes.{goal-lower, goal-kind, goal-above, clause-lower, clause-above, clause-kind, node-here, height-low}
 use Rattle.card.proofs.SoundNodes.{height-pos, height-parts, parts-below, both-parts, either-parts, lend-parts, recipe-parts, sound-both}
 use Rattle.card.proofs.SoundNodes.{sound-either, sound-lend, sound-recipe, head-name, head-rest, head-recipe, name-low}
-use Rattle.search.proofs.AnswersCompose.{joined, without, behind, same-outcome, after-step, given-kept, kept-self, kept-set, spent-items}
+use Rattle.search.proofs.AnswersCompose.{joined, without, behind, same-outcome, after-step, given-kept, kept-self, kept-set}
+use Rattle.search.proofs.AnswersCompose.{spent-items}
 use Rattle.search.proofs.BranchesAreStates.{past-state}
 use Rattle.search.proofs.TablesAreScopes.{scope-clause, scope-linear, scope-past}
-use Rattle.search.proofs.CallsAreReady.{ready-next, ready-opened, ready-tensor, ready-with, ready-lent, tensor-left, tensor-right, with-left}
+use Rattle.search.proofs.CallsAreReady.{ready-next, ready-opened, ready-tensor, ready-with, ready-lent, tensor-left, tensor-right}
+use Rattle.search.proofs.CallsAreReady.{with-left}
 use Rattle.search.proofs.CallsAreReady.{with-right, covered, closed, lend-done, atom-dead, atom-used}
 
 -- the falling number of a call at a node

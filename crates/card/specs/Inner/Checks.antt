@@ -1,4 +1,4 @@
--- What the checks 1 to 9 ask and answer on the way.
+-- What the checks ask and answer on the way.
 use Prim.Native.Nat.{ℕ, _+_, _*_, _≤_, _<_}
 use mathlib.Core.Path.{_≡_}
 use mathlib.Core.Bool.{cond, _&&_}
@@ -8,7 +8,13 @@ use lib.Dec.{leb}
 use Rattle.card.specs.Format.{ruleCount, lineCount, nodeCount, depthLimit, cardLength, grow}
 use Rattle.card.specs.declared.checks.Built.{Built}
 use Rattle.card.specs.declared.checks.Built.the-variants.{Height, Faulty}
+use Rattle.card.specs.Verdict.{Verdict, Where, sound, fault}
 use Rattle.card.specs.Fault.{wellBuilt, heightStep, heightAt}
+
+-- What a check finds, as the answer of a call over it: its refusal, or the call's own word with k where it found nothing.
+unfoldable pub answerOf : {A : Type 0} → (ℕ → A) → (ℕ → Where → A) → Verdict → ℕ → A
+answerOf fine refused sound k = fine k
+answerOf fine refused (fault n w) k = refused n w
 
 -- What the check of node i answers.
 unfoldable pub builtAt : List ℕ → ℕ → Built

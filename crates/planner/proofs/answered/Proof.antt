@@ -3,8 +3,8 @@ use mathlib.Core.Path.{ap, sym}
 use borrow.Author.Needs.{needs}
 use Rattle.card.specs.declared.Checked.{Checked}
 use Rattle.card.specs.Verdict.{told}
-use Rattle.planner.specs.Plan.{toldPlan}
-use Rattle.planner.specs.Inner.Checks.{planAnswer}
+use Rattle.card.specs.Inner.Checks.{answerOf}
+use Rattle.planner.specs.Plan.{planned, refused, toldPlan}
 use Rattle.planner.proofs.answered.Statement.{statement}
 use Rattle.planner.proofs.answered.Tie as tie
 
@@ -15,12 +15,12 @@ enum-known-found : tie.Need-enum-known-found
 enum-known-found c = search needs
 
 returns : tie.Need-returns
-unfolding toldPlan told planAnswer
-returns c = ap (λ (x : Checked). planAnswer (told x) (c .before .before .args .k)) (sym (c .enum-told .given .1))
+unfolding toldPlan told answerOf
+returns c = ap (λ (x : Checked). answerOf planned refused (told x) (c .before .before .args .k)) (sym (c .enum-told .given .1))
 
 returns-2 : tie.Need-returns-2
-unfolding toldPlan told planAnswer
-returns-2 c = ap (λ (x : Checked). planAnswer (told x) (c .before .before .before .args .k)) (sym (c .before .found .given .1))
+unfolding toldPlan told answerOf
+returns-2 c = ap (λ (x : Checked). answerOf planned refused (told x) (c .before .before .before .args .k)) (sym (c .before .found .given .1))
 
 pub answered-spec : {M : Type 1} → statement M
 answered-spec = tie.close (tie.spec enum-told enum-known-found returns returns-2)

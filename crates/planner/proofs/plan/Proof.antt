@@ -1,6 +1,7 @@
 -- `plan` meets its contract: 1 to 9, or the outcome of what comes after them.
 use borrow.Author.Needs.{needs}
-use Rattle.planner.proofs.PlannerExits.{found-sound, found-faulty}
+use Rattle.card.proofs.CardChecked.{found-sound, stopped}
+use Rattle.planner.specs.Plan.{planned, refused, Planning, faulty}
 use Rattle.planner.proofs.plan.Statement.{statement}
 use Rattle.planner.proofs.plan.Tie as tie
 
@@ -17,7 +18,10 @@ answered-requires : tie.Need-answered-requires
 answered-requires c κs = search needs
 
 returns : tie.Need-returns
-returns c = found-faulty _ _ _ _ 0 (c .before .enum-told2 .given .1) (c .before .before .before .check .ensures) (c .answered .ensures)
+returns c =
+    let s = c .before .before .before .before .before .before .args in
+    stopped (λ v. Planning (s .card .now) (s .sheet .now) v (s .sheet .now)) planned refused _ _ _ 0 (c .before .enum-told2 .given .1)
+    (c .before .before .before .check .ensures) (c .answered .ensures) faulty
 
 plan-sound-requires : tie.Need-plan-sound-requires
 plan-sound-requires c κs = found-sound _ _ (c .before .enum-told .given .1) (c .before .before .before .check .ensures)

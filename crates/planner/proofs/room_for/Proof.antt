@@ -1,6 +1,6 @@
 use native.Mathlib.Omega.{arith}
 use borrow.Author.Needs.{needs}
-use Rattle.planner.specs.Inner.Checks.{RoomSays}
+use Rattle.planner.specs.Inner.Room.{RoomSays}
 use Rattle.planner.proofs.room_for.Statement.{statement}
 use Rattle.planner.proofs.room_for.Tie as tie
 

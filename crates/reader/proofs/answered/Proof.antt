@@ -3,8 +3,8 @@ use mathlib.Core.Path.{ap, sym}
 use borrow.Author.Needs.{needs}
 use Rattle.card.specs.declared.Checked.{Checked}
 use Rattle.card.specs.Verdict.{told}
-use Rattle.reader.specs.Read.{toldRead}
-use Rattle.reader.specs.Inner.Checks.{readAnswer}
+use Rattle.card.specs.Inner.Checks.{answerOf}
+use Rattle.reader.specs.Read.{accepted, refused, toldRead}
 use Rattle.reader.proofs.answered.Statement.{statement}
 use Rattle.reader.proofs.answered.Tie as tie
 
@@ -15,12 +15,12 @@ enum-known-found : tie.Need-enum-known-found
 enum-known-found c = search needs
 
 returns : tie.Need-returns
-unfolding toldRead told readAnswer
-returns c = ap (λ (x : Checked). readAnswer (told x) (c .before .before .args .k)) (sym (c .enum-told .given .1))
+unfolding toldRead told answerOf
+returns c = ap (λ (x : Checked). answerOf accepted refused (told x) (c .before .before .args .k)) (sym (c .enum-told .given .1))
 
 returns-2 : tie.Need-returns-2
-unfolding toldRead told readAnswer
-returns-2 c = ap (λ (x : Checked). readAnswer (told x) (c .before .before .before .args .k)) (sym (c .before .found .given .1))
+unfolding toldRead told answerOf
+returns-2 c = ap (λ (x : Checked). answerOf accepted refused (told x) (c .before .before .before .args .k)) (sym (c .before .found .given .1))
 
 pub answered-spec : {M : Type 1} → statement M
 answered-spec = tie.close (tie.spec enum-told enum-known-found returns returns-2)

@@ -3,8 +3,8 @@
 use native.Mathlib.Omega.{arith}
 use borrow.Author.Needs.{needs}
 use Rattle.card.specs.Format.{Bytes}
-use Rattle.reader.specs.Read.{faulty}
-use Rattle.reader.proofs.ReaderExits.{stopped, found-sound}
+use Rattle.reader.specs.Read.{accepted, refused, Reading, faulty}
+use Rattle.card.proofs.CardChecked.{found-sound, stopped}
 use Rattle.reader.proofs.AcceptedExactly.{accepts-exactly}
 use Rattle.reader.proofs.read.Statement.{statement}
 use Rattle.reader.proofs.read.Tie as tie
@@ -27,7 +27,8 @@ answered-requires c κs = search needs
 
 returns : tie.Need-returns
 returns c =
-    let r = stopped _ _ _ 0 (c .before .enum-told2 .given .1) (c .before .before .before .check .ensures) (c .answered .ensures) faulty in
+    let r = stopped (Reading _ _) accepted refused _ _ _ 0 (c .before .enum-told2 .given .1) (c .before .before .before .check .ensures)
+    (c .answered .ensures) faulty in
     (r, accepts-exactly (lent (c .before .before .before .before)) r)
 
 read-sheet-requires : tie.Need-read-sheet-requires

@@ -1,8 +1,7 @@
 -- `read_sheet` meets its contract: 12, or the outcome of what comes after it.
 use borrow.Author.Needs.{needs}
-use Rattle.card.proofs.CardChecked.{passed, sound-front}
-use Rattle.reader.specs.Read.{misfit}
-use Rattle.reader.proofs.ReaderExits.{stopped}
+use Rattle.card.proofs.CardChecked.{passed, sound-front, stopped}
+use Rattle.reader.specs.Read.{accepted, refused, Reading, misfit}
 use Rattle.reader.proofs.read_sheet.Statement.{statement}
 use Rattle.reader.proofs.read_sheet.Tie as tie
 
@@ -20,7 +19,8 @@ answered-requires c κs = search needs
 
 returns : tie.Need-returns
 returns c =
-    stopped _ _ _ 0 (c .before .enum-told2 .given .1) (c .before .before .before .front-check .ensures) (c .answered .ensures)
+    stopped (Reading _ _) accepted refused _ _ _ 0 (c .before .enum-told2 .given .1) (c .before .before .before .front-check .ensures)
+    (c .answered .ensures)
     (misfit (c .before .before .before .before .before .before .pre))
 
 read-steps-requires : tie.Need-read-steps-requires
