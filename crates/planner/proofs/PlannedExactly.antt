@@ -1,7 +1,7 @@
 -- What 01 asks of the planner's outcomes, for every card and buffer. The contract of `plan` says that its answer and the new buffer are
 -- an outcome; these theorems say what follows.
 use Prim.Native.Nat.{ℕ, _+_, _≤_}
-use mathlib.Core.Path.{_≡_, refl, sym, ap, _∙_}
+use mathlib.Core.Path.{_≡_, refl, sym, ap}
 use mathlib.Core.Logic.{_↔_, _⊎_, inl, inr}
 use mathlib.Core.List.{List, _++_}
 use native.Mathlib.Omega.{arith}
@@ -89,11 +89,7 @@ planned-sheet {k} p = at p refl
         let few = listed-short _ l (f .listed) in
         record { card = s; list = l; first = f; count = c; within = omega arith; bytes = rw c }
 
--- the step count and T, as they stand in the sheet
-pub count-byte : {bs old new : List ℕ} {k : ℕ} → Carries bs old new k → getD new 3 0 ≡ k
-unfolding sheetOf word
-count-byte s = ap (λ (x : List ℕ). getD x 3 0) (s .bytes) ∙ s .count
-
+-- T, as it stands in the sheet
 pub lines-byte : {bs old new : List ℕ} {k : ℕ} → Carries bs old new k → getD new 4 0 ≡ lineCount bs
 unfolding sheetOf word
 lines-byte s = ap (λ (x : List ℕ). getD x 4 0) (s .bytes)
