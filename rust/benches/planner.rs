@@ -1,4 +1,4 @@
-//! Times of the planner beside those of other means: `cargo bench --offline --bench planner` prints three tables.
+//! Times of the planner beside those of other means: `cargo bench --offline --bench planner` prints four tables.
 #[path = "../tests/cards/mod.rs"]
 mod cards;
 #[path = "../tests/model/mod.rs"]
@@ -233,7 +233,7 @@ mod equal_parts {
 "#;
 
     /// So many equal must lines, and the balanced "both" of so many times their name.
-    fn tray(lines: usize, wanted: usize) -> Vec<u8> {
+    pub fn tray(lines: usize, wanted: usize) -> Vec<u8> {
         let mut draft = Draft::limits(1, wanted as u8);
         let name = draft.name(7);
         draft.goal = balanced(&mut draft, &vec![name; wanted]);
@@ -261,11 +261,55 @@ mod equal_parts {
     }
 }
 
+mod reading {
+    use super::*;
+
+    const ABOUT: &str = r#"
+4. The reader on the sheets that the planner writes
+   Equal parts: table 3's trays of n lines, n wanted. Chain: a must line of name 0 and n must lines
+   "i gives i + 1"; the goal is name n; d = s = n + 1. k is the number of steps on the sheet.
+"#;
+
+    fn chain(n: usize) -> Vec<u8> {
+        let mut draft = Draft::limits(n as u8 + 1, n as u8 + 1);
+        let names: Vec<usize> = (0..=n).map(|i| draft.name(i)).collect();
+        draft.goal = names[n];
+        draft.lines = vec![(names[0], 1)];
+        for i in 0..n {
+            let recipe = draft.add(7, names[i], names[i + 1]);
+            draft.lines.push((recipe, 1));
+        }
+        draft.bytes()
+    }
+
+    fn print_row(tray: &str, n: usize, card: &[u8], sheet: &mut [u8]) {
+        let k = kit_planner::plan(card, sheet).expect("the card is planned");
+        let planner = planner_time(card, sheet);
+        let written = sheet[..5 + k + usize::from(card[4])].to_vec();
+        assert_eq!(kit_planner::read(card, &written), Ok(k));
+        let reader = call_time(15, || {
+            let _ = black_box(kit_planner::read(black_box(card), black_box(&written)));
+        });
+        println!("{tray:>14}{n:>5}{k:>5}{:>12}{:>12}", time(planner), time(reader));
+    }
+
+    pub fn table(sheet: &mut [u8]) {
+        println!("{ABOUT}");
+        println!("{:>14}{:>5}{:>5}{:>12}{:>12}", "", "n", "k", "planner", "reader");
+        for n in [8, 16, 32, 64] {
+            print_row("equal parts", n, &equal_parts::tray(n, n), sheet);
+        }
+        for n in [3, 7, 15] {
+            print_row("chain", n, &chain(n), sheet);
+        }
+    }
+}
+
 const ABOUT: &str = "\
-Each time is the median of several runs: in tables 1 and 3 of 15 runs of the planner and of 3 of the
-divider, where a run is as many calls as take about 100 us, at least one, and the time is that of one
-call; in table 2 of 7 passes over all cards of a row. The planner's sheet buffer is allocated and
-cleared once, before all timed calls. All is built for release.
+Each time is the median of several runs: in tables 1, 3 and 4 of 15 runs of the planner or the reader
+and of 3 of the divider, where a run is as many calls as take about 100 us, at least one, and the time
+is that of one call; in table 2 of 7 passes over all cards of a row. The planner's sheet buffer is
+allocated and cleared once, before all timed calls. All is built for release.
 ";
 
 fn main() {
@@ -274,4 +318,5 @@ fn main() {
     divisions::table(&mut sheet);
     independent::table(&mut sheet);
     equal_parts::table(&mut sheet);
+    reading::table(&mut sheet);
 }

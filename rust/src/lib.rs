@@ -48,17 +48,37 @@ fn unpacked(answer: u32) -> Result<usize, Refusal> {
     if number == 0 {
         return Ok(usize::from(index));
     }
-    let place = match place {
-        0 => Place::Card,
-        1 => Place::Node(index),
-        2 => Place::Rule(index),
-        3 => Place::Line(index),
-        4 => Place::Sheet,
-        5 => Place::Steps,
-        6 => Place::Mark(index),
-        _ => unreachable!("a refusal has one of seven places"),
-    };
+    let place = Place::numbered(place, index);
     Err(Refusal { number, place })
+}
+
+impl Place {
+    /// The place by its number.
+    fn numbered(number: u8, index: u16) -> Place {
+        match number {
+            0 => Place::Card,
+            1 => Place::Node(index),
+            2 => Place::Rule(index),
+            3 => Place::Line(index),
+            4 => Place::Sheet,
+            5 => Place::Steps,
+            6 => Place::Mark(index),
+            _ => unreachable!("no place has the number {number}"),
+        }
+    }
+
+    /// Its word, and its index where it has one.
+    fn word(self) -> (&'static str, Option<u16>) {
+        match self {
+            Place::Card => ("card", None),
+            Place::Node(i) => ("node", Some(i)),
+            Place::Rule(i) => ("rule", Some(i)),
+            Place::Line(i) => ("line", Some(i)),
+            Place::Sheet => ("sheet", None),
+            Place::Steps => ("steps", None),
+            Place::Mark(i) => ("mark", Some(i)),
+        }
+    }
 }
 
 impl Refusal {
@@ -86,14 +106,9 @@ impl Refusal {
 
 impl fmt::Display for Place {
     fn fmt(&self, f: &mut fmt::Formatter) -> fmt::Result {
-        match self {
-            Place::Card => write!(f, "card"),
-            Place::Node(i) => write!(f, "node {i}"),
-            Place::Rule(i) => write!(f, "rule {i}"),
-            Place::Line(i) => write!(f, "line {i}"),
-            Place::Sheet => write!(f, "sheet"),
-            Place::Steps => write!(f, "steps"),
-            Place::Mark(i) => write!(f, "mark {i}"),
+        match self.word() {
+            (word, None) => write!(f, "{word}"),
+            (word, Some(i)) => write!(f, "{word} {i}"),
         }
     }
 }

@@ -3,22 +3,21 @@ use Prim.Native.Nat.{ℕ, zero, suc, max, _+_, _≤_, _<_}
 use mathlib.Core.Path.{_≡_, refl, sym, ap, ap₂, _∙_, subst}
 use mathlib.Core.Logic.{_≢_, ite, if-pos, if-neg}
 use mathlib.Core.Bool.{Bool, true, false, not, _&&_, _||_, true≢false}
-use mathlib.Core.Option.{some}
 use mathlib.Core.List.{List, [], _∷_, _++_, map, map-append}
 use native.Mathlib.Decide.{ℕ-discrete, decLt}
 use native.Mathlib.Nat.{add-zero}
 use native.Mathlib.Omega.{arith}
 use lib.Dec.{T, eqb, eqb→eq, eqb-refl}
-use lib.ListN.{length, getD, length-map, List·getD-append, List·getD-eq-default}
+use lib.ListN.{length, length-map, List·getD-append, List·getD-eq-default}
 use lib.Seq.{getD-append-seam}
-use Rattle.calculus.specs.Formula.{Goal, Clause, atomᴳ, zeroᴳ, tensor, with, atomᴰ, topᴰ, lolliᴰ, fits, head, matched, residual}
+use Rattle.calculus.specs.Formula.{Goal, Clause, Fits, atomᴳ, oneᴳ, zeroᴳ, tensor, with, atomᴰ, topᴰ, lolliᴰ, matched, residual, usable}
 use Rattle.calculus.specs.Items.{Items, _∪_, _∖_, only, Empty, Splits, Within}
-use Rattle.calculus.specs.Derivation.{Scope, Entry, noEntry, clauseAt, linearAt, lend, Derives, res-1, res-⊤, res-⊗, res-&, res-⊸}
-use Rattle.calculus.specs.Derivation.{res-atm-int, res-atm-lin}
+use Rattle.calculus.specs.Derivation.{Scope, Entry, noEntry, size, entryAt, clauseAt, linearAt, residualAt, extend, lend, Derives, res-1, res-⊤}
+use Rattle.calculus.specs.Derivation.{res-⊗, res-&, res-⊸, res-atm-int, res-atm-lin}
 use Rattle.calculus.specs.Steps.{steps, nesting}
-use Rattle.calculus.specs.Job.{Job, Listed}
-use Rattle.calculus.specs.Inner.Renaming.{Renaming, Image, Renamed, JobRenaming, swap, EqualLines}
-use Rattle.calculus.proofs.SummaryExact.{lend-length}
+use Rattle.calculus.specs.Job.{Job, Derivation, Limited, Listed}
+use Rattle.calculus.specs.Inner.Renaming.{Renaming, Image, over, Renamed, JobRenaming, swap, EqualLines}
+use Rattle.calculus.proofs.SummaryExact.{lend-size}
 
 -- An entry that is used
 
@@ -33,24 +32,25 @@ unfolding matched
 matched-true true d = refl
 matched-true false d = absurd (no-zero d)
 
--- THEOREM. Only a clause whose head fits can be used.
-pub fits-head : {es : Scope} {I : Items} (a : ℕ) (D : Clause) → Derives es I (residual a D)
-    → (b : ℕ) × (head D ≡ some b) × (fits b a ≡ true)
-unfolding residual head
-fits-head a (atomᴰ b) d = (b, refl, matched-true (fits b a) d)
-fits-head a topᴰ d = absurd (no-zero d)
-fits-head a (lolliᴰ G D) d = fits-head a D (left-part d .1)
+-- THEOREM. Only a clause with a head that fits can be used.
+pub used-usable : {es : Scope} {I : Items} (fits : Fits) (a : ℕ) (D : Clause) → Derives es I (residual fits a D) → usable fits a D ≡ true
+unfolding residual usable
+used-usable fits a (atomᴰ b) d = matched-true (fits b a) d
+used-usable fits a topᴰ d = absurd (no-zero d)
+used-usable fits a (lolliᴰ G D) d = used-usable fits a D (left-part d .1)
+
+pub entry-past : (es : Scope) (e : ℕ) → size es ≤ e → entryAt es e ≡ noEntry
+unfolding size entryAt
+entry-past es e h = List·getD-eq-default (es .entries) noEntry h
 
 -- THEOREM. An entry that is used is in scope.
-pub in-scope : {es : Scope} {I : Items} (a e : ℕ) → Derives es I (residual a (clauseAt es e)) → e < length es
-unfolding residual clauseAt
-in-scope {es} {I} a e d = go (decLt e (length es))
+pub in-scope : {es : Scope} {I : Items} (a e : ℕ) → Derives es I (residualAt es a e) → e < size es
+unfolding residual residualAt clauseAt
+in-scope {es} {I} a e d = go (decLt e (size es))
   where
-    go : Dec (e < length es) → e < length es
+    go : Dec (e < size es) → e < size es
     go (yes h) = h
-    go (no n) =
-        let out : getD es e noEntry ≡ noEntry = List·getD-eq-default es noEntry (omega arith) in
-        absurd (no-zero (subst (λ (x : Entry). Derives es I (residual a (x .clause))) out d))
+    go (no n) = absurd (no-zero (subst (λ (x : Entry). Derives es I (residual (es .fits) a (x .clause))) (entry-past es e (omega arith)) d))
 
 -- Maps of entries and of items
 
@@ -171,39 +171,44 @@ image-pushed f g u I = image-share reached u (record { kept = λ i h. refl })
 
 -- A lent clause takes the next number on both sides
 
-beyond-lend : (es : Scope) (D : Clause) (k : ℕ) → length (lend es D) + k ≡ length es + suc k
-beyond-lend es D k = omega (arith, lend-length es D)
+beyond-lend : (es : Scope) (D : Clause) (k : ℕ) → size (lend es D) + k ≡ size es + suc k
+beyond-lend es D k = omega (arith, lend-size es D)
 
-pub entry-before : (es : Scope) (D : Clause) (e : ℕ) → e < length es → getD (lend es D) e noEntry ≡ getD es e noEntry
-unfolding lend
-entry-before es D e h = List·getD-append es _ noEntry e h
+pub entry-before : (es : Scope) (D : Clause) (e : ℕ) → e < size es → entryAt (lend es D) e ≡ entryAt es e
+unfolding size entryAt lend extend
+entry-before es D e h = List·getD-append (es .entries) _ noEntry e h
 
-pub entry-lent : (es : Scope) (D : Clause) (e : ℕ) → e ≡ length es → getD (lend es D) e noEntry ≡ record { clause = D; linear = true }
-unfolding lend
-entry-lent es D e h = ap (λ (k : ℕ). getD (lend es D) k noEntry) h ∙ getD-append-seam es _ [] noEntry
+pub entry-lent : (es : Scope) (D : Clause) (e : ℕ) → e ≡ size es → entryAt (lend es D) e ≡ record { clause = D; linear = true }
+unfolding size entryAt lend extend
+entry-lent es D e h = ap (λ (k : ℕ). entryAt (lend es D) k) h ∙ getD-append-seam (es .entries) _ [] noEntry
+
+-- lending changes no head and no wanted name
+pub fits-lend : (es : Scope) (D : Clause) → lend es D .fits ≡ es .fits
+unfolding lend extend
+fits-lend es D = refl
 
 -- an entry after lending stood before, or is the lent clause
-pub lent-cases : (es : Scope) (D : Clause) (P : ℕ → Type 0) → ((e : ℕ) → e < length es → P e) → P (length es)
-    → (e : ℕ) → e < length (lend es D) → P e
-lent-cases es D P old lent e h = go (decLt e (length es))
+pub lent-cases : (es : Scope) (D : Clause) (P : ℕ → Type 0) → ((e : ℕ) → e < size es → P e) → P (size es)
+    → (e : ℕ) → e < size (lend es D) → P e
+lent-cases es D P old lent e h = go (decLt e (size es))
   where
-    go : Dec (e < length es) → P e
+    go : Dec (e < size es) → P e
     go (yes k) = old e k
-    go (no n) = subst P (omega (arith, lend-length es D)) lent
+    go (no n) = subst P (omega (arith, lend-size es D)) lent
 
-next-image : {es fs : Scope} {f g : ℕ → ℕ} → Renaming es fs f g → f (length es) ≡ length fs
-next-image {es} {fs} {f} r = ap f (sym (add-zero (length es))) ∙ r .beyond zero ∙ add-zero (length fs)
+next-image : {es fs : Scope} {f g : ℕ → ℕ} → Renaming es fs f g → f (size es) ≡ size fs
+next-image {es} {fs} {f} r = ap f (sym (add-zero (size es))) ∙ r .beyond zero ∙ add-zero (size fs)
 
-entry-kept : {es fs : Scope} {f g : ℕ → ℕ} → Renaming es fs f g → (e : ℕ) → e < length es → getD fs (f e) noEntry ≡ getD es e noEntry
+entry-kept : {es fs : Scope} {f g : ℕ → ℕ} → Renaming es fs f g → (e : ℕ) → e < size es → entryAt fs (f e) ≡ entryAt es e
 unfolding clauseAt linearAt
 entry-kept r e h = λ i. record { clause = r .clause e h i; linear = r .linear e h i }
 
-lent-entry-kept : {es fs : Scope} {f g : ℕ → ℕ} → Renaming es fs f g → (D : Clause) (e : ℕ) → e < length (lend es D)
-    → getD (lend fs D) (f e) noEntry ≡ getD (lend es D) e noEntry
+lent-entry-kept : {es fs : Scope} {f g : ℕ → ℕ} → Renaming es fs f g → (D : Clause) (e : ℕ) → e < size (lend es D)
+    → entryAt (lend fs D) (f e) ≡ entryAt (lend es D) e
 lent-entry-kept {es} {fs} {f} r D =
-    lent-cases es D (λ e. getD (lend fs D) (f e) noEntry ≡ getD (lend es D) e noEntry)
+    lent-cases es D (λ e. entryAt (lend fs D) (f e) ≡ entryAt (lend es D) e)
     (λ e h. entry-before fs D (f e) (r .within e h) ∙ entry-kept r e h ∙ sym (entry-before es D e h))
-    (entry-lent fs D (f (length es)) (next-image r) ∙ sym (entry-lent es D (length es) refl))
+    (entry-lent fs D (f (size es)) (next-image r) ∙ sym (entry-lent es D (size es) refl))
 
 -- THEOREM. A renaming goes on holding where both scopes are lent a clause.
 pub renaming-lend : {es fs : Scope} {f g : ℕ → ℕ} → Renaming es fs f g → (D : Clause) → Renaming (lend es D) (lend fs D) f g
@@ -211,10 +216,11 @@ unfolding clauseAt linearAt
 renaming-lend {es} {fs} {f} r D =
     record {
       within =
-          lent-cases es D (λ e. f e < length (lend fs D)) (λ e h. omega (arith, r .within e h, lend-length fs D))
-          (omega (arith, next-image r, lend-length fs D));
+          lent-cases es D (λ e. f e < size (lend fs D)) (λ e h. omega (arith, r .within e h, lend-size fs D))
+          (omega (arith, next-image r, lend-size fs D));
       clause = λ e h. ap (λ (x : Entry). x .clause) (lent-entry-kept r D e h);
       linear = λ e h. ap (λ (x : Entry). x .linear) (lent-entry-kept r D e h);
+      fit = λ b a h. ap (λ t. t b a) (fits-lend fs D) ∙ r .fit b a (sym (ap (λ t. t b a) (fits-lend es D)) ∙ h);
       undone = r .undone;
       beyond = λ k. ap f (beyond-lend es D k) ∙ r .beyond (suc k) ∙ sym (beyond-lend fs D k);
     }
@@ -242,37 +248,76 @@ renamed-& x y q =
       depth = ap₂ max (x .depth) (y .depth);
     }
 
-module _ {es fs : Scope} {f g : ℕ → ℕ} {J : Items} {l : List ℕ} {n : ℕ} (r : Renaming es fs f g) (a e : ℕ) (h : e < length es) where
-  renamed-rule : linearAt es e ≡ false → Renamed fs J (residual a (clauseAt es e)) l n → Renamed fs J (atomᴳ a) (f e ∷ l) (suc n)
+-- a test that lets more heads fit leaves what is derived derived
+renamed-1 : {fs : Scope} {J : Items} {l : List ℕ} {n : ℕ} (b c : Bool) → (b ≡ true → c ≡ true)
+    → Renamed fs J (matched b) l n → Renamed fs J (matched c) l n
+unfolding matched
+renamed-1 true true h x = x
+renamed-1 true false h x = absurd (true≢false (sym (h refl)))
+renamed-1 false c h x = absurd (no-zero (x .tree))
+
+renamed-wider : {fs : Scope} (s t : Fits) → ((b a : ℕ) → s b a ≡ true → t b a ≡ true) → (a : ℕ) (D : Clause) {J : Items}
+    (d : Derives fs J (residual s a D)) → Renamed fs J (residual t a D) (steps d) (nesting d)
+unfolding residual steps nesting
+renamed-wider s t h a (atomᴰ b) d = renamed-1 (s b a) (t b a) (h b a) (record { tree = d; list = refl; depth = refl })
+renamed-wider s t h a topᴰ d = absurd (no-zero d)
+renamed-wider s t h a (lolliᴰ G D) (res-⊗ p c d) =
+    renamed-⊗ p (renamed-wider s t h a D c) (record { tree = d; list = refl; depth = refl }) refl
+
+module _ {es fs : Scope} {f g : ℕ → ℕ} {l : List ℕ} {n : ℕ} (r : Renaming es fs f g) (a e : ℕ) (h : e < size es) where
+  -- what is left of the entry, there
+  renamed-residual : {J : Items} → Renamed fs J (residualAt es a e) l n → Renamed fs J (residualAt fs a (f e)) l n
+  unfolding residualAt
+  renamed-residual {J} x =
+      let y = subst (λ (D : Clause). Renamed fs J (residual (es .fits) a D) l n) (sym (r .clause e h)) x in
+      let z = renamed-wider (es .fits) (fs .fits) (r .fit) a (clauseAt fs (f e)) (y .tree) in
+      record { tree = z .tree; list = z .list ∙ y .list; depth = z .depth ∙ y .depth }
+
+  renamed-rule : {J : Items} → linearAt es e ≡ false → Renamed fs J (residualAt es a e) l n → Renamed fs J (atomᴳ a) (f e ∷ l) (suc n)
   unfolding steps nesting
   renamed-rule q x =
-      let y = subst (λ (D : Clause). Renamed fs J (residual a D) l n) (sym (r .clause e h)) x in
+      let y = renamed-residual x in
       record { tree = res-atm-int (f e) (r .linear e h ∙ q) (y .tree); list = ap (λ k. f e ∷ k) (y .list); depth = ap suc (y .depth) }
 
-  renamed-item : linearAt es e ≡ true → J (f e) ≡ true → Renamed fs (J ∖ only (f e)) (residual a (clauseAt es e)) l n
+  renamed-item : {J : Items} → linearAt es e ≡ true → J (f e) ≡ true → Renamed fs (J ∖ only (f e)) (residualAt es a e) l n
       → Renamed fs J (atomᴳ a) (f e ∷ l) (suc n)
   unfolding steps nesting
   renamed-item q t x =
-      let y = subst (λ (D : Clause). Renamed fs (J ∖ only (f e)) (residual a D) l n) (sym (r .clause e h)) x in
+      let y = renamed-residual x in
       record { tree = res-atm-lin (f e) (r .linear e h ∙ q) t (y .tree); list = ap (λ k. f e ∷ k) (y .list); depth = ap suc (y .depth) }
 
--- THEOREM. A derivation goes over along a renaming, with its steps mapped and the same nesting.
+-- THEOREM. A derivation goes over along a renaming, with its entries renamed and the same nesting.
 pub rename : {es fs : Scope} {f g : ℕ → ℕ} {I J : Items} {G : Goal} → Renaming es fs f g → Image f g I J → (d : Derives es I G)
-    → Renamed fs J G (map f (steps d)) (nesting d)
-unfolding steps nesting
+    → Renamed fs J G (over f d) (nesting d)
+unfolding over nesting steps
 rename r m (res-1 v) = record { tree = res-1 (image-empty m v); list = refl; depth = refl }
 rename r m res-⊤ = record { tree = res-⊤; list = refl; depth = refl }
-rename {f} r m (res-⊗ s c d) =
+rename r m (res-⊗ s c d) =
     let x = rename r (image-share m (r .undone) (splits-left s)) c in
     let y = rename r (image-share m (r .undone) (splits-right s)) d in
-    renamed-⊗ (splits-share m s) x y (map-append f (steps c) (steps d))
-rename {f} r m (res-& c d) = renamed-& (rename r m c) (rename r m d) (map-append f (steps c) (steps d))
+    renamed-⊗ (splits-share m s) x y refl
+rename r m (res-& c d) = renamed-& (rename r m c) (rename r m d) refl
 rename {J} r m (res-⊸ {es} {D} h d) =
-    let x = rename (renaming-lend r D) (image-more m (r .undone) (length es) _ (next-image r)) d in
-    record { tree = res-⊸ (ap J (sym (next-image r)) ∙ m .taken (length es) ∙ h) (x .tree); list = x .list; depth = x .depth }
+    let x = rename (renaming-lend r D) (image-more m (r .undone) (size es) _ (next-image r)) d in
+    record { tree = res-⊸ (ap J (sym (next-image r)) ∙ m .taken (size es) ∙ h) (x .tree); list = x .list; depth = x .depth }
 rename r m (res-atm-int {a} e n d) = renamed-rule r a e (in-scope a e d) n (rename r m d)
 rename r m (res-atm-lin {a} e n h d) =
     renamed-item r a e (in-scope a e d) n (m .taken e ∙ h) (rename r (image-less m (r .undone) e) d)
+
+-- THEOREM. Every step is an entry: a derivation with its entries renamed has its steps mapped.
+pub over-steps : {es : Scope} {I : Items} {G : Goal} (f : ℕ → ℕ) (d : Derives es I G) → over f d ≡ map f (steps d)
+unfolding over steps
+over-steps f (res-1 n) = refl
+over-steps f res-⊤ = refl
+over-steps f (res-⊗ s l r) = ap₂ _++_ (over-steps f l) (over-steps f r) ∙ sym (map-append f (steps l) (steps r))
+over-steps f (res-& l r) = ap₂ _++_ (over-steps f l) (over-steps f r) ∙ sym (map-append f (steps l) (steps r))
+over-steps f (res-⊸ h d) = over-steps f d
+over-steps f (res-atm-int e n d) = ap (λ l. f e ∷ l) (over-steps f d)
+over-steps f (res-atm-lin e n h d) = ap (λ l. f e ∷ l) (over-steps f d)
+
+-- THEOREM. A derivation has as many steps with its entries renamed.
+pub over-length : {es : Scope} {I : Items} {G : Goal} (f : ℕ → ℕ) (d : Derives es I G) → length (over f d) ≡ length (steps d)
+over-length f d = ap length (over-steps f d) ∙ length-map (steps d) f
 
 -- Jobs go over
 
@@ -295,19 +340,16 @@ listed-by {J} s w z h c =
       list = z .list;
     }
 
--- THEOREM. The lists of j within limits, mapped, are lists of k within limits.
-pub rename-listed : {j k : Job} {f g : ℕ → ℕ} → JobRenaming j k f g → (l : List ℕ) → Listed j l → Listed k (map f l)
-rename-listed {k} {f} {g} r l m =
-    let d = m .derivation in
+-- THEOREM. The derivations of j within limits, with their entries renamed, are derivations of k within limits.
+pub rename-listed : {j k : Job} {f g : ℕ → ℕ} → JobRenaming j k f g → (d : Derivation j) → Limited j d → Listed k (over f (d .tree))
+rename-listed {k} {f} {g} r d m =
     let J = pushed f g (d .items) in
     let i : Image f g (d .items) J = image-pushed f g (r .entries .undone) (d .items) in
     let z = rename (r .entries) i (d .tree) in
-    let over = subst (λ (G : Goal). Renamed (k .scope) J G (map f (steps (d .tree))) (nesting (d .tree))) (r .same-goal) z in
-    let shallow : nesting (d .tree) ≤ k .depth = omega (arith, m .limited .nested, r .no-shallower) in
-    let short : length (map f (steps (d .tree))) ≤ k .length-limit =
-    omega (arith, length-map (steps (d .tree)) f, m .limited .counted, r .no-shorter) in
-    subst (λ (x : List ℕ). Listed k (map f x)) (m .list)
-    (listed-by (strict-over r i (d .all-strict)) (lines-over r i (d .none-else)) over shallow short)
+    let there = subst (λ (G : Goal). Renamed (k .scope) J G (over f (d .tree)) (nesting (d .tree))) (r .same-goal) z in
+    let shallow : nesting (d .tree) ≤ k .depth = omega (arith, m .nested, r .no-shallower) in
+    let short : length (over f (d .tree)) ≤ k .length-limit = omega (arith, over-length f (d .tree), m .counted, r .no-shorter) in
+    listed-by (strict-over r i (d .all-strict)) (lines-over r i (d .none-else)) there shallow short
 
 -- Equal lines
 
@@ -352,11 +394,12 @@ swapping j x y q =
     record {
       entries =
           record {
-            within = swap-within (length (j .scope)) x y (q .x-within) (q .y-within);
+            within = swap-within (size (j .scope)) x y (q .x-within) (q .y-within);
             clause = λ e h. swap-keeps (clauseAt (j .scope)) x y (q .same-clause) e;
             linear = λ e h. swap-keeps (linearAt (j .scope)) x y (q .same-linear) e;
+            fit = λ b a h. h;
             undone = swap-swap x y;
-            beyond = λ k. swap-other x y (length (j .scope) + k) (omega (arith, q .x-within)) (omega (arith, q .y-within));
+            beyond = λ k. swap-other x y (size (j .scope) + k) (omega (arith, q .x-within)) (omega (arith, q .y-within));
           };
       strict-from = λ i h. (swap-swap x y i, swap-keeps (j .strict) x y (q .same-strict) i ∙ h);
       lines-to = λ i h. swap-keeps (j .strict ∪ j .lax) x y (ap₂ _||_ (q .same-strict) (q .same-lax)) i ∙ h;
@@ -367,4 +410,6 @@ swapping j x y q =
 
 -- THEOREM. Equal lines may be swapped in a list.
 pub swap-lines : (j : Job) (x y : ℕ) → EqualLines j x y → (l : List ℕ) → Listed j l → Listed j (map (swap x y) l)
-swap-lines j x y q = rename-listed (swapping j x y q)
+swap-lines j x y q l m =
+    subst (Listed j) (over-steps (swap x y) (m .derivation .tree) ∙ ap (map (swap x y)) (m .list))
+    (rename-listed (swapping j x y q) (m .derivation) (m .limited))

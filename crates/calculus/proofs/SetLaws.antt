@@ -4,8 +4,10 @@ use mathlib.Core.Path.{_≡_, refl, sym, ap, _∙_, subst, fun-ext}
 use mathlib.Core.Logic.{_⊎_, inl, inr, _↔_}
 use mathlib.Core.Bool.{Bool, true, false, not, _&&_, _||_, Bool·beq, false≢true}
 use lib.Dec.{T, eqb, eqb→eq, eqb-refl}
+use Rattle.calculus.specs.Formula.{Clause}
 use Rattle.calculus.specs.Items.{Items, ∅, _∪_, _∖_, only, Empty, Splits, Within}
-use Rattle.calculus.specs.Inner.Summary.{Same, Joins, Without, Plus, Covers}
+use Rattle.calculus.specs.Derivation.{Scope, lend}
+use Rattle.calculus.specs.Inner.Summary.{Same, Joins, Without, Plus, Meets, spare, Covers}
 
 -- A statement about Booleans: an equation, or that one statement implies another.
 infix 20 _≐_
@@ -89,15 +91,39 @@ same-path s = fun-ext (s .same)
 pub within-trans : {I J K : Items} → Within I J → Within J K → Within I K
 within-trans h k = record { kept = λ i p. k .kept i (h .kept i p) }
 
+-- what slack takes: anything, or nothing
+pub spare-all : (es : Scope) {U I : Items} → Covers (spare es true) U I
+unfolding spare
+spare-all es = record { cover = λ i h. refl }
+
+pub spare-none : (es : Scope) → Empty (spare es false)
+unfolding spare
+spare-none es = record { vacant = λ i. refl }
+
+-- slack of either part, and of both
+pub spare-joins : (es : Scope) (v w : Bool) {x : Bool} → x ≡ (v || w) → Joins (spare es x) (spare es v) (spare es w)
+unfolding spare
+spare-joins es v w e = record { joined = λ i. e }
+
+pub spare-meets : (es : Scope) (v w : Bool) {x : Bool} → x ≡ (v && w) → Meets (spare es x) (spare es v) (spare es w)
+unfolding spare
+spare-meets es v w e = record { met = λ i. e }
+
+-- a lent clause changes nothing of what is spare
+pub spare-lend : (es : Scope) (D : Clause) (v : Bool) {U I : Items} → Covers (spare (lend es D) v) U I ↔ Covers (spare es v) U I
+unfolding spare
+spare-lend es D v = (λ c. c, λ c. c)
+
 -- "there is slack or nothing is left"
-pub covers : {v : Bool} {U I : Items} → ((v ≡ true) ⊎ Within I U) ↔ Covers v U I
-covers {v} {U} {I} = (to v, from v)
+pub covers : (es : Scope) {v : Bool} {U I : Items} → ((v ≡ true) ⊎ Within I U) ↔ Covers (spare es v) U I
+unfolding spare
+covers es {v} {U} {I} = (to v, from v)
   where
-    to : (v : Bool) → (v ≡ true) ⊎ Within I U → Covers v U I
+    to : (v : Bool) → (v ≡ true) ⊎ Within I U → Covers (λ i. v) U I
     to v (inl s) = record { cover = λ i. table 3 (λ v u i. v ≐ true ⟹ i ⊑ (v || u)) refl v (U i) (I i) s }
     to v (inr w) = record { cover = λ i. table 3 (λ v u i. i ⊑ u ⟹ i ⊑ (v || u)) refl v (U i) (I i) (w .kept i) }
 
-    from : (v : Bool) → Covers v U I → (v ≡ true) ⊎ Within I U
+    from : (v : Bool) → Covers (λ i. v) U I → (v ≡ true) ⊎ Within I U
     from true c = inl refl
     from false c = inr (record { kept = c .cover })
 
@@ -133,19 +159,17 @@ pub empty-within : {I J : Items} → Empty I → Within I J
 empty-within {I} {J} n = record { kept = λ i. table 2 (λ i j. i ≐ false ⟹ i ⊑ j) refl (I i) (J i) (n .vacant i) }
 
 -- what is empty is covered, and what an empty set covers without slack is empty
-pub empty-covered : {v : Bool} {U I : Items} → Empty I → Covers v U I
-empty-covered {v} {U} {I} n = record { cover = λ i. table 3 (λ v u i. i ≐ false ⟹ i ⊑ v || u) refl v (U i) (I i) (n .vacant i) }
+pub empty-covered : {R U I : Items} → Empty I → Covers R U I
+empty-covered {R} {U} {I} n = record { cover = λ i. table 3 (λ v u i. i ≐ false ⟹ i ⊑ v || u) refl (R i) (U i) (I i) (n .vacant i) }
 
-pub covered-empty : {U I : Items} → Empty U → Covers false U I → Empty I
-covered-empty {U} {I} n c = record {
-  vacant = λ i. table 2 (λ u i. u ≐ false ⟹ i ⊑ false || u ⟹ i ≐ false) refl (U i) (I i) (n .vacant i) (c .cover i);
+pub covered-empty : {R U I : Items} → Empty R → Empty U → Covers R U I → Empty I
+covered-empty {R} {U} {I} m n c = record {
+  vacant = λ i. table 3 (λ r u i. r ≐ false ⟹ u ≐ false ⟹ i ⊑ r || u ⟹ i ≐ false) refl
+      (R i) (U i) (I i) (m .vacant i) (n .vacant i) (c .cover i);
 }
 
-pub slack-covers : {U I : Items} → Covers true U I
-slack-covers = record { cover = λ i h. refl }
-
 -- what covers a set covers each set within it
-pub covers-within : {v : Bool} {U I J : Items} → Covers v U I → Within J I → Covers v U J
+pub covers-within : {R U I J : Items} → Covers R U I → Within J I → Covers R U J
 covers-within c w = record { cover = λ i h. c .cover i (w .kept i h) }
 
 pub join-left : {T U W : Items} → Joins T U W → Within U T
@@ -201,9 +225,9 @@ unfolding _∪_ _∖_
 ∖-gather I J K = record { kept = λ i. table 3 (λ i j k. (i && not k) || (j && not k) ⊑ (i || j) && not k) refl (I i) (J i) (K i) }
 
 -- what U covers it covers together with U
-pub join-covers : {v : Bool} {T U I : Items} → Joins T I U → Covers v U I → Covers v U T
-join-covers {v} {T} {U} {I} s c = record {
-  cover = λ i. table 4 (λ v t u i. t ≐ (i || u) ⟹ i ⊑ v || u ⟹ t ⊑ v || u) refl v (T i) (U i) (I i) (s .joined i) (c .cover i);
+pub join-covers : {R T U I : Items} → Joins T I U → Covers R U I → Covers R U T
+join-covers {R} {T} {U} {I} s c = record {
+  cover = λ i. table 4 (λ v t u i. t ≐ (i || u) ⟹ i ⊑ v || u ⟹ t ⊑ v || u) refl (R i) (T i) (U i) (I i) (s .joined i) (c .cover i);
 }
 
 -- Shares (⊗).
@@ -224,69 +248,69 @@ split-apart {I} {J} {K} {T} {U} {W} s p q j = record {
 pub split-joins : {T U W : Items} → Splits T U W → Joins T U W
 split-joins s = record { joined = s .whole }
 
-pub split-covers : {I J K U W : Items} {v w : Bool} → Splits I J K → Covers v U J → Covers w W K → Covers (v || w) (U ∪ W) I
+pub split-covers : {I J K U W X R Q : Items} → Joins X R Q → Splits I J K → Covers R U J → Covers Q W K → Covers X (U ∪ W) I
 unfolding _∪_
-split-covers {I} {J} {K} {U} {W} {v} {w} s p q = record {
-  cover = λ i. table 7 (λ i j k u w a b. i ≐ (j || k) ⟹ j ⊑ a || u ⟹ k ⊑ b || w ⟹ i ⊑ (a || b) || (u || w)) refl
-      (I i) (J i) (K i) (U i) (W i) v w (s .whole i) (p .cover i) (q .cover i);
+split-covers {I} {J} {K} {U} {W} {X} {R} {Q} e s p q = record {
+  cover = λ i. table 8 (λ i j k u w x a b. x ≐ (a || b) ⟹ i ≐ (j || k) ⟹ j ⊑ a || u ⟹ k ⊑ b || w ⟹ i ⊑ x || (u || w)) refl
+      (I i) (J i) (K i) (U i) (W i) (X i) (R i) (Q i) (e .joined i) (s .whole i) (p .cover i) (q .cover i);
 }
 
--- the left share of I: what the left part takes and, if it has slack, all that the right does not take
-unfoldable pub share : Bool → Items → Items → Items → Items
-share v U W I i = U i || (v && (I i && not (W i)))
+-- the left share of I: what the left part takes and, of what is spare to it, all that the right does not take
+unfoldable pub share : Items → Items → Items → Items → Items
+share R U W I i = U i || (R i && (I i && not (W i)))
 
-pub share-splits : {I T U W : Items} (v : Bool) → Splits T U W → Within T I → Splits I (share v U W I) (I ∖ share v U W I)
+pub share-splits : {I T U W : Items} (R : Items) → Splits T U W → Within T I → Splits I (share R U W I) (I ∖ share R U W I)
 unfolding _∖_ share
-share-splits {I} {T} {U} {W} v s p = record {
+share-splits {I} {T} {U} {W} R s p = record {
   whole = λ i. table 5 (λ v i t u w. t ≐ (u || w) ⟹ t ⊑ i
-      ⟹ i ≐ ((u || (v && (i && not w))) || (i && not (u || (v && (i && not w)))))) refl v (I i) (T i) (U i) (W i) (s .whole i) (p .kept i);
-  apart = λ i. table 2 (λ i x. (x && (i && not x)) ≐ false) refl (I i) (share v U W I i);
+      ⟹ i ≐ ((u || (v && (i && not w))) || (i && not (u || (v && (i && not w)))))) refl (R i) (I i) (T i) (U i) (W i) (s .whole i) (p .kept i);
+  apart = λ i. table 2 (λ i x. (x && (i && not x)) ≐ false) refl (I i) (share R U W I i);
 }
 
-pub share-left : (v : Bool) (U W I : Items) → Within U (share v U W I)
+pub share-left : (R : Items) (U W I : Items) → Within U (share R U W I)
 unfolding share
-share-left v U W I = record { kept = λ i. table 4 (λ v i u w. u ⊑ u || (v && (i && not w))) refl v (I i) (U i) (W i) }
+share-left R U W I = record { kept = λ i. table 4 (λ v i u w. u ⊑ u || (v && (i && not w))) refl (R i) (I i) (U i) (W i) }
 
-pub share-right : {I T U W : Items} (v : Bool) → Splits T U W → Within T I → Within W (I ∖ share v U W I)
+pub share-right : {I T U W : Items} (R : Items) → Splits T U W → Within T I → Within W (I ∖ share R U W I)
 unfolding _∖_ share
-share-right {I} {T} {U} {W} v s p = record {
+share-right {I} {T} {U} {W} R s p = record {
   kept = λ i. table 5 (λ v i t u w. t ≐ (u || w) ⟹ (u && w) ≐ false ⟹ t ⊑ i ⟹ w ⊑ i && not (u || (v && (i && not w)))) refl
-      v (I i) (T i) (U i) (W i) (s .whole i) (s .apart i) (p .kept i);
+      (R i) (I i) (T i) (U i) (W i) (s .whole i) (s .apart i) (p .kept i);
 }
 
-pub share-left-covers : (v : Bool) (U W I : Items) → Covers v U (share v U W I)
+pub share-left-covers : (R : Items) (U W I : Items) → Covers R U (share R U W I)
 unfolding share
-share-left-covers v U W I = record {
-  cover = λ i. table 4 (λ v i u w. u || (v && (i && not w)) ⊑ v || u) refl v (I i) (U i) (W i);
+share-left-covers R U W I = record {
+  cover = λ i. table 4 (λ v i u w. u || (v && (i && not w)) ⊑ v || u) refl (R i) (I i) (U i) (W i);
 }
 
-pub share-right-covers : {I T U W : Items} {x : Bool} (v w : Bool)
-    → x ≡ (v || w) → Splits T U W → Covers x T I → Covers w W (I ∖ share v U W I)
+pub share-right-covers : {I T U W X : Items} (R Q : Items)
+    → Joins X R Q → Splits T U W → Covers X T I → Covers Q W (I ∖ share R U W I)
 unfolding _∖_ share
-share-right-covers {I} {T} {U} {W} {x} v w e s c = record {
+share-right-covers {I} {T} {U} {W} {X} R Q e s c = record {
   cover = λ i. table 7 (λ x v y i t u w. x ≐ (v || y) ⟹ t ≐ (u || w) ⟹ i ⊑ x || t ⟹ i && not (u || (v && (i && not w))) ⊑ y || w) refl
-      x v w (I i) (T i) (U i) (W i) e (s .whole i) (c .cover i);
+      (X i) (R i) (Q i) (I i) (T i) (U i) (W i) (e .joined i) (s .whole i) (c .cover i);
 }
 
 -- Two sides (&).
-pub both-cover : {v w : Bool} {U W I : Items} → Covers v U I → Covers w W I → Covers (v && w) (U ∪ W) I
+pub both-cover : {X R Q U W I : Items} → Meets X R Q → Covers R U I → Covers Q W I → Covers X (U ∪ W) I
 unfolding _∪_
-both-cover {v} {w} {U} {W} {I} p q = record {
-  cover = λ i. table 5 (λ v w u t i. i ⊑ v || u ⟹ i ⊑ w || t ⟹ i ⊑ (v && w) || (u || t)) refl
-      v w (U i) (W i) (I i) (p .cover i) (q .cover i);
+both-cover {X} {R} {Q} {U} {W} {I} e p q = record {
+  cover = λ i. table 6 (λ x v w u t i. x ≐ (v && w) ⟹ i ⊑ v || u ⟹ i ⊑ w || t ⟹ i ⊑ x || (u || t)) refl
+      (X i) (R i) (Q i) (U i) (W i) (I i) (e .met i) (p .cover i) (q .cover i);
 }
 
 -- if a side covers the other, it covers what both cover
-pub left-covers : {x v : Bool} {T U W I : Items} (w : Bool) → x ≡ (v && w) → Joins T U W → Covers v U W → Covers x T I → Covers v U I
-left-covers {x} {v} {T} {U} {W} {I} w e s c d = record {
+pub left-covers : {X R T U W I : Items} (Q : Items) → Meets X R Q → Joins T U W → Covers R U W → Covers X T I → Covers R U I
+left-covers {X} {R} {T} {U} {W} {I} Q e s c d = record {
   cover = λ i. table 7 (λ x v y t u w i. x ≐ (v && y) ⟹ t ≐ (u || w) ⟹ w ⊑ v || u ⟹ i ⊑ x || t ⟹ i ⊑ v || u) refl
-      x v w (T i) (U i) (W i) (I i) e (s .joined i) (c .cover i) (d .cover i);
+      (X i) (R i) (Q i) (T i) (U i) (W i) (I i) (e .met i) (s .joined i) (c .cover i) (d .cover i);
 }
 
-pub right-covers : {x w : Bool} {T U W I : Items} (v : Bool) → x ≡ (v && w) → Joins T U W → Covers w W U → Covers x T I → Covers w W I
-right-covers {x} {w} {T} {U} {W} {I} v e s c d = record {
+pub right-covers : {X Q T U W I : Items} (R : Items) → Meets X R Q → Joins T U W → Covers Q W U → Covers X T I → Covers Q W I
+right-covers {X} {Q} {T} {U} {W} {I} R e s c d = record {
   cover = λ i. table 7 (λ x v y t u w i. x ≐ (v && y) ⟹ t ≐ (u || w) ⟹ u ⊑ y || w ⟹ i ⊑ x || t ⟹ i ⊑ y || w) refl
-      x v w (T i) (U i) (W i) (I i) e (s .joined i) (c .cover i) (d .cover i);
+      (X i) (R i) (Q i) (T i) (U i) (W i) (I i) (e .met i) (s .joined i) (c .cover i) (d .cover i);
 }
 
 -- One item more (⊸): W is taken from I with e lent, U is W without e.
@@ -296,14 +320,14 @@ lent-within {U} {W} {e} I s p = record {
   kept = λ i. table 4 (λ u w i o. u ≐ (w && not o) ⟹ w ⊑ i || o ⟹ u ⊑ i) refl (U i) (W i) (I i) (only e i) (s .without i) (p .kept i);
 }
 
-pub lent-covers : {v : Bool} {U W : Items} {e : ℕ} (I : Items) → Without U W e → I e ≡ false → Covers v W (I ∪ only e) → Covers v U I
+pub lent-covers : {R U W : Items} {e : ℕ} (I : Items) → Without U W e → I e ≡ false → Covers R W (I ∪ only e) → Covers R U I
 unfolding _∪_
-lent-covers {v} {U} {W} {e} I s n c = record {
+lent-covers {R} {U} {W} {e} I s n c = record {
   cover = λ i. table 5 (λ v u w i o. u ≐ (w && not o) ⟹ (o ≐ true ⟹ i ≐ false) ⟹ i || o ⊑ v || w ⟹ i ⊑ v || u) refl
-      v (U i) (W i) (I i) (only e i) (s .without i) (only-at I e n i) (c .cover i);
+      (R i) (U i) (W i) (I i) (only e i) (s .without i) (only-at I e n i) (c .cover i);
 }
 
-pub lent-used : {v : Bool} {W : Items} (I : Items) (e : ℕ) → Covers v W (I ∪ only e) → (v || W e) ≡ true
+pub lent-used : {R W : Items} (I : Items) (e : ℕ) → Covers R W (I ∪ only e) → (R e || W e) ≡ true
 unfolding _∪_
 lent-used I e c = c .cover e (table 2 (λ i o. o ⊑ i || o) refl (I e) (only e e) (only-self e))
 
@@ -313,11 +337,11 @@ relend-within {U} {W} {I} {e} s p = record {
   kept = λ i. table 4 (λ u w i o. u ≐ (w && not o) ⟹ u ⊑ i ⟹ w ⊑ i || o) refl (U i) (W i) (I i) (only e i) (s .without i) (p .kept i);
 }
 
-pub relend-covers : {v : Bool} {U W I : Items} {e : ℕ} → Without U W e → (v || W e) ≡ true → Covers v U I → Covers v W (I ∪ only e)
+pub relend-covers : {R U W I : Items} {e : ℕ} → Without U W e → (R e || W e) ≡ true → Covers R U I → Covers R W (I ∪ only e)
 unfolding _∪_
-relend-covers {v} {U} {W} {I} {e} s h c = record {
+relend-covers {R} {U} {W} {I} {e} s h c = record {
   cover = λ i. table 5 (λ v u w i o. u ≐ (w && not o) ⟹ o ⊑ v || w ⟹ i ⊑ v || u ⟹ i || o ⊑ v || w) refl
-      v (U i) (W i) (I i) (only e i) (s .without i) (only-at (λ i. v || W i) e h i) (c .cover i);
+      (R i) (U i) (W i) (I i) (only e i) (s .without i) (only-at (λ i. R i || W i) e h i) (c .cover i);
 }
 
 -- One item less (a use): W is taken from I without e, U is W and e.
@@ -332,11 +356,11 @@ used-within {U} {W} {e} I s h p = record {
       (U i) (W i) (I i) (only e i) (s .plus i) (only-at I e h i) (p .kept i);
 }
 
-pub used-covers : {v : Bool} {U W : Items} {e : ℕ} (I : Items) → Plus U W e → Covers v W (I ∖ only e) → Covers v U I
+pub used-covers : {R U W : Items} {e : ℕ} (I : Items) → Plus U W e → Covers R W (I ∖ only e) → Covers R U I
 unfolding _∖_
-used-covers {v} {U} {W} {e} I s c = record {
+used-covers {R} {U} {W} {e} I s c = record {
   cover = λ i. table 5 (λ v u w i o. u ≐ (w || o) ⟹ i && not o ⊑ v || w ⟹ i ⊑ v || u) refl
-      v (U i) (W i) (I i) (only e i) (s .plus i) (c .cover i);
+      (R i) (U i) (W i) (I i) (only e i) (s .plus i) (c .cover i);
 }
 
 pub before-use-at : {U W I : Items} {e : ℕ} → Plus U W e → Within U I → I e ≡ true
@@ -350,9 +374,9 @@ before-use-within {U} {W} {I} {e} s n p = record {
       (U i) (W i) (I i) (only e i) (s .plus i) (only-at W e n i) (p .kept i);
 }
 
-pub before-use-covers : {v : Bool} {U W I : Items} {e : ℕ} → Plus U W e → Covers v U I → Covers v W (I ∖ only e)
+pub before-use-covers : {R U W I : Items} {e : ℕ} → Plus U W e → Covers R U I → Covers R W (I ∖ only e)
 unfolding _∖_
-before-use-covers {v} {U} {W} {I} {e} s c = record {
+before-use-covers {R} {U} {W} {I} {e} s c = record {
   cover = λ i. table 5 (λ v u w i o. u ≐ (w || o) ⟹ i ⊑ v || u ⟹ i && not o ⊑ v || w) refl
-      v (U i) (W i) (I i) (only e i) (s .plus i) (c .cover i);
+      (R i) (U i) (W i) (I i) (only e i) (s .plus i) (c .cover i);
 }

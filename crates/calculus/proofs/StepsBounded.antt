@@ -4,18 +4,17 @@ use native.Mathlib.Omega.{arith}
 use mathlib.Core.Path.{_≡_, refl, sym, ap, _∙_}
 use mathlib.Core.Bool.{Bool, true, false, _||_, false≢true}
 use mathlib.Core.List.{List, [], _∷_, _++_}
-use lib.ListN.{length}
 use lib.Dec.{eqb}
 use borrow.Author.Tests.{eqb-true}
-use Rattle.calculus.specs.Formula.{Goal, Clause, atomᴳ, topᴳ, oneᴳ, zeroᴳ, tensor, with, lolliᴳ, atomᴰ, topᴰ, lolliᴰ, fits, matched}
+use Rattle.calculus.specs.Formula.{Goal, Clause, atomᴳ, topᴳ, oneᴳ, zeroᴳ, tensor, with, lolliᴳ, atomᴰ, topᴰ, lolliᴰ, Fits, matched}
 use Rattle.calculus.specs.Formula.{residual}
 use Rattle.calculus.specs.Items.{Items}
-use Rattle.calculus.specs.Derivation.{Scope, Entry, clauseAt, lend, Derives, res-1, res-⊤, res-⊗, res-&, res-⊸, res-atm-int}
+use Rattle.calculus.specs.Derivation.{Scope, Entry, size, clauseAt, residualAt, lend, Derives, res-1, res-⊤, res-⊗, res-&, res-⊸, res-atm-int}
 use Rattle.calculus.specs.Derivation.{res-atm-lin}
 use Rattle.calculus.specs.Steps.{steps, nesting, stands}
 use Rattle.calculus.specs.Inner.Height.{heightᴳ, heightᴰ, lends, Low, Below}
 use Rattle.calculus.proofs.RenamingKeeps.{in-scope, lent-cases, entry-before, entry-lent}
-use Rattle.calculus.proofs.SummaryExact.{lend-length}
+use Rattle.calculus.proofs.SummaryExact.{lend-size}
 
 low-lend : {es : Scope} (D : Clause) → Low es → heightᴰ D ≤ 8 → Low (lend es D)
 unfolding clauseAt
@@ -24,7 +23,7 @@ low-lend {es} D l h =
       low =
           lent-cases es D (λ e. heightᴰ (clauseAt (lend es D) e) ≤ 8)
           (λ e g. omega (arith, l .low e g, ap (λ (x : Entry). heightᴰ (x .clause)) (entry-before es D e g)))
-          (omega (arith, ap (λ (x : Entry). heightᴰ (x .clause)) (entry-lent es D (length es) refl)));
+          (omega (arith, ap (λ (x : Entry). heightᴰ (x .clause)) (entry-lent es D (size es) refl)));
     }
 
 -- a goal lends fewer clauses, one inside the other, than it is high
@@ -49,17 +48,17 @@ matched-lends true = refl
 matched-lends false = refl
 
 -- what is left of a clause is no higher than it, and its conditions lend at most six, one inside the other, if it is at most 8 high
-residual-height : (a : ℕ) (D : Clause) → heightᴳ (residual a D) ≤ heightᴰ D
+residual-height : (fits : Fits) (a : ℕ) (D : Clause) → heightᴳ (residual fits a D) ≤ heightᴰ D
 unfolding residual heightᴳ heightᴰ
-residual-height a (atomᴰ b) = omega (arith, matched-height (fits b a))
-residual-height a topᴰ = omega arith
-residual-height a (lolliᴰ G D) = let d = residual-height a D in omega arith
+residual-height fits a (atomᴰ b) = omega (arith, matched-height (fits b a))
+residual-height fits a topᴰ = omega arith
+residual-height fits a (lolliᴰ G D) = let d = residual-height fits a D in omega arith
 
-residual-lends : (a : ℕ) (D : Clause) → heightᴰ D ≤ 8 → lends (residual a D) ≤ 6
+residual-lends : (fits : Fits) (a : ℕ) (D : Clause) → heightᴰ D ≤ 8 → lends (residual fits a D) ≤ 6
 unfolding residual lends heightᴰ
-residual-lends a (atomᴰ b) h = omega (arith, matched-lends (fits b a))
-residual-lends a topᴰ h = omega arith
-residual-lends a (lolliᴰ G D) h = let d = residual-lends a D (omega arith) in let g = lends-fewer G in omega arith
+residual-lends fits a (atomᴰ b) h = omega (arith, matched-lends (fits b a))
+residual-lends fits a topᴰ h = omega arith
+residual-lends fits a (lolliᴰ G D) h = let d = residual-lends fits a D (omega arith) in let g = lends-fewer G in omega arith
 
 below-none : {m : ℕ} → Below m []
 unfolding stands
@@ -92,22 +91,24 @@ below-parts {m} {l} {k} b c =
 -- THEOREM. With clauses at most 8 high, the steps of a derivation are below what stands in scope, the lends of its goal, and six for each
 -- nesting.
 pub steps-below : (m : ℕ) {es : Scope} {I : Items} {G : Goal} → Low es → heightᴳ G ≤ 8 → (d : Derives es I G)
-    → length es + lends G + 6 * nesting d ≤ m → Below m (steps d)
-unfolding steps nesting heightᴳ lends
+    → size es + lends G + 6 * nesting d ≤ m → Below m (steps d)
+unfolding steps nesting heightᴳ lends residualAt
 steps-below m l h (res-1 n) b = below-none
 steps-below m l h res-⊤ b = below-none
 steps-below m l h (res-⊗ s c d) b =
     below-parts (steps-below m l (omega arith) c (omega arith)) (steps-below m l (omega arith) d (omega arith))
 steps-below m l h (res-& c d) b =
     below-parts (steps-below m l (omega arith) c (omega arith)) (steps-below m l (omega arith) d (omega arith))
-steps-below m l h (res-⊸ {es} {D} f d) b = steps-below m (low-lend D l (omega arith)) (omega arith) d (omega (arith, lend-length es D))
+steps-below m l h (res-⊸ {es} {D} f d) b = steps-below m (low-lend D l (omega arith)) (omega arith) d (omega (arith, lend-size es D))
 steps-below m {es} l h (res-atm-int {a} e n d) b =
     let in-it = in-scope a e d in
     let low = l .low e in-it in
     below-cons (omega arith)
-    (steps-below m l (omega (arith, residual-height a (clauseAt es e))) d (omega (arith, residual-lends a (clauseAt es e) low)))
+    (steps-below m l (omega (arith, residual-height (es .fits) a (clauseAt es e))) d
+    (omega (arith, residual-lends (es .fits) a (clauseAt es e) low)))
 steps-below m {es} l h (res-atm-lin {a} e n i d) b =
     let in-it = in-scope a e d in
     let low = l .low e in-it in
     below-cons (omega arith)
-    (steps-below m l (omega (arith, residual-height a (clauseAt es e))) d (omega (arith, residual-lends a (clauseAt es e) low)))
+    (steps-below m l (omega (arith, residual-height (es .fits) a (clauseAt es e))) d
+    (omega (arith, residual-lends (es .fits) a (clauseAt es e) low)))

@@ -1,8 +1,6 @@
--- Formulas: the seven kinds of 01 as goals and clauses, a clause's head, and residuation (000, Figure 1, top).
-use Prim.Native.Nat.{ℕ, zero, suc}
+-- Formulas: the seven kinds of 01 as goals and clauses, residuation (000, Figure 1, top), and which clauses can be used for a name.
+use Prim.Native.Nat.{ℕ}
 use mathlib.Core.Bool.{Bool, true, false}
-use mathlib.Core.Option.{Option, none, some}
-use lib.Dec.{eqb}
 
 mutual
   -- "reads as goal": G of 000. `zeroᴳ` (0) stands on no card: it is what is left of a clause that cannot be used.
@@ -21,21 +19,9 @@ mutual
     topᴰ : Clause  -- 01: rest, ⊤
     lolliᴰ : Goal → Clause → Clause  -- 01: recipe, G ⊸ D
 
--- Every match of a head and a wanted name goes by this one test.
-unfoldable pub fits : ℕ → ℕ → Bool
-fits head wanted = eqb head wanted
-
--- "A clause's head is found by following the right parts of recipes. Where it ends in rest there is no head".
-unfoldable pub head : Clause → Option ℕ
-head (atomᴰ b) = some b
-head topᴰ = none
-head (lolliᴰ G D) = head D
-
--- How many conditions a clause has.
-unfoldable pub conditions : Clause → ℕ
-conditions (atomᴰ b) = zero
-conditions topᴰ = zero
-conditions (lolliᴰ G D) = suc (conditions D)
+-- A test of a clause's head and a wanted name. Each scope carries the one by which its entries are used.
+abbrev pub Fits : Type 0
+Fits = ℕ → ℕ → Bool
 
 -- dec-atm: the equation of head and wanted name, which is 1 where they fit and 0 where not.
 unfoldable pub matched : Bool → Goal
@@ -43,7 +29,13 @@ matched true = oneᴳ
 matched false = zeroᴳ
 
 -- D ≫ a \ G (000, Figure 1): dec-atm, dec-⊤, dec-⊸. "The condition nearest the head is met first".
-unfoldable pub residual : ℕ → Clause → Goal
-residual a (atomᴰ b) = matched (fits b a)
-residual a topᴰ = zeroᴳ
-residual a (lolliᴰ G D) = tensor (residual a D) G
+unfoldable pub residual : Fits → ℕ → Clause → Goal
+residual fits a (atomᴰ b) = matched (fits b a)
+residual fits a topᴰ = zeroᴳ
+residual fits a (lolliᴰ G D) = tensor (residual fits a D) G
+
+-- "A clause's head is found by following the right parts of recipes. Where it ends in rest there is no head": some head fits the name.
+unfoldable pub usable : Fits → ℕ → Clause → Bool
+usable fits a (atomᴰ b) = fits b a
+usable fits a topᴰ = false
+usable fits a (lolliᴰ G D) = usable fits a D

@@ -1,5 +1,6 @@
 -- What no public contract mentions: the terms of inner contracts and of theorems on the way to the demands.
 pub mod Summary
 pub mod Window
+pub mod Trace
 pub mod Renaming
 pub mod Height

@@ -1,13 +1,13 @@
 -- What is read off a derivation: its step list, its nesting, its needs with their places; and the order of lists.
-use Prim.Native.Nat.{ℕ, zero, suc, pred, max, _<_}
+use Prim.Native.Nat.{ℕ, zero, suc, max, _<_}
 use mathlib.Core.Path.{_≡_}
 use mathlib.Core.Logic.{_↔_}
 use mathlib.Core.Bool.{Bool, false, _||_}
 use mathlib.Core.List.{List, [], _∷_, _++_, map, List·Memᴰ}
 use lib.Dec.{eqb}
-use Rattle.calculus.specs.Formula.{Goal, conditions}
+use Rattle.calculus.specs.Formula.{Goal}
 use Rattle.calculus.specs.Items.{Items}
-use Rattle.calculus.specs.Derivation.{Scope, Derives, clauseAt, res-1, res-⊤, res-⊗, res-&, res-⊸, res-atm-int, res-atm-lin}
+use Rattle.calculus.specs.Derivation.{Scope, Derives, res-1, res-⊤, res-⊗, res-&, res-⊸, res-atm-int, res-atm-lin}
 
 -- "The step list writes the entry used at each name, in walking order: left part before right, a clause's use before its conditions."
 unfoldable pub steps : {es : Scope} {I : Items} {G : Goal} → Derives es I G → List ℕ
@@ -47,33 +47,39 @@ pub record Need : Type 0 where
 unfoldable pub under : List Turn → List Need → List Need
 under p = map (λ n. record { place = p ++ n .place; entry = n .entry })
 
--- Where a walk stands: at a goal of the card, or at the residual of a clause with so many conditions still to be walked. A residual
--- ((1 ⊗ G₀) ⊗ G₁) ⊗ G₂ is a row of conditions, counted from the head, and its ⊗ are no part of a place.
+-- Where a walk stands: at a goal of the card, or in the residual of a clause in use. A residual ((1 ⊗ G₀) ⊗ G₁) ⊗ G₂ is a row of
+-- conditions, counted from the head, and its ⊗ are no part of a place.
 pub data Mode : Type 0 where
-  plain : Mode
-  row : ℕ → Mode
+  plain row : Mode
 
-unfoldable pub mode-left : Mode → Mode
-mode-left plain = plain
-mode-left (row n) = row (pred n)
+-- how many conditions a derivation of a row meets: one at each ⊗ down its left parts
+unfoldable pub rowed : {es : Scope} {I : Items} {G : Goal} → Derives es I G → ℕ
+rowed (res-1 n) = zero
+rowed res-⊤ = zero
+rowed (res-⊗ s l r) = suc (rowed l)
+rowed (res-& l r) = zero
+rowed (res-⊸ f d) = zero
+rowed (res-atm-int e n d) = zero
+rowed (res-atm-lin e n h d) = zero
 
 unfoldable pub turn-left : Mode → List Turn
 turn-left plain = left ∷ []
-turn-left (row n) = []
+turn-left row = []
 
-unfoldable pub turn-right : Mode → List Turn
-turn-right plain = right ∷ []
-turn-right (row n) = condition (pred n) ∷ []
+-- in a row, the right part is the condition behind those that the left part meets
+unfoldable pub turn-right : Mode → ℕ → List Turn
+turn-right plain n = right ∷ []
+turn-right row n = condition n ∷ []
 
 -- the needs in walking order, with their places
 unfoldable pub needs : {es : Scope} {I : Items} {G : Goal} → Mode → Derives es I G → List Need
 needs m (res-1 n) = []
 needs m res-⊤ = []
-needs m (res-⊗ s l r) = under (turn-left m) (needs (mode-left m) l) ++ under (turn-right m) (needs plain r)
+needs m (res-⊗ s l r) = under (turn-left m) (needs m l) ++ under (turn-right m (rowed l)) (needs plain r)
 needs m (res-& l r) = under (left ∷ []) (needs plain l) ++ under (right ∷ []) (needs plain r)
 needs m (res-⊸ f d) = under (into ∷ []) (needs plain d)
-needs m (res-atm-int {es} e n d) = record { place = []; entry = e } ∷ needs (row (conditions (clauseAt es e))) d
-needs m (res-atm-lin {es} e n h d) = record { place = []; entry = e } ∷ needs (row (conditions (clauseAt es e))) d
+needs m (res-atm-int e n d) = record { place = []; entry = e } ∷ needs row d
+needs m (res-atm-lin e n h d) = record { place = []; entry = e } ∷ needs row d
 
 -- the derivation has a need at this place, and this entry serves it
 unfoldable pub Serves : {es : Scope} {I : Items} {G : Goal} → Derives es I G → List Turn → ℕ → Type 0

@@ -2,6 +2,7 @@
 pub mod FaultsInOrder
 pub mod FrontChecked
 pub mod TablesGrow
+pub mod KindsByRow
 pub mod NodesChecked
 pub mod CardChecked
 pub mod NodesDecoded

@@ -11,13 +11,14 @@ use lib.Dec.{leb, ltb, eqb}
 use borrow.Author.Tests.{leb-true, ltb-true}
 use Rattle.calculus.specs.Formula.{atomᴳ, topᴳ, oneᴳ, tensor, with, lolliᴳ, atomᴰ, topᴰ, lolliᴰ}
 use Rattle.calculus.specs.Items.{_∪_}
-use Rattle.calculus.specs.Derivation.{noEntry}
+use Rattle.calculus.specs.Derivation.{noEntry, size, entryAt}
 use Rattle.calculus.specs.Job.{Listed}
 use Rattle.calculus.proofs.SetLaws.{∪-cases}
 use Rattle.calculus.specs.Inner.Summary.{Bounded}
 use Rattle.card.specs.Format.{ruleCount, lineCount, kindAt, leftAt, rightAt, lineByte, listing, grow, stepLimit}
-use Rattle.card.specs.Decode.{NodeReading, noNodeReading, asGoal, asClause, readStep, readAt}
-use Rattle.card.specs.Decode.{goalAt, clauseOf, ruleEntry, lineEntry, linesWith, jobOf}
+use Rattle.card.specs.Kinds.{kinds, kindOf}
+use Rattle.card.specs.Decode.{NodeReading, noNodeReading, held, readBy, readStep, readAt}
+use Rattle.card.specs.Decode.{goalAt, clauseOf, ruleEntry, lineEntry, linesWith, scopeOf, jobOf}
 use Rattle.card.proofs.FrontChecked.{both-left, both-right}
 use Rattle.card.proofs.TablesGrow.{grow-at, length-listing, listing-at}
 
@@ -35,32 +36,32 @@ module _ (bs : List ℕ) (i : ℕ) where
     abbrev part-right : NodeReading
     part-right = getD t (rightAt bs i) noNodeReading
 
-    step-name : kindAt bs i ≡ 1 → readStep bs t i ≡ record { goal = atomᴳ (leftAt bs i); clause = atomᴰ (leftAt bs i) }
-    unfolding readStep
-    step-name h = rw h refl
+    step-name : kindAt bs i ≡ 1 → (readStep bs t i .goal ≡ atomᴳ (leftAt bs i)) × (readStep bs t i .clause ≡ atomᴰ (leftAt bs i))
+    unfolding readStep readBy held kindOf kinds
+    step-name h = rw h (refl, refl)
 
-    step-rest : kindAt bs i ≡ 2 → readStep bs t i ≡ record { goal = topᴳ; clause = topᴰ }
-    unfolding readStep
-    step-rest h = rw h refl
+    step-rest : kindAt bs i ≡ 2 → (readStep bs t i .goal ≡ topᴳ) × (readStep bs t i .clause ≡ topᴰ)
+    unfolding readStep readBy held kindOf kinds
+    step-rest h = rw h (refl, refl)
 
-    step-done : kindAt bs i ≡ 3 → readStep bs t i ≡ asGoal oneᴳ
-    unfolding readStep
+    step-done : kindAt bs i ≡ 3 → readStep bs t i .goal ≡ oneᴳ
+    unfolding readStep readBy held kindOf kinds
     step-done h = rw h refl
 
-    step-both : kindAt bs i ≡ 4 → readStep bs t i ≡ asGoal (tensor (part-left .goal) (part-right .goal))
-    unfolding readStep
+    step-both : kindAt bs i ≡ 4 → readStep bs t i .goal ≡ tensor (part-left .goal) (part-right .goal)
+    unfolding readStep readBy held kindOf kinds
     step-both h = rw h refl
 
-    step-either : kindAt bs i ≡ 5 → readStep bs t i ≡ asGoal (with (part-left .goal) (part-right .goal))
-    unfolding readStep
+    step-either : kindAt bs i ≡ 5 → readStep bs t i .goal ≡ with (part-left .goal) (part-right .goal)
+    unfolding readStep readBy held kindOf kinds
     step-either h = rw h refl
 
-    step-lend : kindAt bs i ≡ 6 → readStep bs t i ≡ asGoal (lolliᴳ (part-left .clause) (part-right .goal))
-    unfolding readStep
+    step-lend : kindAt bs i ≡ 6 → readStep bs t i .goal ≡ lolliᴳ (part-left .clause) (part-right .goal)
+    unfolding readStep readBy held kindOf kinds
     step-lend h = rw h refl
 
-    step-recipe : kindAt bs i ≡ 7 → readStep bs t i ≡ asClause (lolliᴰ (part-left .goal) (part-right .clause))
-    unfolding readStep
+    step-recipe : kindAt bs i ≡ 7 → readStep bs t i .clause ≡ lolliᴰ (part-left .goal) (part-right .clause)
+    unfolding readStep readBy held kindOf kinds
     step-recipe h = rw h refl
 
   before : List NodeReading
@@ -68,58 +69,58 @@ module _ (bs : List ℕ) (i : ℕ) where
 
   pub reads-name : kindAt bs i ≡ 1 → (goalAt bs i ≡ atomᴳ (leftAt bs i)) × (clauseOf bs i ≡ atomᴰ (leftAt bs i))
   unfolding goalAt clauseOf readAt before
-  reads-name h = (ap (λ x. x .goal) (step-name before h), ap (λ x. x .clause) (step-name before h))
+  reads-name h = step-name before h
 
   pub reads-rest : kindAt bs i ≡ 2 → (goalAt bs i ≡ topᴳ) × (clauseOf bs i ≡ topᴰ)
   unfolding goalAt clauseOf readAt before
-  reads-rest h = (ap (λ x. x .goal) (step-rest before h), ap (λ x. x .clause) (step-rest before h))
+  reads-rest h = step-rest before h
 
   pub reads-done : kindAt bs i ≡ 3 → goalAt bs i ≡ oneᴳ
   unfolding goalAt readAt before
-  reads-done h = ap (λ x. x .goal) (step-done before h)
+  reads-done h = step-done before h
 
   module _ (l : leftAt bs i < i) (r : rightAt bs i < i) where
     pub reads-both : kindAt bs i ≡ 4 → goalAt bs i ≡ tensor (goalAt bs (leftAt bs i)) (goalAt bs (rightAt bs i))
     unfolding goalAt readAt before
     reads-both h =
-        ap (λ x. x .goal) (step-both before h)
+        step-both before h
         ∙ ap₂ (λ p q. tensor (p .goal) (q .goal)) (part-reads (leftAt bs i) l) (part-reads (rightAt bs i) r)
 
     pub reads-either : kindAt bs i ≡ 5 → goalAt bs i ≡ with (goalAt bs (leftAt bs i)) (goalAt bs (rightAt bs i))
     unfolding goalAt readAt before
     reads-either h =
-        ap (λ x. x .goal) (step-either before h)
+        step-either before h
         ∙ ap₂ (λ p q. with (p .goal) (q .goal)) (part-reads (leftAt bs i) l) (part-reads (rightAt bs i) r)
 
     pub reads-lend : kindAt bs i ≡ 6 → goalAt bs i ≡ lolliᴳ (clauseOf bs (leftAt bs i)) (goalAt bs (rightAt bs i))
     unfolding goalAt clauseOf readAt before
     reads-lend h =
-        ap (λ x. x .goal) (step-lend before h)
+        step-lend before h
         ∙ ap₂ (λ p q. lolliᴳ (p .clause) (q .goal)) (part-reads (leftAt bs i) l) (part-reads (rightAt bs i) r)
 
     pub reads-recipe : kindAt bs i ≡ 7 → clauseOf bs i ≡ lolliᴰ (goalAt bs (leftAt bs i)) (clauseOf bs (rightAt bs i))
     unfolding goalAt clauseOf readAt before
     reads-recipe h =
-        ap (λ x. x .clause) (step-recipe before h)
+        step-recipe before h
         ∙ ap₂ (λ p q. lolliᴰ (p .goal) (q .clause)) (part-reads (leftAt bs i) l) (part-reads (rightAt bs i) r)
 
 -- "rules from 0, lines from P"
 module _ (bs : List ℕ) where
-  pub scope-length : length (jobOf bs .scope) ≡ ruleCount bs + lineCount bs
-  unfolding jobOf
-  scope-length =
+  pub scope-size : size (jobOf bs .scope) ≡ ruleCount bs + lineCount bs
+  unfolding jobOf scopeOf size
+  scope-size =
       length-append (listing (ruleCount bs) (ruleEntry bs)) (listing (lineCount bs) (lineEntry bs))
       ∙ ap₂ _+_ (length-listing (ruleEntry bs) (ruleCount bs)) (length-listing (lineEntry bs) (lineCount bs))
 
-  pub rule-at : (i : ℕ) → i < ruleCount bs → getD (jobOf bs .scope) i noEntry ≡ ruleEntry bs i
-  unfolding jobOf
+  pub rule-at : (i : ℕ) → i < ruleCount bs → entryAt (jobOf bs .scope) i ≡ ruleEntry bs i
+  unfolding jobOf scopeOf entryAt
   rule-at i h =
       List·getD-append (listing (ruleCount bs) (ruleEntry bs)) (listing (lineCount bs) (lineEntry bs)) noEntry i
       (rw (length-listing (ruleEntry bs) (ruleCount bs)) h)
       ∙ listing-at (ruleEntry bs) (ruleCount bs) i noEntry h
 
-  pub line-at : (i : ℕ) → i < lineCount bs → getD (jobOf bs .scope) (ruleCount bs + i) noEntry ≡ lineEntry bs i
-  unfolding jobOf
+  pub line-at : (i : ℕ) → i < lineCount bs → entryAt (jobOf bs .scope) (ruleCount bs + i) ≡ lineEntry bs i
+  unfolding jobOf scopeOf entryAt
   line-at i h =
       ap (λ n. getD (listing (ruleCount bs) (ruleEntry bs) ++ listing (lineCount bs) (lineEntry bs)) (n + i) noEntry)
       (sym (length-listing (ruleEntry bs) (ruleCount bs)))
@@ -140,8 +141,8 @@ module _ (bs : List ℕ) where
   lines-bounded = record { bounded = λ e h. ⊎-elim (λ p. lower 1 e p) (λ p. lower 0 e p) (∪-cases (linesWith bs 1) (linesWith bs 0) e h) }
     where
       lower : (b e : ℕ) → linesWith bs b e ≡ true
-          → e < length (listing (ruleCount bs) (ruleEntry bs) ++ listing (lineCount bs) (lineEntry bs))
-      lower b e p = let w = line-within b e p in let n = scope-length in omega (arith, w .1)
+          → e < size (scopeOf bs)
+      lower b e p = let w = line-within b e p in let n = scope-size in omega (arith, w .1)
 
 -- "no more than s steps"
 pub listed-short : (bs l : List ℕ) → Listed (jobOf bs) l → length l ≤ stepLimit bs

@@ -13,15 +13,17 @@ use Rattle.calculus.specs.Formula.{atomᴳ, oneᴳ, atomᴰ, lolliᴰ}
 use Rattle.card.specs.Format.{listing, grow}
 use Rattle.card.specs.Verdict.{Verdict, refuse, _▹_, firstOf}
 use Rattle.card.specs.Fault.{Sound, firstFault, frontFault, nodeFault, goalFault, ruleFault, lineFault}
-use Rattle.card.specs.Fault.{inRange, isGoal, isClause, goalPart, clausePart, wellBuilt, heightStep, heightAt, lineGood}
-use Rattle.card.specs.Decode.{goalAt, clauseOf, readAt, readStep, linesWith, jobOf}
+use Rattle.card.specs.Kinds.{kinds, kindOf}
+use Rattle.card.specs.Fault.{inRange, given, isGoal, isClause, goalPart, clausePart, fitsField, wellBuilt, partHeight, heightStep}
+use Rattle.card.specs.Fault.{heightAt, lineGood}
+use Rattle.card.specs.Decode.{goalAt, clauseOf, held, readBy, readAt, readStep, linesWith, jobOf}
 use Rattle.card.specs.Sheet.{sheetOf, word, marksOf, markOf}
 use Rattle.card.specs.Sample.{sample, sampleSheet, least, leftOver}
 
 -- the whole check; to unfold this is to unfold all of it
 run : List ℕ → Verdict
-unfolding firstFault frontFault inRange isGoal isClause goalPart clausePart wellBuilt heightStep heightAt
-    nodeFault goalFault ruleFault lineFault lineGood refuse _▹_ firstOf grow
+unfolding firstFault frontFault inRange kinds kindOf given isGoal isClause goalPart clausePart fitsField wellBuilt partHeight heightStep
+    heightAt nodeFault goalFault ruleFault lineFault lineGood refuse _▹_ firstOf grow
 run = firstFault
 
 -- 01's sample card
@@ -30,11 +32,11 @@ unfolding run
 sample-sound = record { faultless = refl }
 
 sample-goal : goalAt sample 1 ≡ atomᴳ 20
-unfolding goalAt readAt readStep grow
+unfolding goalAt readAt readStep readBy held kinds kindOf grow
 sample-goal = refl
 
 sample-recipe : clauseOf sample 2 ≡ lolliᴰ (atomᴳ 10) (atomᴰ 20)
-unfolding clauseOf readAt readStep grow
+unfolding clauseOf readAt readStep readBy held kinds kindOf grow
 sample-recipe = refl
 
 sample-sheet : sheetOf sample (1 ∷ 0 ∷ []) ≡ sampleSheet
@@ -51,7 +53,7 @@ unfolding linesWith
 no-lines i = simp (le-leb 0 i zero-le, le-ltb i 0 zero-le)
 
 least-listed : Listed (jobOf least) []
-unfolding jobOf goalAt readAt readStep grow steps nesting ∅
+unfolding jobOf goalAt readAt readStep readBy held kinds kindOf grow steps nesting ∅
 least-listed = record {
   derivation = record {
     items = ∅;
@@ -72,7 +74,7 @@ from-none : {es : Scope} {I : Items} → Derives es I oneᴳ → Empty I
 from-none (res-1 e) = e
 
 left-over-not-listed : (l : List ℕ) → Listed (jobOf leftOver) l → ⊥
-unfolding jobOf goalAt readAt readStep grow linesWith
+unfolding jobOf goalAt readAt readStep readBy held kinds kindOf grow linesWith
 left-over-not-listed l x =
     let e = from-none (x .derivation .tree) .vacant 0 in
     let t = x .derivation .all-strict .kept 0 refl in

@@ -1,32 +1,28 @@
 -- Laws of a sound card's nodes: what a node's kind says of its parts, its height and its readings.
 use Prim.Native.Nat.{ℕ, _+_, _*_, _<_, _≤_, max}
 use native.Mathlib.Omega.{arith}
-use mathlib.Core.Path.{_≡_, refl, sym, _∙_, ap, ap₂}
-use mathlib.Core.Logic.{_⊎_, inl, inr, ⊎-elim}
-use mathlib.Core.Bool.{Bool, true, false, cond, _&&_, _||_}
-use mathlib.Core.Option.{none, some}
+use mathlib.Core.Path.{_≡_, sym, _∙_, ap, ap₂}
+use mathlib.Core.Logic.{_⊎_}
+use mathlib.Core.Bool.{Bool, true, false, _&&_}
 use mathlib.Core.List.{List}
 use lib.ListN.{length}
 use lib.Dec.{leb, ltb, eqb}
-use borrow.Author.Tests.{lt-ltb, lt-leb, ltb-true, leb-true, eqb-true, not-false}
-use Rattle.calculus.specs.Formula.{tensor, with, lolliᴳ, lolliᴰ, head}
+use borrow.Author.Tests.{lt-ltb, ltb-true, leb-true, not-false}
+use Rattle.calculus.specs.Formula.{Fits, tensor, with, lolliᴳ, lolliᴰ, usable}
 use Rattle.card.specs.Format.{nodeCount, ruleCount, lineCount, goalNode, kindAt, leftAt, rightAt, ruleStart, ruleNode, lineStart}
-use Rattle.card.specs.Format.{lineNode, lineByte}
+use Rattle.card.specs.Format.{lineNode, lineByte, grow}
 use Rattle.card.specs.Fault.{Sound, isGoal, isClause, goalPart, clausePart, wellBuilt, heightStep, heightAt, nodeFault, goalFault}
 use Rattle.card.specs.Fault.{ruleFault, lineGood, lineFault}
 use Rattle.card.specs.Decode.{goalAt, clauseOf}
 use Rattle.card.proofs.FrontChecked.{both-left, both-right}
 use Rattle.card.proofs.FaultsInOrder.{not-applied}
 use Rattle.card.proofs.TablesGrow.{grow-at}
+use Rattle.card.proofs.KindsByRow.{goal-kinds, clause-kinds}
 use Rattle.card.proofs.CardChecked.{sound-front, sound-node, sound-goal, sound-rule, sound-line}
-use Rattle.card.proofs.NodesChecked.{parts-lower, built-1, built-4, built-5, built-6, built-7}
+use Rattle.card.proofs.NodesChecked.{parts-lower, height-two, built-1, built-4, built-5, built-6, built-7}
 use Rattle.card.proofs.NodesDecoded.{reads-name, reads-rest, reads-both, reads-either, reads-lend, reads-recipe}
 
 -- Parts
-
-or-cases : (a b : Bool) → (a || b) ≡ true → (a ≡ true) ⊎ (b ≡ true)
-or-cases true b e = inl refl
-or-cases false b e = inr e
 
 module _ (bs : List ℕ) (n i : ℕ) where
   -- a part that reads as a goal: it is lower, and of a goal's kinds
@@ -35,12 +31,8 @@ module _ (bs : List ℕ) (n i : ℕ) where
   goal-lower e = ltb-true _ _ (both-left (ltb i n) (isGoal (kindAt bs i)) e)
 
   pub goal-kind : goalPart bs n i ≡ true → (1 ≤ kindAt bs i) × (kindAt bs i ≤ 6)
-  unfolding goalPart isGoal
-  goal-kind e =
-      let a = leb 1 (kindAt bs i) in
-      let b = leb (kindAt bs i) 6 in
-      let k = both-right (ltb i n) (a && b) e in
-      (leb-true _ _ (both-left a b k), leb-true _ _ (both-right a b k))
+  unfolding goalPart
+  goal-kind e = goal-kinds (kindAt bs i) (both-right (ltb i n) (isGoal (kindAt bs i)) e)
 
   -- a part that reads as a clause: it is lower, and of a clause's kinds
   pub clause-lower : clausePart bs n i ≡ true → i < n
@@ -48,12 +40,8 @@ module _ (bs : List ℕ) (n i : ℕ) where
   clause-lower e = ltb-true _ _ (both-left (ltb i n) (isClause (kindAt bs i)) e)
 
   pub clause-kind : clausePart bs n i ≡ true → (kindAt bs i ≡ 1) ⊎ ((kindAt bs i ≡ 2) ⊎ (kindAt bs i ≡ 7))
-  unfolding clausePart isClause
-  clause-kind e =
-      let k = kindAt bs i in
-      ⊎-elim (λ h. inl (eqb-true k 1 h))
-      (λ h. inr (⊎-elim (λ g. inl (eqb-true k 2 g)) (λ g. inr (eqb-true k 7 g)) (or-cases (eqb k 2) (eqb k 7) h)))
-      (or-cases (eqb k 1) (eqb k 2 || eqb k 7) (both-right (ltb i n) (isClause k) e))
+  unfolding clausePart
+  clause-kind e = clause-kinds (kindAt bs i) (both-right (ltb i n) (isClause (kindAt bs i)) e)
 
   -- and the same of every higher node
   pub goal-above : (m : ℕ) → n ≤ m → goalPart bs n i ≡ true → goalPart bs m i ≡ true
@@ -93,19 +81,16 @@ module _ {bs : List ℕ} (s : Sound bs) where
 module _ (bs : List ℕ) (i : ℕ) where
   pub height-pos : 1 ≤ heightAt bs i
   unfolding heightAt heightStep
-  height-pos = by-test (leb (kindAt bs i) 3) _
-    where
-      by-test : (b : Bool) (n : ℕ) → 1 ≤ cond b 1 (n + 1)
-      by-test true n = omega arith
-      by-test false n = omega arith
+  height-pos = omega arith
 
-  -- the height of a node whose parts are lower
-  height-of-parts : leftAt bs i < i → rightAt bs i < i → 3 < kindAt bs i
+  -- the height of a well built node with two parts
+  height-of-parts : wellBuilt bs i ≡ true → 3 < kindAt bs i
       → heightAt bs i ≡ max (heightAt bs (leftAt bs i)) (heightAt bs (rightAt bs i)) + 1
-  unfolding heightAt heightStep
-  height-of-parts l r k =
-      rw (lt-leb (kindAt bs i) 3 k)
-      (ap₂ (λ a b. max a b + 1) (grow-at (heightStep bs) i (leftAt bs i) 0 l) (grow-at (heightStep bs) i (rightAt bs i) 0 r))
+  unfolding heightAt
+  height-of-parts e k =
+      let p = parts-lower bs i e k in
+      height-two bs i e k (grow (heightStep bs) i)
+      ∙ ap₂ (λ a b. max a b + 1) (grow-at (heightStep bs) i (leftAt bs i) 0 (p .0)) (grow-at (heightStep bs) i (rightAt bs i) 0 (p .1))
 
 -- A node of a sound card
 
@@ -132,8 +117,7 @@ module _ {bs : List ℕ} (s : Sound bs) (i : ℕ) (h : i < nodeCount bs) where
 
   pub height-parts : 3 < kindAt bs i → (heightAt bs (leftAt bs i) < heightAt bs i) × (heightAt bs (rightAt bs i) < heightAt bs i)
   height-parts k =
-      let p = parts-below k in
-      let e = height-of-parts bs i (p .0) (p .1) k in
+      let e = height-of-parts bs i sound-built k in
       (omega arith, omega arith)
 
   -- what each kind asks of its fields
@@ -165,16 +149,16 @@ module _ {bs : List ℕ} (s : Sound bs) (i : ℕ) (h : i < nodeCount bs) where
   pub sound-recipe : kindAt bs i ≡ 7 → clauseOf bs i ≡ lolliᴰ (goalAt bs (leftAt bs i)) (clauseOf bs (rightAt bs i))
   sound-recipe k = let p = parts-below (omega arith) in reads-recipe bs i (p .0) (p .1) k
 
-  -- the head of the clause at the node
-  pub head-recipe : kindAt bs i ≡ 7 → head (clauseOf bs i) ≡ head (clauseOf bs (rightAt bs i))
-  unfolding head
-  head-recipe k = ap head (sound-recipe k)
+  -- which names the clause at the node can be used for
+  pub usable-recipe : kindAt bs i ≡ 7 → (fits : Fits) (a : ℕ) → usable fits a (clauseOf bs i) ≡ usable fits a (clauseOf bs (rightAt bs i))
+  unfolding usable
+  usable-recipe k fits a = ap (usable fits a) (sound-recipe k)
 
 module _ (bs : List ℕ) (i : ℕ) where
-  pub head-name : kindAt bs i ≡ 1 → head (clauseOf bs i) ≡ some (leftAt bs i)
-  unfolding head
-  head-name k = ap head (reads-name bs i k .1)
+  pub usable-name : kindAt bs i ≡ 1 → (fits : Fits) (a : ℕ) → usable fits a (clauseOf bs i) ≡ fits (leftAt bs i) a
+  unfolding usable
+  usable-name k fits a = ap (usable fits a) (reads-name bs i k .1)
 
-  pub head-rest : kindAt bs i ≡ 2 → head (clauseOf bs i) ≡ none
-  unfolding head
-  head-rest k = ap head (reads-rest bs i k .1)
+  pub usable-rest : kindAt bs i ≡ 2 → (fits : Fits) (a : ℕ) → usable fits a (clauseOf bs i) ≡ false
+  unfolding usable
+  usable-rest k fits a = ap (usable fits a) (reads-rest bs i k .1)

@@ -3,26 +3,30 @@ use Prim.Native.Nat.{ℕ, zero, suc, _+_, _-_, _≤_, _<_, max}
 use native.Mathlib.Omega.{arith}
 use native.Mathlib.Nat.{eq-or-lt-of-le}
 use native.Mathlib.Decide.{decLt}
-use mathlib.Core.Path.{_≡_, sym, ap, _∙_, subst}
+use mathlib.Core.Path.{_≡_, ap, _∙_}
 use mathlib.Core.Logic.{⊎-elim}
-use mathlib.Core.Bool.{Bool, true, false, cond}
-use mathlib.Core.List.{List}
-use lib.ListN.{length, getD}
-use lib.Dec.{eqb}
-use borrow.Author.Tests.{ne-eqb}
-use Rattle.calculus.specs.Derivation.{Entry, clauseAt, noEntry}
+use mathlib.Core.Bool.{true}
+use mathlib.Core.List.{List, [], _∷_}
+use lib.ListN.{getD}
+use Rattle.calculus.specs.Derivation.{Entry, size, entryAt, clauseAt}
 use Rattle.calculus.specs.Steps.{steps, stands}
 use Rattle.calculus.specs.Job.{Derivable}
 use Rattle.calculus.specs.Inner.Height.{heightᴳ, heightᴰ, Low}
 use Rattle.calculus.proofs.StepsBounded.{lends-fewer, steps-below}
 use Rattle.card.specs.Format.{nodeCount, ruleCount, lineCount, goalNode, kindAt, leftAt, rightAt, ruleNode, lineNode}
 use Rattle.card.specs.Format.{grow}
-use Rattle.card.specs.Fault.{Sound, heightAt}
+use Rattle.card.specs.declared.kinds.Field.{Field}
+use Rattle.card.specs.declared.kinds.Field.the-variants.{Unused, Name, GoalPart, ClausePart, Unknown}
+use Rattle.card.specs.Kinds.{Held, Kind, unknown, kinds, kindOf}
+use Rattle.card.specs.Fault.{Sound, partHeight, heightStep, heightAt}
+use Rattle.card.specs.Inner.Checks.{PartBelow}
+use Rattle.card.specs.Decode.{held, readBy}
 use Rattle.card.specs.Decode.{NodeReading, noNodeReading, readStep, readAt, goalAt, clauseOf, ruleEntry, lineEntry, jobOf}
 use Rattle.card.proofs.CardChecked.{sound-front}
 use Rattle.card.proofs.TablesGrow.{grow-at}
-use Rattle.card.proofs.NodesDecoded.{scope-length, rule-at, line-at}
-use Rattle.card.proofs.SoundNodes.{height-low, height-pos, height-parts, parts-below, goal-lower, clause-lower, sound-root}
+use Rattle.card.proofs.NodesDecoded.{scope-size, rule-at, line-at}
+use Rattle.card.proofs.NodesChecked.{left-below, right-below}
+use Rattle.card.proofs.SoundNodes.{height-low, sound-built, goal-lower, clause-lower, sound-root}
 use Rattle.card.proofs.SoundNodes.{sound-rule-node, sound-line-node}
 
 -- a node's readings are at most n high
@@ -30,44 +34,51 @@ record AtMost (n : ℕ) (x : NodeReading) : Type 0 where
   goal : heightᴳ (x .goal) ≤ n
   clause : heightᴰ (x .clause) ≤ n
 
-at-cond : {n : ℕ} {x y : NodeReading} (b : Bool) → AtMost n x → AtMost n y → AtMost n (cond b x y)
-at-cond true p q = p
-at-cond false p q = q
+-- how high what a field gives is
+high : (f : Field) → Held f → ℕ
+high Unused u = 0
+high Name n = 0
+high GoalPart G = heightᴳ G
+high ClausePart D = heightᴰ D
+high Unknown u = 0
 
-none-high : {n : ℕ} → 1 ≤ n → AtMost n noNodeReading
-unfolding heightᴳ heightᴰ
-none-high h = record { goal = h; clause = h }
+-- what a kind's node reads as is at most 1 higher than what its fields give
+record RowHigh (x : Kind) : Type 0 where
+  at-most : (l : Held (x .left)) (r : Held (x .right))
+      → AtMost (suc (max (high (x .left) l) (high (x .right) r)))
+      (record { goal = readBy (x .goal) (noNodeReading .goal) l r; clause = readBy (x .clause) (noNodeReading .clause) l r })
 
--- what a node reads as is at most 1 higher than its parts, and 1 high where it has none
-read-high : (bs : List ℕ) (t : List NodeReading) (i n : ℕ)
-    → AtMost n (getD t (leftAt bs i) noNodeReading) → AtMost n (getD t (rightAt bs i) noNodeReading) → AtMost (suc n) (readStep bs t i)
-unfolding readStep heightᴳ heightᴰ
-read-high bs t i n p q =
-    let l = p .goal in
-    let m = p .clause in
-    let r = q .goal in
-    let s = q .clause in
-    at-cond (eqb (kindAt bs i) 1) (record { goal = omega arith; clause = omega arith })
-    (at-cond (eqb (kindAt bs i) 2) (record { goal = omega arith; clause = omega arith })
-    (at-cond (eqb (kindAt bs i) 3) (record { goal = omega arith; clause = omega arith })
-    (at-cond (eqb (kindAt bs i) 4) (record { goal = omega arith; clause = omega arith })
-    (at-cond (eqb (kindAt bs i) 5) (record { goal = omega arith; clause = omega arith })
-    (at-cond (eqb (kindAt bs i) 6) (record { goal = omega arith; clause = omega arith })
-    (at-cond (eqb (kindAt bs i) 7) (record { goal = omega arith; clause = omega arith }) (none-high (omega arith))))))))
+-- so it is of every row of the table, and of the unknown kind
+EachHigh : List Kind → Type 0
+EachHigh [] = Unit {0}
+EachHigh (x ∷ xs) = RowHigh x × EachHigh xs
 
-leaf-high : (bs : List ℕ) (t : List NodeReading) (i : ℕ) → kindAt bs i ≤ 3 → AtMost 1 (readStep bs t i)
-unfolding readStep heightᴳ heightᴰ
-leaf-high bs t i h =
-    let one : AtMost 1 noNodeReading = none-high (omega arith) in
-    simp (
-      ne-eqb (kindAt bs i) 4 (λ e. omega arith),
-      ne-eqb (kindAt bs i) 5 (λ e. omega arith),
-      ne-eqb (kindAt bs i) 6 (λ e. omega arith),
-      ne-eqb (kindAt bs i) 7 (λ e. omega arith),
-    )
-    (at-cond (eqb (kindAt bs i) 1) (record { goal = omega arith; clause = omega arith })
-    (at-cond (eqb (kindAt bs i) 2) (record { goal = omega arith; clause = omega arith })
-    (at-cond (eqb (kindAt bs i) 3) (record { goal = omega arith; clause = omega arith }) one)))
+unknown-high : RowHigh unknown
+unfolding readBy heightᴳ heightᴰ
+unknown-high = record { at-most = λ l r. record { goal = omega arith; clause = omega arith } }
+
+at-high : (xs : List Kind) → EachHigh xs → (k : ℕ) → RowHigh (getD xs k unknown)
+unfolding EachHigh
+at-high [] h k = unknown-high
+at-high (x ∷ xs) h zero = h .0
+at-high (x ∷ xs) h (suc k) = at-high xs (h .1) k
+
+infixr 20 _and_
+_and_ : {A B : Type 0} → A → B → A × B
+a and b = (a, b)
+
+each-high : EachHigh kinds
+unfolding EachHigh kinds readBy high heightᴳ heightᴰ _and_
+each-high =
+    unknown-high
+    and record { at-most = λ l r. record { goal = omega arith; clause = omega arith } }
+    and record { at-most = λ l r. record { goal = omega arith; clause = omega arith } }
+    and record { at-most = λ l r. record { goal = omega arith; clause = omega arith } }
+    and record { at-most = λ l r. record { goal = omega arith; clause = omega arith } }
+    and record { at-most = λ l r. record { goal = omega arith; clause = omega arith } }
+    and record { at-most = λ l r. record { goal = omega arith; clause = omega arith } }
+    and record { at-most = λ l r. record { goal = omega arith; clause = omega arith } }
+    and tt
 
 at-more : {n m : ℕ} {x : NodeReading} → AtMost n x → n ≤ m → AtMost m x
 at-more p h = let g = p .goal in let c = p .clause in record { goal = omega arith; clause = omega arith }
@@ -75,21 +86,25 @@ at-more p h = let g = p .goal in let c = p .clause in record { goal = omega arit
 -- the readings of a sound card's nodes are as high as the nodes
 module _ {bs : List ℕ} (s : Sound bs) where
   node-high : (i : ℕ) → i < nodeCount bs → ((k : ℕ) → k < i → AtMost (heightAt bs k) (readAt bs k)) → AtMost (heightAt bs i) (readAt bs i)
-  unfolding readAt
-  node-high i h below = go (decLt 3 (kindAt bs i))
+  unfolding readAt readStep heightAt heightStep held partHeight PartBelow high kindOf
+  node-high i h below =
+      let e = sound-built s i h in
+      let k = kindOf (kindAt bs i) in
+      let p = part (k .left) (leftAt bs i) (left-below bs i e) in
+      let q = part (k .right) (rightAt bs i) (right-below bs i e) in
+      at-more (at-high kinds each-high (kindAt bs i) .at-most _ _) (omega arith)
     where
-      part : (k n : ℕ) → k < i → heightAt bs k ≤ n → AtMost n (getD (grow (readStep bs) i) k noNodeReading)
-      part k n g f = subst (AtMost n) (sym (grow-at (readStep bs) i k noNodeReading g)) (at-more (below k g) f)
-
-      go : Dec (3 < kindAt bs i) → AtMost (heightAt bs i) (readAt bs i)
-      go (yes k) =
-          let p = parts-below s i h k in
-          let q = height-parts s i h k in
-          let n : ℕ = max (heightAt bs (leftAt bs i)) (heightAt bs (rightAt bs i)) in
-          at-more (read-high bs (grow (readStep bs) i) i n (part (leftAt bs i) n (p .0) (omega arith))
-          (part (rightAt bs i) n (p .1) (omega arith)))
-          (omega arith)
-      go (no k) = at-more (leaf-high bs (grow (readStep bs) i) i (omega arith)) (height-pos bs i)
+      part : (f : Field) (v : ℕ) → PartBelow i f v
+          → high f (held f v (getD (grow (readStep bs) i) v noNodeReading)) ≤ partHeight (grow (heightStep bs) i) f v
+      part Unused v g = omega arith
+      part Name v g = omega arith
+      part GoalPart v g =
+          let same = ap (λ (x : NodeReading). heightᴳ (x .goal)) (grow-at (readStep bs) i v noNodeReading g) in
+          omega (arith, same, below v g .goal, grow-at (heightStep bs) i v 0 g)
+      part ClausePart v g =
+          let same = ap (λ (x : NodeReading). heightᴰ (x .clause)) (grow-at (readStep bs) i v noNodeReading g) in
+          omega (arith, same, below v g .clause, grow-at (heightStep bs) i v 0 g)
+      part Unknown v g = omega arith
 
   nodes-high : (n : ℕ) → n ≤ nodeCount bs → (i : ℕ) → i < n → AtMost (heightAt bs i) (readAt bs i)
   nodes-high zero h i g = absurd (omega arith)
@@ -117,13 +132,13 @@ module _ {bs : List ℕ} (s : Sound bs) where
   unfolding clauseAt ruleEntry lineEntry
   scope-low = record { low = λ e h. go e h (decLt e (ruleCount bs)) }
     where
-      go : (e : ℕ) → e < length (jobOf bs .scope) → Dec (e < ruleCount bs) → heightᴰ (clauseAt (jobOf bs .scope) e) ≤ 8
+      go : (e : ℕ) → e < size (jobOf bs .scope) → Dec (e < ruleCount bs) → heightᴰ (clauseAt (jobOf bs .scope) e) ≤ 8
       go e h (yes g) = omega (arith, rule-high e g, ap (λ (x : Entry). heightᴰ (x .clause)) (rule-at bs e g))
       go e h (no g) =
           let i : ℕ = e - ruleCount bs in
-          let few : i < lineCount bs = omega (arith, scope-length bs) in
+          let few : i < lineCount bs = omega (arith, scope-size bs) in
           let here : e ≡ ruleCount bs + i = omega arith in
-          let entry = ap (λ (k : ℕ). getD (jobOf bs .scope) k noEntry) here ∙ line-at bs i few in
+          let entry = ap (λ (k : ℕ). entryAt (jobOf bs .scope) k) here ∙ line-at bs i few in
           omega (arith, line-high i few, ap (λ (x : Entry). heightᴰ (x .clause)) entry)
 
 -- THEOREM. Every step of a derivation of a sound card within limits is below P + T + 103.
@@ -135,5 +150,5 @@ steps-fit {bs} s d e h =
     let f = sound-front bs s .depth in
     let g = lends-fewer (jobOf bs .goal) in
     let t = goal-high s in
-    let c = scope-length bs in
+    let c = scope-size bs in
     steps-below (ruleCount bs + lineCount bs + 103) (scope-low s) t (d .derivation .tree) (omega arith) .below e h

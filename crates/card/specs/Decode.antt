@@ -1,15 +1,19 @@
 -- From bytes to formulas and to the job that a sound card asks.
 use Prim.Native.Nat.{ℕ, _+_, _-_}
-use mathlib.Core.Bool.{true, false, cond, _&&_}
+use mathlib.Core.Bool.{true, false, _&&_}
+use mathlib.Core.Option.{Option, none, some}
 use mathlib.Core.List.{List, _++_}
 use lib.ListN.{getD}
 use lib.Dec.{leb, ltb, eqb}
-use Rattle.calculus.specs.Formula.{Goal, Clause, atomᴳ, topᴳ, oneᴳ, zeroᴳ, tensor, with, lolliᴳ, atomᴰ, topᴰ, lolliᴰ}
+use Rattle.calculus.specs.Formula.{Goal, Clause, zeroᴳ, topᴰ}
 use Rattle.calculus.specs.Items.{Items}
-use Rattle.calculus.specs.Derivation.{Entry}
+use Rattle.calculus.specs.Derivation.{Entry, Scope}
 use Rattle.calculus.specs.Job.{Job}
 use Rattle.card.specs.Format.{ruleCount, lineCount, goalNode, depthLimit, stepLimit, kindAt, leftAt, rightAt, ruleNode}
 use Rattle.card.specs.Format.{lineNode, lineByte, listing, grow}
+use Rattle.card.specs.declared.kinds.Field.{Field}
+use Rattle.card.specs.declared.kinds.Field.the-variants.{Unused, Name, GoalPart, ClausePart, Unknown}
+use Rattle.card.specs.Kinds.{Held, kindOf}
 
 -- A node's two readings. Of a kind that has but one, the other stands for nothing and is never asked of a sound card.
 pub record NodeReading : Type 0 where
@@ -19,26 +23,26 @@ pub record NodeReading : Type 0 where
 abbrev pub noNodeReading : NodeReading
 noNodeReading = record { goal = zeroᴳ; clause = topᴰ }
 
-abbrev pub asGoal : Goal → NodeReading
-asGoal G = record { goal = G; clause = topᴰ }
+-- what a field gives to its node's reading, from its value and what the node of that number reads as
+unfoldable pub held : (f : Field) → ℕ → NodeReading → Held f
+held Unused v x = tt
+held Name v x = v
+held GoalPart v x = x .goal
+held ClausePart v x = x .clause
+held Unknown v x = tt
 
-abbrev pub asClause : Clause → NodeReading
-asClause D = record { goal = zeroᴳ; clause = D }
+-- as the kind's row says, where it says how
+unfoldable pub readBy : {A B C : Type 0} → Option (A → B → C) → C → A → B → C
+readBy none other x y = other
+readBy (some read) other x y = read x y
 
--- The table of kinds: node i, from the readings of the nodes before it.
+-- "reads as": node i, from the readings of the nodes before it.
 unfoldable pub readStep : List ℕ → List NodeReading → ℕ → NodeReading
 readStep bs t i =
-    let k = kindAt bs i in
-    let l = leftAt bs i in
-    let p = getD t l noNodeReading in
-    let q = getD t (rightAt bs i) noNodeReading in
-    cond (eqb k 1) (record { goal = atomᴳ l; clause = atomᴰ l })
-    (cond (eqb k 2) (record { goal = topᴳ; clause = topᴰ })
-    (cond (eqb k 3) (asGoal oneᴳ)
-    (cond (eqb k 4) (asGoal (tensor (p .goal) (q .goal)))
-    (cond (eqb k 5) (asGoal (with (p .goal) (q .goal)))
-    (cond (eqb k 6) (asGoal (lolliᴳ (p .clause) (q .goal)))
-    (cond (eqb k 7) (asClause (lolliᴰ (p .goal) (q .clause))) noNodeReading))))))
+    let k = kindOf (kindAt bs i) in
+    let l = held (k .left) (leftAt bs i) (getD t (leftAt bs i) noNodeReading) in
+    let r = held (k .right) (rightAt bs i) (getD t (rightAt bs i) noNodeReading) in
+    record { goal = readBy (k .goal) (noNodeReading .goal) l r; clause = readBy (k .clause) (noNodeReading .clause) l r }
 
 unfoldable pub readAt : List ℕ → ℕ → NodeReading
 readAt bs i = readStep bs (grow (readStep bs) i) i
@@ -61,11 +65,15 @@ unfoldable pub linesWith : List ℕ → ℕ → Items
 linesWith bs b e =
     leb (ruleCount bs) e && (ltb e (ruleCount bs + lineCount bs) && eqb (lineByte bs (e - ruleCount bs)) b)
 
--- What the card asks: "rules from 0, lines from P"; 1 = must, 0 = may.
+-- "rules from 0, lines from P"; a head fits the name that it is.
+unfoldable pub scopeOf : List ℕ → Scope
+scopeOf bs = record { entries = listing (ruleCount bs) (ruleEntry bs) ++ listing (lineCount bs) (lineEntry bs); fits = eqb }
+
+-- What the card asks; 1 = must, 0 = may.
 unfoldable pub jobOf : List ℕ → Job
 jobOf bs =
     record {
-      scope = listing (ruleCount bs) (ruleEntry bs) ++ listing (lineCount bs) (lineEntry bs);
+      scope = scopeOf bs;
       strict = linesWith bs 1;
       lax = linesWith bs 0;
       goal = goalAt bs (goalNode bs);

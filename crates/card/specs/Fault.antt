@@ -1,12 +1,16 @@
 -- The refusals 1 to 9 (01, "Refused, and where") and soundness.
 use Prim.Native.Nat.{ℕ, _+_, _<_, max}
 use mathlib.Core.Path.{_≡_}
-use mathlib.Core.Bool.{Bool, false, not, cond, _&&_, _||_}
+use mathlib.Core.Bool.{Bool, true, false, not, _&&_}
+use mathlib.Core.Option.{Option, none, some}
 use mathlib.Core.List.{List}
 use lib.ListN.{length, getD}
 use lib.Dec.{leb, ltb, eqb}
 use Rattle.card.specs.Format.{lengthField, version, ruleCount, lineCount, nodeCount, goalNode, depthLimit, kindAt, leftAt, rightAt}
 use Rattle.card.specs.Format.{ruleNode, lineNode, lineByte, cardLength, grow}
+use Rattle.card.specs.declared.kinds.Field.{Field}
+use Rattle.card.specs.declared.kinds.Field.the-variants.{Unused, Name, GoalPart, ClausePart, Unknown}
+use Rattle.card.specs.Kinds.{kindOf}
 use Rattle.card.specs.Verdict.{Verdict, Where, sound, card, node, rule, line, sheet, steps, mark, refuse, _▹_, firstOf}
 
 -- Refusals 1 to 5: the card's front.
@@ -22,12 +26,16 @@ frontFault bs =
     ▹ refuse (not (inRange bs)) 4 card
     ▹ refuse (not (eqb (cardLength bs) (length bs))) 5 card
 
--- "reads as": kinds 1 to 6 as goals; kinds 1, 2 and 7 as clauses
+unfoldable pub given : {A : Type 0} → Option A → Bool
+given none = false
+given (some a) = true
+
+-- "reads as": a kind reads as a goal, or as a clause, where its row says how.
 unfoldable pub isGoal : ℕ → Bool
-isGoal k = leb 1 k && leb k 6
+isGoal k = given (kindOf k .goal)
 
 unfoldable pub isClause : ℕ → Bool
-isClause k = eqb k 1 || (eqb k 2 || eqb k 7)
+isClause k = given (kindOf k .clause)
 
 -- "A part's node number is lower than that of the node holding it", and the part has the reading asked for.
 unfoldable pub goalPart : List ℕ → ℕ → ℕ → Bool
@@ -36,21 +44,32 @@ goalPart bs i part = ltb part i && isGoal (kindAt bs part)
 unfoldable pub clausePart : List ℕ → ℕ → ℕ → Bool
 clausePart bs i part = ltb part i && isClause (kindAt bs part)
 
--- The table of kinds: a known kind, a name of at most 999, unused fields 0, and parts as the kind asks.
+-- "left, right": an unused field is 0, a name at most 999, a part lower and of the reading asked for; of an unknown kind nothing fits.
+unfoldable pub fitsField : List ℕ → ℕ → Field → ℕ → Bool
+fitsField bs i Unused v = eqb v 0
+fitsField bs i Name v = leb v 999
+fitsField bs i GoalPart v = goalPart bs i v
+fitsField bs i ClausePart v = clausePart bs i v
+fitsField bs i Unknown v = false
+
 unfoldable pub wellBuilt : List ℕ → ℕ → Bool
 wellBuilt bs i =
-    let k = kindAt bs i in
-    let l = leftAt bs i in
-    let r = rightAt bs i in
-    cond (eqb k 1) (leb l 999 && eqb r 0)
-    (cond (eqb k 2 || eqb k 3) (eqb l 0 && eqb r 0)
-    (cond (eqb k 4 || eqb k 5) (goalPart bs i l && goalPart bs i r)
-    (cond (eqb k 6) (clausePart bs i l && goalPart bs i r)
-    (cond (eqb k 7) (goalPart bs i l && clausePart bs i r) false))))
+    let k = kindOf (kindAt bs i) in
+    fitsField bs i (k .left) (leftAt bs i) && fitsField bs i (k .right) (rightAt bs i)
 
--- "Height is 1 for kinds 1 to 3, else 1 plus the greater of the parts' heights": of node i, from the heights of the nodes before it.
+-- The height of the part in a field, from the heights of the nodes before; 0 where the field holds none.
+unfoldable pub partHeight : List ℕ → Field → ℕ → ℕ
+partHeight t Unused v = 0
+partHeight t Name v = 0
+partHeight t GoalPart v = getD t v 0
+partHeight t ClausePart v = getD t v 0
+partHeight t Unknown v = 0
+
+-- "Height is 1 for kinds 1 to 3, else 1 plus the greater of the parts' heights" (1 to 3 have no parts): of node i, from those before it.
 unfoldable pub heightStep : List ℕ → List ℕ → ℕ → ℕ
-heightStep bs t i = cond (leb (kindAt bs i) 3) 1 (max (getD t (leftAt bs i) 0) (getD t (rightAt bs i) 0) + 1)
+heightStep bs t i =
+    let k = kindOf (kindAt bs i) in
+    max (partHeight t (k .left) (leftAt bs i)) (partHeight t (k .right) (rightAt bs i)) + 1
 
 unfoldable pub heightAt : List ℕ → ℕ → ℕ
 heightAt bs i = heightStep bs (grow (heightStep bs) i) i

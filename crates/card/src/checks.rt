@@ -10,17 +10,18 @@ use crate::format::line_node;
 use crate::format::right;
 use crate::format::rule_node;
 use crate::format::word;
+use crate::kinds::Field;
+use crate::kinds::row;
 use crate::refuse;
 ghost use mathlib.Core.Path.{_≡_};
 ghost use mathlib.Core.Bool.{_&&_, true};
 ghost use Prim.Native.Nat.{_+_, _*_, _≤_, _<_, max};
 ghost use lib.ListN.{length};
-ghost use lib.Dec.{leb, eqb};
 ghost use Rattle.card.specs.Format.{nodeCount, ruleCount, lineCount, cardLength};
 ghost use Rattle.card.specs.Verdict.{told, firstOf};
 ghost use Rattle.card.specs.Fault.{frontFault, nodeFault, goalFault, ruleFault, lineFault};
-ghost use Rattle.card.specs.Fault.{inRange, isGoal, isClause, goalPart, clausePart, wellBuilt, heightAt};
-ghost use Rattle.card.specs.Inner.Checks.{builtAt, Framed, Tabled};
+ghost use Rattle.card.specs.Fault.{inRange, isGoal, isClause, goalPart, clausePart, fitsField, wellBuilt, partHeight, heightAt};
+ghost use Rattle.card.specs.Inner.Checks.{builtAt, Framed, PartBelow, Tabled};
 
 fn both(a: bool, b: bool) -> bool
     ensures { λ r. ⌜ r ≡ (a && b) ⌝ }
@@ -98,28 +99,15 @@ pub fn front_check(card: &[u8]) -> Checked
 fn is_goal(k: usize) -> bool
     ensures { λ r. ⌜ r ≡ isGoal k ⌝ }
 {
-    if k < 1 {
-        return false;
-    }
-    if 6 < k {
-        return false;
-    }
-    true
+    let kind = row(k);
+    kind.goal
 }
 
 fn is_clause(k: usize) -> bool
     ensures { λ r. ⌜ r ≡ isClause k ⌝ }
 {
-    if k == 1 {
-        return true;
-    }
-    if k == 2 {
-        return true;
-    }
-    if k == 7 {
-        return true;
-    }
-    false
+    let kind = row(k);
+    kind.clause
 }
 
 // The part is below i and reads as a goal.
@@ -144,50 +132,30 @@ fn clause_part(card: &[u8], i: usize, part: usize) -> bool
     false
 }
 
-// A name and the unused field beside it.
-fn name_fields(l: usize, r: usize) -> bool
-    ensures { λ b. ⌜ b ≡ (leb l 999 && eqb r 0) ⌝ }
+// The value fits a field of node i that is to hold this.
+fn fits_field(card: &[u8], i: usize, field: Field, value: usize) -> bool
+    requires { ⌜ 11 + 5 * i ≤ length (now card) ⌝ }
+    ensures { λ r. ⌜ r ≡ fitsField (now (card .entry)) i field value ⌝ }
 {
-    if 999 < l {
-        return false;
+    match field {
+        Field::Unused => value == 0,
+        Field::Name => value <= 999,
+        Field::GoalPart => goal_part(card, i, value),
+        Field::ClausePart => clause_part(card, i, value),
+        Field::Unknown => false,
     }
-    if r != 0 {
-        return false;
-    }
-    true
 }
 
-// Two unused fields.
-fn no_fields(l: usize, r: usize) -> bool
-    ensures { λ b. ⌜ b ≡ (eqb l 0 && eqb r 0) ⌝ }
-{
-    if l != 0 {
-        return false;
-    }
-    if r != 0 {
-        return false;
-    }
-    true
-}
-
-// Node i is as the table of kinds asks.
+// Node i is as its kind asks.
 fn well_built(card: &[u8], i: usize) -> bool
     requires { ⌜ 16 + 5 * i ≤ length (now card) ⌝ }
     ensures { λ r. ⌜ r ≡ wellBuilt (now (card .entry)) i ⌝ }
 {
-    let k = kind(card, i);
-    let l = left(card, i);
-    let r = right(card, i);
-    match k {
-        1 => name_fields(l, r),
-        2 => no_fields(l, r),
-        3 => no_fields(l, r),
-        4 => both(goal_part(card, i, l), goal_part(card, i, r)),
-        5 => both(goal_part(card, i, l), goal_part(card, i, r)),
-        6 => both(clause_part(card, i, l), goal_part(card, i, r)),
-        7 => both(goal_part(card, i, l), clause_part(card, i, r)),
-        _ => false,
-    }
+    let asked = row(kind(card, i));
+    let l = asked.left;
+    let r = asked.right;
+    let good = fits_field(card, i, l, left(card, i));
+    both(good, fits_field(card, i, r, right(card, i)))
 }
 
 // What a node's check finds: its height, or that 6 applies.
@@ -202,19 +170,32 @@ fn greater(a: usize, b: usize) -> usize
     if a < b { b } else { a }
 }
 
+// The height of the part in a field; 0 where the field holds none.
+fn part_height(field: Field, value: usize, heights: &[u8; 512]) -> usize
+    requires { ⌜ length (now heights) ≡ 512 ⌝ }
+    requires { ⌜ PartBelow 512 field value ⌝ }
+    ensures { λ r. ⌜ (r ≡ partHeight (now (heights .entry)) field value) × (r < 256) ⌝ }
+{
+    match field {
+        Field::GoalPart => byte(heights, value),
+        Field::ClausePart => byte(heights, value),
+        Field::Unused => 0,
+        Field::Name => 0,
+        Field::Unknown => 0,
+    }
+}
+
 // The height of a well built node, from the heights of those before it.
 fn height(card: &[u8], i: usize, heights: &[u8; 512]) -> usize
     requires { ⌜ Tabled (now card) i (now heights) ⌝ }
     requires { ⌜ wellBuilt (now card) i ≡ true ⌝ }
     ensures { λ r. ⌜ r ≡ heightAt (now (card .entry)) i ⌝ }
 {
-    let k = kind(card, i);
-    if k <= 3 {
-        return 1;
-    }
-    let l = left(card, i);
-    let r = right(card, i);
-    greater(byte(heights, l), byte(heights, r)) + 1
+    let asked = row(kind(card, i));
+    let l = asked.left;
+    let r = asked.right;
+    let h = part_height(l, left(card, i), heights);
+    greater(h, part_height(r, right(card, i), heights)) + 1
 }
 
 // Node i by itself.

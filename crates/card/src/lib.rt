@@ -1,6 +1,7 @@
 // The card (01, "The card"): access to its bytes, and the checks 1 to 9.
 mod checks;
 pub mod format;
+mod kinds;
 
 ghost use mathlib.Core.Path.{_≡_};
 ghost use Rattle.card.specs.Verdict.{told, refuse, whereOf};

@@ -5,11 +5,11 @@ use Prim.Native.Nat.{ℕ, zero, suc, _+_, _-_, _*_, _/_, _%_, _^_, _≤_, _<_}
 use native.Mathlib.Omega.{arith}
 use borrow.Author.Tests.{ne-eqb, eqb-true, eqb-false, ltb-true, ltb-false, le-ltb}
 use lib.Dec.{eqb, ltb}
-use lib.Bits.{bitOr, or-zero-r, or-add-and, and-le-l, and-le-r}
+use lib.Bits.{bitAnd, bitOr, and-lt, xor-lt, or-zero-r, or-add-and, and-le-l, and-le-r}
 use Rattle.lines.specs.declared.LineSet.{LineSet}
 use Rattle.lines.specs.Inner.Set.{bitAt, wordOf, keep, each, less, Words}
-use Rattle.lines.specs.Inner.Set.{member, isEmptyS, emptyS, fullS, wordS, oneS, joinS, cutS, addS, takeS}
-use Rattle.lines.proofs.Word.{bit-or, bit-less, bit-zero, bit-pow, bit-ones, bit-ext}
+use Rattle.lines.specs.Inner.Set.{member, isEmptyS, emptyS, fullS, wordS, oneS, joinS, meetS, cutS, addS, takeS}
+use Rattle.lines.proofs.Word.{bit-and, bit-or, bit-less, bit-zero, bit-pow, bit-ones, bit-ext}
 use Rattle.lines.proofs.Place.{word-past, one-past, same-place}
 
 -- ---- an operation on each word apart
@@ -37,6 +37,10 @@ member-past s i h = ap (λ (a : ℕ). bitAt a (i % 64)) (sym (word-past s i h)) 
 pub member-join : (s t : LineSet) (i : ℕ) → member (joinS s t) i ≡ (member s i || member t i)
 unfolding joinS
 member-join = member-each bitOr _||_ refl bit-or
+
+pub member-meet : (s t : LineSet) (i : ℕ) → member (meetS s t) i ≡ (member s i && member t i)
+unfolding meetS
+member-meet = member-each bitAnd _&&_ refl bit-and
 
 pub member-cut : (s t : LineSet) (i : ℕ) → member (cutS s t) i ≡ (member s i && not (member t i))
 unfolding cutS less
@@ -128,9 +132,25 @@ set-ext {s} {t} hs ht h =
 
 -- ---- no items
 
-words-empty : Words emptyS
+pub words-empty : Words emptyS
 unfolding emptyS
 words-empty = record { low = omega arith; mid = omega arith; high = omega arith }
+
+pub words-meet : {s t : LineSet} → Words s → Words t → Words (meetS s t)
+unfolding meetS each
+words-meet {s} {t} p q = record {
+  low = and-lt 64 (s .low) (t .low) (p .low) (q .low);
+  mid = and-lt 64 (s .mid) (t .mid) (p .mid) (q .mid);
+  high = and-lt 64 (s .high) (t .high) (p .high) (q .high);
+}
+
+pub words-cut : {s t : LineSet} → Words s → Words t → Words (cutS s t)
+unfolding cutS each less
+words-cut {s} {t} p q = record {
+  low = xor-lt 64 (s .low) _ (p .low) (and-lt 64 (s .low) (t .low) (p .low) (q .low));
+  mid = xor-lt 64 (s .mid) _ (p .mid) (and-lt 64 (s .mid) (t .mid) (p .mid) (q .mid));
+  high = xor-lt 64 (s .high) _ (p .high) (and-lt 64 (s .high) (t .high) (p .high) (q .high));
+}
 
 or-none : (a b : ℕ) → bitOr a b ≡ 0 → (a ≡ 0) × (b ≡ 0)
 or-none a b e = omega (arith, or-add-and a b, and-le-l a b, and-le-r a b)

@@ -44,6 +44,9 @@ module _ (op : ℕ → ℕ → ℕ) (f : Bool → Bool → Bool)
 pub bit-or : (a b j : ℕ) → bitAt (bitOr a b) j ≡ (bitAt a j || bitAt b j)
 bit-or = bit-op bitOr _||_ or-shr or-mod refl refl refl refl
 
+pub bit-and : (a b j : ℕ) → bitAt (bitAnd a b) j ≡ (bitAt a j && bitAt b j)
+bit-and = bit-op bitAnd _&&_ and-shr and-mod refl refl refl refl
+
 less-shr : (a b k : ℕ) → less a b / 2 ^ k ≡ less (a / 2 ^ k) (b / 2 ^ k)
 unfolding less
 less-shr a b k = xor-shr a (bitAnd a b) k ∙ ap (bitXor (a / 2 ^ k)) (and-shr a b k)

@@ -2,7 +2,7 @@
 // the tray or a lent clause: one bit of three words. Each operation works on whole words.
 ghost use mathlib.Core.Path.{_≡_};
 ghost use Prim.Native.Nat.{_/_, _≤_};
-ghost use Rattle.lines.specs.Inner.Set.{wordOf, oneS, member, isEmptyS, emptyS, fullS, addS, takeS, cutS, joinS};
+ghost use Rattle.lines.specs.Inner.Set.{wordOf, oneS, member, isEmptyS, emptyS, fullS, addS, takeS, cutS, meetS, joinS};
 
 pub struct LineSet {
     // Items 0 to 63.
@@ -116,6 +116,17 @@ impl LineSet {
             low: self.low ^ (self.low & other.low),
             mid: self.mid ^ (self.mid & other.mid),
             high: self.high ^ (self.high & other.high),
+        }
+    }
+
+    // The items of both sets.
+    pub fn meet(self, other: LineSet) -> Self
+        ensures { λ r. ⌜ r ≡ meetS self other ⌝ }
+    {
+        Self {
+            low: self.low & other.low,
+            mid: self.mid & other.mid,
+            high: self.high & other.high,
         }
     }
 

@@ -5,23 +5,24 @@ use mathlib.Core.Path.{_≡_, refl, sym, _∙_, ap}
 use mathlib.Core.Bool.{Bool, true}
 use mathlib.Core.Option.{none}
 use mathlib.Core.List.{List, [], _∷_, _++_}
-use Rattle.calculus.specs.Formula.{head, fits, residual, matched}
+use Rattle.calculus.specs.Formula.{residual, matched, usable}
 use Rattle.calculus.specs.Items.{∅, _∪_, _∖_, only}
-use Rattle.calculus.specs.Derivation.{clauseAt, linearAt, lend}
+use Rattle.calculus.specs.Derivation.{size, entryAt, clauseAt, linearAt, residualAt, extend, lend}
 use Rattle.calculus.specs.Steps.{stands, steps}
 use Rattle.calculus.specs.Job.{Job, Derivable, Listed, First}
-use Rattle.calculus.specs.Inner.Summary.{Bounded}
+use Rattle.calculus.specs.Inner.Summary.{spare, Bounded}
 use Rattle.calculus.specs.Inner.Window.{tensor-strict, tensor-lax, with-strict, with-lax}
 use Rattle.card.specs.Format.{listing, grow}
 use Rattle.card.specs.Verdict.{sound, refuse, _▹_, firstOf}
-use Rattle.card.specs.Fault.{firstFault, frontFault, inRange, isGoal, isClause, goalPart, clausePart, wellBuilt, heightStep}
-use Rattle.card.specs.Fault.{heightAt, nodeFault, goalFault, ruleFault, lineGood, lineFault}
-use Rattle.card.specs.Decode.{jobOf, readStep, readAt, goalAt, clauseOf, ruleEntry, lineEntry, linesWith}
+use Rattle.card.specs.Kinds.{kinds, kindOf}
+use Rattle.card.specs.Fault.{firstFault, frontFault, inRange, given, isGoal, isClause, goalPart, clausePart, fitsField, wellBuilt}
+use Rattle.card.specs.Fault.{partHeight, heightStep, heightAt, nodeFault, goalFault, ruleFault, lineGood, lineFault}
+use Rattle.card.specs.Decode.{scopeOf, jobOf, held, readBy, readStep, readAt, goalAt, clauseOf, ruleEntry, lineEntry, linesWith}
 use Rattle.card.specs.Sheet.{markOf, marksOf}
 use Rattle.card.proofs.NodesDecoded.{lines-bounded}
 use Rattle.planner.specs.Trays.{PlannedAs, Underivable, EachComes, trays, samples}
-use Rattle.search.specs.Inner.Walk.{Outcome, solved, stuck, moved, holding, vacant, headFits, seek, spent, spending, after-use, after-left}
-use Rattle.search.specs.Inner.Walk.{after-lend, chosen, usable, choose, go, resolve, atomic, walk}
+use Rattle.search.specs.Inner.Walk.{Outcome, solved, stuck, moved, holding, vacant, seek, spent, spending, after-use, after-left}
+use Rattle.search.specs.Inner.Walk.{after-lend, chosen, takable, choose, go, resolve, atomic, walk}
 use Rattle.search.proofs.WalkFindsLeast.{Chosen, none as none-chosen, step as step-chosen}
 use Rattle.search.proofs.LoopKeepsAndEnds.{start, Good, Kept, kept-start, kept-none, kept-next, kept-first}
 
@@ -127,11 +128,12 @@ _⋀_ : {A B : Type 0} → A → B → A × B
 a ⋀ b = (a, b)
 
 all-come : EachComes trays × EachComes samples
-unfolding _⋀_ firstFault frontFault inRange isGoal isClause goalPart clausePart wellBuilt heightStep heightAt nodeFault goalFault
-    ruleFault lineFault lineGood refuse _▹_ firstOf grow listing jobOf readStep readAt goalAt clauseOf ruleEntry lineEntry linesWith
-    marksOf markOf stands run unsnoc longer start walk go atomic resolve choose usable chosen seek headFits vacant moved holding spent
-    spending after-use after-left after-lend head fits residual matched ∅ _∪_ _∖_ only clauseAt linearAt lend tensor-strict tensor-lax
-    with-strict with-lax
+unfolding _⋀_ kinds kindOf given fitsField partHeight held readBy
+    firstFault frontFault inRange isGoal isClause goalPart clausePart wellBuilt heightStep heightAt nodeFault goalFault
+    ruleFault lineFault lineGood refuse _▹_ firstOf grow listing scopeOf jobOf readStep readAt goalAt clauseOf ruleEntry lineEntry linesWith
+    marksOf markOf stands run unsnoc longer start walk go atomic resolve choose takable chosen seek vacant moved holding spent
+    spending after-use after-left after-lend usable residual matched ∅ _∪_ _∖_ only size entryAt clauseAt linearAt residualAt extend
+    lend spare tensor-strict tensor-lax with-strict with-lax
 all-come = (
   planned-by refl refl refl
       ⋀ underivable-by refl refl

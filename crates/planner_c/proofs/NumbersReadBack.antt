@@ -1,12 +1,10 @@
--- A number reads as the outcome that was written, so no two outcomes share a number.
-use Prim.Native.Nat.{ℕ, _≤_, _<_}
+-- A number reads as the outcome that it tells, and every decision has a number.
+use Prim.Native.Nat.{ℕ, _+_, _*_, _^_, _≤_, _<_}
 use native.Mathlib.Omega.{arith}
 use mathlib.Core.Path.{_≡_, refl, sym, ap, ap₂, subst, _∙_}
 use mathlib.Core.Logic.{⊎-elim}
-use mathlib.Core.Bool.{cond}
 use mathlib.Core.List.{List}
-use lib.Dec.{eqb}
-use borrow.Author.Tests.{ne-eqb}
+use borrow.Author.Tests.{eq-eqb, ne-eqb}
 use Rattle.card.specs.declared.Place.{Place}
 use Rattle.card.specs.declared.Refusal.{Refusal}
 use Rattle.card.specs.Format.{Bytes}
@@ -21,124 +19,162 @@ use Rattle.reader.specs.declared.Answer.the-variants.{Accepted, Refused as NotA
 use Rattle.reader.specs.Read.{ReadVerdict, accepted, refused as not-accepted, toldRead, Reading, AcceptsExactly, ReadDecided, is-accepted}
 use Rattle.reader.specs.Read.{is-refused as is-not-accepted}
 use Rattle.reader.proofs.AcceptedExactly.{read-decided}
-use Rattle.planner_c.specs.Numbers.{numberIn, placeIn, indexIn, placeOf, saidBy, planIn, readIn}
-use Rattle.planner_c.specs.Inner.Pack.{pack, placeNumber, placeIndex, packRefusal, packPlan, packRead}
+use Rattle.planner_c.specs.Numbers.{numberIn, placeIn, indexIn, places, placeOf, Plain, saidBy, planIn, readIn}
 
--- a refusal whose place is known
-pub packs : (n : ℕ) {r : ℕ} (p q : Place) → p ≡ q → r ≡ packRefusal n (whereOf q) → r ≡ packRefusal n (whereOf p)
-packs n p q e h = h ∙ ap (λ (x : Place). packRefusal n (whereOf x)) (sym e)
+-- a refusal whose place is known, told in the three parts of r
+pub told-at : (r : ℕ) {n m i : ℕ} {p q : Place} → p ≡ q → (numberIn r ≡ n) × (placeIn r ≡ m) × (indexIn r ≡ i) → placeOf m i ≡ whereOf q
+    → (numberIn r ≡ n) × (placeOf (placeIn r) (indexIn r) ≡ whereOf p)
+told-at r e h w = (h .0, ap₂ placeOf (h .1) (h .2) ∙ w ∙ ap whereOf (sym e))
 
--- the parts of a number that was packed
-number-back : (n p i : ℕ) → p < 256 → i < 65536 → numberIn (pack n p i) ≡ n
-number-back n p i h g = omega arith
+-- the index of a place that has one
+unfoldable pub indexOf : Where → ℕ
+indexOf card = 0
+indexOf (node i) = i
+indexOf (rule i) = i
+indexOf (line i) = i
+indexOf sheet = 0
+indexOf steps = 0
+indexOf (mark i) = i
 
-place-back : (n p i : ℕ) → p < 256 → i < 65536 → placeIn (pack n p i) ≡ p
-place-back n p i h g = omega arith
+-- a number whose place is in the table and has an index, or has none and tells none
+module _ (r : ℕ) {n m i : ℕ} (h : (numberIn r ≡ n) × (placeIn r ≡ m) × (indexIn r ≡ i)) (l : m < 7) where
+  plain-at : (placeOf m 0 ≡ placeOf m 1 → i ≡ 0) → Plain r
+  unfolding places
+  plain-at b = record {
+    known = λ z. omega (arith, h .1);
+    bare = λ z e. h .2 ∙ b (rw (h .1) at e);
+  }
 
-index-back : (n p i : ℕ) → i < 65536 → indexIn (pack n p i) ≡ i
-index-back n p i g = omega arith
+  pub plain-indexed : indexOf (placeOf m 0) ≡ 0 → indexOf (placeOf m 1) ≡ 1 → Plain r
+  plain-indexed p q = plain-at (λ e. absurd (omega (arith, p, q, ap indexOf e)))
 
-place-few : (w : Where) → placeNumber w < 256
-unfolding placeNumber
-place-few card = omega arith
-place-few (node i) = omega arith
-place-few (rule i) = omega arith
-place-few (line i) = omega arith
-place-few sheet = omega arith
-place-few steps = omega arith
-place-few (mark i) = omega arith
+  pub plain-bare : i ≡ 0 → Plain r
+  plain-bare e = plain-at (λ q. e)
 
-where-back : (w : Where) → placeOf (placeNumber w) (placeIndex w) ≡ w
-unfolding placeOf placeNumber placeIndex
-where-back card = refl
-where-back (node i) = refl
-where-back (rule i) = refl
-where-back (line i) = refl
-where-back sheet = refl
-where-back steps = refl
-where-back (mark i) = refl
-
--- an index of a place on a card of bytes
-index-few : {bs : List ℕ} → Bytes bs → (w : Where) → Placed bs w → placeIndex w < 65536
-unfolding placeIndex Placed
-index-few b card h = omega arith
-index-few b (node i) h = omega (arith, b .byte 5, b .byte 6)
-index-few b (rule i) h = omega (arith, b .byte 3)
-index-few b (line i) h = omega (arith, b .byte 4)
-index-few b sheet h = omega arith
-index-few b steps h = omega arith
-index-few b (mark i) h = omega (arith, b .byte 4)
-
-refusal-back : (n : ℕ) (w : Where) → placeIndex w < 65536
-    → (numberIn (packRefusal n w) ≡ n) × (placeOf (placeIn (packRefusal n w)) (indexIn (packRefusal n w)) ≡ w)
-refusal-back n w h = (
-  number-back n (placeNumber w) (placeIndex w) (place-few w) h,
-  ap₂ placeOf (place-back n (placeNumber w) (placeIndex w) (place-few w) h) (index-back n (placeNumber w) (placeIndex w) h) ∙ where-back w,
-)
+-- where nothing is refused
+pub plain-fine : (r : ℕ) → numberIn r ≡ 0 → Plain r
+plain-fine r e = record { known = λ z. absurd (z e); bare = λ z. absurd (z e) }
 
 -- what a number says, once its parts are known
+module _ {A : Type 0} (fine : ℕ → A) (refusal : ℕ → Where → A) (r : ℕ) where
+  said-fine : {k : ℕ} → (numberIn r ≡ 0) × (placeIn r ≡ 0) × (indexIn r ≡ k) → saidBy fine refusal r ≡ fine k
+  unfolding saidBy
+  said-fine h = simp (eq-eqb (numberIn r) 0 (h .0), eq-eqb (placeIn r) 0 (h .1)) (ap fine (h .2))
+
+  said-refused : {n : ℕ} {w : Where} → 1 ≤ n → (numberIn r ≡ n) × (placeOf (placeIn r) (indexIn r) ≡ w)
+      → saidBy fine refusal r ≡ refusal n w
+  unfolding saidBy
+  said-refused g h = simp (ne-eqb (numberIn r) 0 (λ z. omega (arith, h .0))) (ap₂ refusal (h .0) (h .1))
+
+-- the parts of a number, packed
+pack : ℕ → ℕ → ℕ → ℕ
+pack number place index = number * 2 ^ 24 + place * 2 ^ 16 + index
+
+module _ (n p i : ℕ) (h : p < 256) (g : i < 65536) where
+  number-back : numberIn (pack n p i) ≡ n
+  unfolding pack
+  number-back = omega arith
+
+  place-back : placeIn (pack n p i) ≡ p
+  unfolding pack
+  place-back = omega arith
+
+  index-back : indexIn (pack n p i) ≡ i
+  unfolding pack
+  index-back = omega arith
+
+  pack-low : n < 256 → pack n p i < 2 ^ 32
+  unfolding pack
+  pack-low l = omega arith
+
+-- a place has a number and an index that read as it
+record Numbered (w : Where) : Type 0 where
+  place : ℕ
+  index : ℕ
+  few : place < 256
+  fits : index < 65536
+  reads : placeOf place index ≡ w
+
+numbered : {bs : List ℕ} → Bytes bs → (w : Where) → Placed bs w → Numbered w
+unfolding placeOf places Placed
+numbered b card h = record { place = 0; index = 0; few = omega arith; fits = omega arith; reads = refl }
+numbered b (node i) h = record { place = 1; index = i; few = omega arith; fits = omega (arith, b .byte 5, b .byte 6); reads = refl }
+numbered b (rule i) h = record { place = 2; index = i; few = omega arith; fits = omega (arith, b .byte 3); reads = refl }
+numbered b (line i) h = record { place = 3; index = i; few = omega arith; fits = omega (arith, b .byte 4); reads = refl }
+numbered b sheet h = record { place = 4; index = 0; few = omega arith; fits = omega arith; reads = refl }
+numbered b steps h = record { place = 5; index = 0; few = omega arith; fits = omega arith; reads = refl }
+numbered b (mark i) h = record { place = 6; index = i; few = omega arith; fits = omega (arith, b .byte 4); reads = refl }
+
+-- an outcome's number has 32 bits and reads as it
 module _ {A : Type 0} (fine : ℕ → A) (refusal : ℕ → Where → A) where
-  fine-back : (k : ℕ) → k < 65536 → saidBy fine refusal (pack 0 0 k) ≡ fine k
-  unfolding saidBy
-  fine-back k h =
-      ap (λ (n : ℕ). cond (eqb n 0) (fine (indexIn (pack 0 0 k))) (refusal n (placeOf (placeIn (pack 0 0 k)) (indexIn (pack 0 0 k)))))
-      (number-back 0 0 k (omega arith) h)
-      ∙ ap fine (index-back 0 0 k h)
+  fine-back : (k : ℕ) → k < 65536 → (r : ℕ) × (r < 2 ^ 32) × (saidBy fine refusal r ≡ fine k)
+  fine-back k h = (k, omega arith, said-fine fine refusal k (omega arith, omega arith, omega arith))
 
-  said-back : (n : ℕ) (w : Where) → 1 ≤ n → placeIndex w < 65536 → saidBy fine refusal (packRefusal n w) ≡ refusal n w
-  unfolding saidBy
-  said-back n w h i =
-      let r = refusal-back n w i in
-      ap₂ (λ (m : ℕ) (x : Where). cond (eqb m 0) (fine (indexIn (packRefusal n w))) (refusal m x)) (r .0) (r .1)
-      ∙ rw (ne-eqb n 0 (λ z. omega arith)) refl
+  refused-back : {bs : List ℕ} → Bytes bs → (n : ℕ) (w : Where) → Placed bs w → 1 ≤ n → n < 256
+      → (r : ℕ) × (r < 2 ^ 32) × (saidBy fine refusal r ≡ refusal n w)
+  refused-back b n w p h g =
+      let x = numbered b w p in
+      let q : ℕ = x .place in
+      let i : ℕ = x .index in
+      let few : q < 256 = x .few in
+      let fits : i < 65536 = x .fits in (
+        pack n q i,
+        pack-low n q i few fits g,
+        said-refused fine refusal (pack n q i) h
+            (number-back n q i few fits, ap₂ placeOf (place-back n q i few fits) (index-back n q i few fits) ∙ x .reads),
+      )
 
--- THEOREM. A planner's decision is read back from its number.
-pub plan-back : {bs old new : List ℕ} {v : PlanVerdict} → Bytes bs → PlanDecided bs old new v → planIn (packPlan v) ≡ v
-unfolding packPlan planIn
+-- THEOREM. A planner's decision has a number that reads as it.
+pub plan-back : {bs old new : List ℕ} {v : PlanVerdict} → Bytes bs → PlanDecided bs old new v → (r : ℕ) × (r < 2 ^ 32) × (planIn r ≡ v)
+unfolding planIn
 plan-back b (is-planned {k} h) = fine-back planned refused k (omega (arith, b .byte 10))
-plan-back b (is-refused {n} {w} h p e) = said-back planned refused n w (h .0) (index-few b w p)
+plan-back b (is-refused {n} {w} h p e) = refused-back planned refused b n w p (h .0) (omega (arith, h .1))
 
--- THEOREM. A reader's decision is read back from its number.
-pub read-back : {bs : List ℕ} {v : ReadVerdict} → Bytes bs → ReadDecided bs v → readIn (packRead v) ≡ v
-unfolding packRead readIn
+-- THEOREM. A reader's decision has a number that reads as it.
+pub read-back : {bs : List ℕ} {v : ReadVerdict} → Bytes bs → ReadDecided bs v → (r : ℕ) × (r < 2 ^ 32) × (readIn r ≡ v)
+unfolding readIn
 read-back b (is-accepted {k} h) = fine-back accepted not-accepted k (omega (arith, b .byte 10))
 read-back b (is-not-accepted {n} {w} h p) =
-    said-back accepted not-accepted n w (⊎-elim (λ q. q .0) (λ q. omega (arith, q .0)) h) (index-few b w p)
+    refused-back accepted not-accepted b n w p (⊎-elim (λ q. q .0) (λ q. omega (arith, q .0)) h)
+    (⊎-elim (λ q. omega (arith, q .1)) (λ q. omega (arith, q .1)) h)
 
--- THEOREM. No two decisions share a number, whatever the cards.
-pub plan-numbers-apart : {bs old new bs′ old′ new′ : List ℕ} {v u : PlanVerdict} → Bytes bs → Bytes bs′ → PlanDecided bs old new v
-    → PlanDecided bs′ old′ new′ u → packPlan v ≡ packPlan u → v ≡ u
-plan-numbers-apart b c p q e = sym (plan-back b p) ∙ ap planIn e ∙ plan-back c q
+-- a refusal's number is not 0
+plan-refused : {bs old new : List ℕ} {n : ℕ} {w : Where} → PlanDecided bs old new (refused n w) → 1 ≤ n
+plan-refused (is-refused h p e) = h .0
 
-pub read-numbers-apart : {bs bs′ : List ℕ} {v u : ReadVerdict} → Bytes bs → Bytes bs′ → ReadDecided bs v → ReadDecided bs′ u
-    → packRead v ≡ packRead u → v ≡ u
-read-numbers-apart b c p q e = sym (read-back b p) ∙ ap readIn e ∙ read-back c q
+read-refused : {bs : List ℕ} {n : ℕ} {w : Where} → ReadDecided bs (not-accepted n w) → 1 ≤ n
+read-refused (is-not-accepted h p) = ⊎-elim (λ q. q .0) (λ q. omega (arith, q .0)) h
 
 -- a planner's answer that is known, told as the number r
-module _ {bs old new : List ℕ} {r : ℕ} (b : Bytes bs) (a : Answer) (p : Planning bs old (toldPlan a) new) where
-  tells-plan : r ≡ packPlan (toldPlan a) → Planning bs old (planIn r) new
-  tells-plan e = subst (λ (v : PlanVerdict). Planning bs old v new) (sym (ap planIn e ∙ plan-back b (plan-decided p))) p
+module _ {bs old new : List ℕ} (r : ℕ) (a : Answer) (p : Planning bs old (toldPlan a) new) where
+  tells-plan : planIn r ≡ toldPlan a → Planning bs old (planIn r) new
+  tells-plan e = subst (λ (v : PlanVerdict). Planning bs old v new) (sym e) p
 
-  pub tells-planned : {k : ℕ} → a ≡ Planned k → r ≡ pack 0 0 k → Planning bs old (planIn r) new
-  unfolding toldPlan packPlan
-  tells-planned e h = tells-plan (h ∙ ap (λ (x : Answer). packPlan (toldPlan x)) (sym e))
+  pub tells-planned : {k : ℕ} → a ≡ Planned k → (numberIn r ≡ 0) × (placeIn r ≡ 0) × (indexIn r ≡ k) → Planning bs old (planIn r) new
+  unfolding toldPlan planIn
+  tells-planned e h = tells-plan (said-fine planned refused r h ∙ ap toldPlan (sym e))
 
-  pub tells-refused : {f : Refusal} → a ≡ Refused f → r ≡ packRefusal (f .number) (whereOf (f .place)) → Planning bs old (planIn r) new
-  unfolding toldPlan packPlan
-  tells-refused e h = tells-plan (h ∙ ap (λ (x : Answer). packPlan (toldPlan x)) (sym e))
+  pub tells-refused : {f : Refusal} → a ≡ Refused f
+      → (numberIn r ≡ f .number) × (placeOf (placeIn r) (indexIn r) ≡ whereOf (f .place)) → Planning bs old (planIn r) new
+  unfolding toldPlan planIn
+  tells-refused e h =
+      let d = plan-refused (subst (λ (x : Answer). PlanDecided bs old new (toldPlan x)) e (plan-decided p)) in
+      tells-plan (said-refused planned refused r d h ∙ ap toldPlan (sym e))
 
 -- a reader's answer that is known, told as the number r: what holds of the answer holds of what r reads as
-module _ {bs sh : List ℕ} {r : ℕ} (b : Bytes bs) (a : ReadAnswer) (p : Reading bs sh (toldRead a)) (x : AcceptsExactly bs sh (toldRead a))
-  where
-    tells-read : r ≡ packRead (toldRead a) → Reading bs sh (readIn r) × AcceptsExactly bs sh (readIn r)
-    tells-read e =
-        subst (λ (v : ReadVerdict). Reading bs sh v × AcceptsExactly bs sh v) (sym (ap readIn e ∙ read-back b (read-decided p))) (p, x)
+module _ {bs sh : List ℕ} (r : ℕ) (a : ReadAnswer) (p : Reading bs sh (toldRead a)) (x : AcceptsExactly bs sh (toldRead a)) where
+  tells-read : readIn r ≡ toldRead a → Reading bs sh (readIn r) × AcceptsExactly bs sh (readIn r)
+  tells-read e = subst (λ (v : ReadVerdict). Reading bs sh v × AcceptsExactly bs sh v) (sym e) (p, x)
 
-    pub tells-accepted : {k : ℕ} → a ≡ Accepted k → r ≡ pack 0 0 k → Reading bs sh (readIn r) × AcceptsExactly bs sh (readIn r)
-    unfolding toldRead packRead
-    tells-accepted e h = tells-read (h ∙ ap (λ (y : ReadAnswer). packRead (toldRead y)) (sym e))
+  pub tells-accepted : {k : ℕ} → a ≡ Accepted k → (numberIn r ≡ 0) × (placeIn r ≡ 0) × (indexIn r ≡ k)
+      → Reading bs sh (readIn r) × AcceptsExactly bs sh (readIn r)
+  unfolding toldRead readIn
+  tells-accepted e h = tells-read (said-fine accepted not-accepted r h ∙ ap toldRead (sym e))
 
-    pub tells-not-accepted : {f : Refusal} → a ≡ NotAccepted f → r ≡ packRefusal (f .number) (whereOf (f .place))
-        → Reading bs sh (readIn r) × AcceptsExactly bs sh (readIn r)
-    unfolding toldRead packRead
-    tells-not-accepted e h = tells-read (h ∙ ap (λ (y : ReadAnswer). packRead (toldRead y)) (sym e))
+  pub tells-not-accepted : {f : Refusal} → a ≡ NotAccepted f
+      → (numberIn r ≡ f .number) × (placeOf (placeIn r) (indexIn r) ≡ whereOf (f .place))
+      → Reading bs sh (readIn r) × AcceptsExactly bs sh (readIn r)
+  unfolding toldRead readIn
+  tells-not-accepted e h =
+      let d = read-refused (subst (λ (y : ReadAnswer). ReadDecided bs (toldRead y)) e (read-decided p)) in
+      tells-read (said-refused accepted not-accepted r d h ∙ ap toldRead (sym e))

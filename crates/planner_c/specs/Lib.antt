@@ -1,3 +1,2 @@
--- What a reader must believe of the calls for C; apart from it, Inner.
+-- What a reader must believe of the calls for C.
 pub mod Numbers
-pub mod Inner

@@ -5,17 +5,19 @@ ghost use mathlib.Core.Path.{_≡_};
 ghost use Rattle.card.specs.Verdict.{whereOf};
 ghost use Rattle.planner.specs.Plan.{Planning};
 ghost use Rattle.reader.specs.Read.{Reading, AcceptsExactly};
-ghost use Rattle.planner_c.specs.Numbers.{planIn, readIn};
-ghost use Rattle.planner_c.specs.Inner.Pack.{pack, packRefusal};
+ghost use Rattle.planner_c.specs.Numbers.{numberIn, placeIn, indexIn, placeOf, Plain, planIn, readIn};
 
+// The three parts of a number.
 fn packed(number: u8, place: u8, index: u16) -> u32
-    ensures { λ r. ⌜ r ≡ pack number place index ⌝ }
+    ensures { λ r. ⌜ (numberIn r ≡ number) × (placeIn r ≡ place) × (indexIn r ≡ index) ⌝ }
 {
     number as u32 * 16777216 + place as u32 * 65536 + index as u32
 }
 
+// A refusal, each place with its number and index.
 fn packed_refusal(refusal: Refusal) -> u32
-    ensures { λ r. ⌜ r ≡ packRefusal (refusal .number) (whereOf (refusal .place)) ⌝ }
+    ensures { λ r. ⌜ (numberIn r ≡ refusal .number) × (placeOf (placeIn r) (indexIn r) ≡ whereOf (refusal .place)) ⌝ }
+    ensures { λ r. ⌜ Plain r ⌝ }
 {
     let n = refusal.number;
     let place = refusal.place;
@@ -34,6 +36,7 @@ fn packed_refusal(refusal: Refusal) -> u32
 #[no_mangle]
 pub extern "C" fn kit_plan(card: &[u8], sheet: &mut [u8]) -> u32
     ensures { λ r. ⌜ Planning (now (card .entry)) (now (sheet .entry)) (planIn r) (now (sheet .exit)) ⌝ }
+    ensures { λ r. ⌜ Plain r ⌝ }
 {
     let answer = planner::plan(card, sheet);
     match answer {
@@ -47,6 +50,7 @@ pub extern "C" fn kit_plan(card: &[u8], sheet: &mut [u8]) -> u32
 pub extern "C" fn kit_read(card: &[u8], sheet: &[u8]) -> u32
     ensures { λ r. ⌜ Reading (now (card .entry)) (now (sheet .entry)) (readIn r) ⌝ }
     ensures { λ r. ⌜ AcceptsExactly (now (card .entry)) (now (sheet .entry)) (readIn r) ⌝ }
+    ensures { λ r. ⌜ Plain r ⌝ }
 {
     let answer = reader::read(card, sheet);
     match answer {

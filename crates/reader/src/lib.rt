@@ -3,10 +3,8 @@ use card::Checked;
 use card::Place;
 use card::Refusal;
 use card::format::byte;
-use search::follow::Followed;
+use trace::Followed;
 ghost use mathlib.Core.Path.{_≡_};
-ghost use Prim.Native.Nat.{_+_, _≤_};
-ghost use lib.ListN.{length, take, drop};
 ghost use Rattle.card.specs.Fault.{Sound};
 ghost use Rattle.card.specs.Verdict.{sound, told};
 ghost use Rattle.sheet.specs.Front.{sheetFault};
@@ -29,38 +27,21 @@ fn answered(found: Checked, k: u8) -> Answer
     }
 }
 
-// The sheet's k steps, as the first of the tape; what stands behind them there is free, and of it only the number of places is promised.
-fn copy_steps(sheet: &[u8], k: usize, tape: &mut [u8; 255])
-    requires { ⌜ 5 + k ≤ length (now sheet) ⌝ }
-    requires { ⌜ k ≤ 255 ⌝ }
-    requires { ⌜ length (now tape) ≡ 255 ⌝ }
-    ensures { λ _. ⌜ take k (now (tape .exit)) ≡ take k (drop 5 (now (sheet .entry))) ⌝ }
-    ensures { λ _. ⌜ length (now (tape .exit)) ≡ 255 ⌝ }
-{
-    let mut i = 0;
-    while i < k {
-        tape[i] = sheet[5 + i];
-        i += 1;
-    }
-}
-
-// 13 and 14.
+// 13 and 14. The steps are read where they stand in the sheet.
 fn read_steps(card: &[u8], sheet: &[u8]) -> Answer
     requires { ⌜ Sound (now card) ⌝ }
     requires { ⌜ sheetFault (now card) (now sheet) ≡ sound ⌝ }
     ensures { λ r. ⌜ Reading (now (card .entry)) (now (sheet .entry)) (toldRead r) ⌝ }
 {
     let k = byte(sheet, 3);
-    let mut tape = [0u8; 255];
-    copy_steps(sheet, k, &mut tape);
-    let Followed::Listed = search::follow::follows(card, &mut tape, k) else {
+    let Followed::Listed = trace::follows(card, &sheet[5..], k) else {
         return Answer::Refused(Refusal {
             number: 13,
             place: Place::Steps,
         });
     };
     let start = 5 + k;
-    let marks = sheet::marks_check(card, &tape, k, &sheet[start..]);
+    let marks = sheet::marks_check(card, &sheet[5..], k, &sheet[start..]);
     let Checked::Sound = marks else {
         return answered(marks, 0);
     };

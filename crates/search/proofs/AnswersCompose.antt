@@ -12,6 +12,7 @@ use borrow.Author.Tests.{le-leb, lt-leb, leb-true, leb-false}
 use Rattle.calculus.specs.Formula.{Goal, tensor, with, residual}
 use Rattle.calculus.specs.Items.{Items, ∅, _∪_, _∖_, only}
 use Rattle.calculus.specs.Derivation.{Scope, clauseAt, linearAt}
+use Rattle.calculus.specs.Inner.Summary.{spare}
 use Rattle.calculus.specs.Inner.Window.{tensor-strict, tensor-lax, with-strict, with-lax}
 use Rattle.lines.specs.declared.LineSet.{LineSet}
 use Rattle.lines.specs.Inner.Set.{emptyS, addS, takeS, cutS, joinS}
@@ -22,8 +23,9 @@ use Rattle.search.specs.declared.walk.Walked.{Walked}
 use Rattle.search.specs.declared.walk.Walked.the-variants.{Solved, Stuck}
 use Rattle.search.specs.Inner.Walk.{State, Outcome, solved, stuck, moved, holding, walk, go, after-left, after-use, after-lend, spent}
 use Rattle.search.specs.Inner.Walk.{spending}
-use Rattle.search.specs.Inner.Values.{items, stateOf, found, reached, pastTensorB, pastWithB, deeperB, behindW, withoutW, Kept, Walks}
-use Rattle.search.proofs.BranchesAreStates.{items-empty, items-join, items-cut, items-add, items-take}
+use Rattle.scope.specs.Inner.Sets.{items}
+use Rattle.search.specs.Inner.Values.{stateOf, found, reached, pastTensorB, pastWithB, deeperB, behindW, withoutW, Kept, Walks}
+use Rattle.scope.proofs.SetsAreItems.{items-empty, items-join, items-cut, items-add, items-take}
 
 -- what is kept stays kept over two calls, and a shorter beginning of it
 pub kept-trans : {n m : ℕ} {xs ys zs : List ℕ} → n ≤ m → Kept n xs ys → Kept m ys zs → Kept n xs zs
@@ -218,26 +220,28 @@ after-lent {g} {b} {b′} {tape} {tape₂} {r = r} ea ec h kn kh p = record {
 }
 
 -- the items of the branches behind a left part
-pub tensor-strict-items : (P : ℕ) (v : Bool) (s t : LineSet) → items P (cond v emptyS (cutS s t)) ≡ tensor-strict v (items P s) (items P t)
-unfolding tensor-strict
-tensor-strict-items P true s t = items-empty P
-tensor-strict-items P false s t = items-cut P s t
+module _ (es : Scope) (P : ℕ) where
+  pub tensor-strict-items : (v : Bool) (s t : LineSet)
+      → items P (cond v emptyS (cutS s t)) ≡ tensor-strict (spare es v) (items P s) (items P t)
+  unfolding tensor-strict spare ∅
+  tensor-strict-items true s t = items-empty P
+  tensor-strict-items false s t = items-cut P s t
 
-pub tensor-lax-items : (P : ℕ) (v : Bool) (s l t : LineSet)
-    → items P (cond v (cutS (joinS s l) t) (cutS l t)) ≡ tensor-lax v (items P s) (items P l) (items P t)
-unfolding tensor-lax
-tensor-lax-items P true s l t = items-cut P (joinS s l) t ∙ ap (λ I. I ∖ items P t) (items-join P s l)
-tensor-lax-items P false s l t = items-cut P l t
+  pub tensor-lax-items : (v : Bool) (s l t : LineSet)
+      → items P (cond v (cutS (joinS s l) t) (cutS l t)) ≡ tensor-lax (spare es v) (items P s) (items P l) (items P t)
+  unfolding tensor-lax spare
+  tensor-lax-items true s l t = items-cut P (joinS s l) t ∙ ap (λ I. I ∖ items P t) (items-join P s l)
+  tensor-lax-items false s l t = items-cut P l t
 
-pub with-strict-items : (P : ℕ) (v : Bool) (s t : LineSet) → items P (cond v (joinS s t) t) ≡ with-strict v (items P s) (items P t)
-unfolding with-strict
-with-strict-items P true s t = items-join P s t
-with-strict-items P false s t = refl
+  pub with-strict-items : (v : Bool) (s t : LineSet) → items P (cond v (joinS s t) t) ≡ with-strict (spare es v) (items P s) (items P t)
+  unfolding with-strict spare
+  with-strict-items true s t = items-join P s t
+  with-strict-items false s t = refl
 
-pub with-lax-items : (P : ℕ) (v : Bool) (l t : LineSet) → items P (cond v (cutS l t) emptyS) ≡ with-lax v (items P l) (items P t)
-unfolding with-lax
-with-lax-items P true l t = items-cut P l t
-with-lax-items P false l t = items-empty P
+  pub with-lax-items : (v : Bool) (l t : LineSet) → items P (cond v (cutS l t) emptyS) ≡ with-lax (spare es v) (items P l) (items P t)
+  unfolding with-lax spare ∅
+  with-lax-items true l t = items-cut P l t
+  with-lax-items false l t = items-empty P
 
 pub spent-items : (es : Scope) (P e : ℕ) (s : LineSet) → linearAt es e ≡ leb P e
     → items P (cond (leb P e) (takeS s (e - P)) s) ≡ spent es e (items P s)

@@ -1,83 +1,20 @@
--- Laws of branches: the items of a line set, and where a branch stands in the walk.
-use Prim.Native.Nat.{ℕ, zero, suc, _+_, _-_, _≤_, _<_, min}
+-- Laws of branches: where a branch stands in the walk.
+use Prim.Native.Nat.{ℕ, _+_, _-_, _≤_}
 use native.Mathlib.Omega.{arith}
-use native.Mathlib.Nat.{eq-or-lt-of-le}
-use native.Mathlib.Decide.{ℕ-discrete}
-use mathlib.Core.Path.{_≡_, refl, sym, _∙_, ap, ap₂, fun-ext}
-use mathlib.Core.Logic.{⊎-elim}
-use mathlib.Core.Bool.{Bool, true, false, not, cond, _&&_, _||_}
-use mathlib.Core.List.{List, [], _∷_, _++_}
+use mathlib.Core.Path.{_≡_, refl, sym, _∙_, ap, ap₂}
+use mathlib.Core.Bool.{Bool, true, false, cond}
+use mathlib.Core.List.{List, _++_}
 use lib.ListN.{length, take, drop, take-append-drop}
 use lib.Seq.{slice, take-take, drop-drop, length-slice}
-use lib.Dec.{leb, ltb, eqb}
-use borrow.Author.Tests.{le-leb, lt-leb, leb-true, leb-false, eq-eqb, ne-eqb, eqb-true, eqb-false}
-use Rattle.calculus.specs.Items.{Items, ∅, _∪_, _∖_, only}
-use Rattle.lines.specs.declared.LineSet.{LineSet}
-use Rattle.lines.specs.Inner.Set.{member, isEmptyS, emptyS, addS, takeS, cutS, joinS}
-use Rattle.lines.proofs.MemberLaws.{member-empty, member-join, member-cut, member-add, member-take}
+use lib.Dec.{leb}
+use borrow.Author.Tests.{le-leb, lt-leb, leb-true, leb-false}
+use Rattle.calculus.specs.Items.{Items, ∅, _∪_}
+use Rattle.scope.proofs.SetsAreItems.{items-empty, items-join}
 use Rattle.search.specs.declared.walk.Given.{Given}
 use Rattle.search.specs.declared.walk.Branch.{Branch}
 use Rattle.search.specs.Inner.Walk.{State, moved, holding}
-use Rattle.search.specs.Inner.Values.{items, stateOf, openedB, Kept}
-
--- items P of the set operations
-pub items-empty : (P : ℕ) → items P emptyS ≡ ∅
-unfolding items ∅
-items-empty P = fun-ext (λ e. simp member-empty (none (leb P e)))
-  where
-    none : (b : Bool) → (b && false) ≡ false
-    none true = refl
-    none false = refl
-
-pub items-join : (P : ℕ) (s t : LineSet) → items P (joinS s t) ≡ items P s ∪ items P t
-unfolding items _∪_
-items-join P s t = fun-ext (λ e. simp member-join (law (leb P e) (member s (e - P)) (member t (e - P))))
-  where
-    law : (b c d : Bool) → (b && (c || d)) ≡ ((b && c) || (b && d))
-    law true c d = refl
-    law false c d = refl
-
-pub items-cut : (P : ℕ) (s t : LineSet) → items P (cutS s t) ≡ items P s ∖ items P t
-unfolding items _∖_
-items-cut P s t = fun-ext (λ e. simp member-cut (law (leb P e) (member s (e - P)) (member t (e - P))))
-  where
-    law : (b c d : Bool) → (b && (c && not d)) ≡ ((b && c) && not (b && d))
-    law true c d = refl
-    law false c d = refl
-
--- an entry from P on is told by its item
-same-item : (P e x : ℕ) → P ≤ e → (leb P x && eqb (x - P) (e - P)) ≡ eqb x e
-same-item P e x h = at (leb P x) refl
-  where
-    at : (b : Bool) → leb P x ≡ b → (b && eqb (x - P) (e - P)) ≡ eqb x e
-    at false p = let l = leb-false P x p in sym (ne-eqb x e (omega arith))
-    at true p = elim (ℕ-discrete x e) [
-      | yes q ↦ (let l = leb-true P x p in eq-eqb (x - P) (e - P) (omega arith) ∙ sym (eq-eqb x e q))
-      | no q ↦ (let l = leb-true P x p in ne-eqb (x - P) (e - P) (λ r. q (omega arith)) ∙ sym (ne-eqb x e q))
-    ]
-
-pub items-add : (P : ℕ) (s : LineSet) (e : ℕ) → P ≤ e → e - P < 192 → items P (addS s (e - P)) ≡ items P s ∪ only e
-unfolding items _∪_ only
-items-add P s e h k =
-    fun-ext (λ x. rw (member-add s (e - P) (x - P) k)
-    (law (leb P x) (eqb (x - P) (e - P)) (member s (x - P)) ∙ ap (λ b. (leb P x && member s (x - P)) || b) (same-item P e x h)))
-  where
-    law : (b c d : Bool) → (b && (c || d)) ≡ ((b && d) || (b && c))
-    law true true true = refl
-    law true true false = refl
-    law true false true = refl
-    law true false false = refl
-    law false c d = refl
-
-pub items-take : (P : ℕ) (s : LineSet) (e : ℕ) → P ≤ e → items P (takeS s (e - P)) ≡ items P s ∖ only e
-unfolding items _∖_ only
-items-take P s e h =
-    fun-ext (λ x. rw (member-take s (e - P) (x - P))
-    (law (leb P x) (eqb (x - P) (e - P)) (member s (x - P)) ∙ ap (λ b. (leb P x && member s (x - P)) && not b) (same-item P e x h)))
-  where
-    law : (b c d : Bool) → (b && (d && not c)) ≡ ((b && d) && not (b && c))
-    law true c d = refl
-    law false c d = refl
+use Rattle.scope.specs.Inner.Sets.{items}
+use Rattle.search.specs.Inner.Values.{stateOf, openedB, Kept}
 
 -- a branch with other items in the same place
 pub opened-state : (g : Given) (b : Branch) (tape : List ℕ)

@@ -9,10 +9,10 @@ use lib.ListN.{length, getD, take, drop, set, length-set}
 use lib.Seq.{slice, slice-empty, slice-cons, getD-set-same}
 use lib.Dec.{leb}
 use borrow.Author.Tests.{le-leb, lt-leb, leb-true, leb-false}
-use Rattle.calculus.specs.Formula.{Goal, Clause, atomᴳ, topᴳ, oneᴳ, tensor, with, lolliᴳ, head, residual}
+use Rattle.calculus.specs.Formula.{Goal, Clause, atomᴳ, topᴳ, oneᴳ, tensor, with, lolliᴳ}
 use Rattle.calculus.specs.Items.{Items, ∅, _∪_, _∖_, only, Within}
-use Rattle.calculus.specs.Derivation.{Scope, clauseAt, linearAt, lend}
-use Rattle.calculus.specs.Inner.Summary.{Bounded}
+use Rattle.calculus.specs.Derivation.{Scope, size, lend}
+use Rattle.calculus.specs.Inner.Summary.{spare, Bounded}
 use Rattle.calculus.proofs.SummaryExact.{bounded-within}
 use Rattle.calculus.specs.Inner.Window.{tensor-strict, tensor-lax, with-strict, with-lax}
 use Rattle.calculus.proofs.WindowExact.{tensor-bound, with-bound, bounded-⊸, bounded-item, find}
@@ -28,12 +28,14 @@ use Rattle.search.specs.declared.walk.Walked.{Walked}
 use Rattle.search.specs.declared.walk.Walked.the-variants.{Solved, Stuck}
 use Rattle.search.specs.Inner.Walk.{State, Outcome, solved, stuck, moved, holding, vacant, walk, resolve, choose, taken, dead}
 use Rattle.search.specs.Inner.Walk.{after-left, after-use, after-lend, spent}
-use Rattle.search.specs.Inner.Entries.{Entered, scopeIn, eligibleBy, headCode}
-use Rattle.search.specs.Inner.Values.{items, stateOf, found, reached, openedB, pastTensorB, pastWithB, lentB, deeperB, closedW}
+use Rattle.search.specs.Inner.Entries.{Entered, scopeIn, eligibleBy, HeadCode}
+use Rattle.scope.specs.Inner.Sets.{items}
+use Rattle.search.specs.Inner.Values.{stateOf, found, reached, openedB, pastTensorB, pastWithB, lentB, deeperB, closedW}
 use Rattle.search.specs.Inner.Values.{coveredW, Ready, Kept, Walks, useWalk, pick, choiceOf, CanUse}
 use Rattle.search.proofs.WalkFindsLeast.{walk-solved}
 use Rattle.search.proofs.TablesAreScopes.{scope-len, scope-clause, scope-linear, scope-kept, lend-scope, entered-more, entered-kept}
-use Rattle.search.proofs.BranchesAreStates.{items-empty, items-join, items-add, opened-state, past-state}
+use Rattle.scope.proofs.SetsAreItems.{items-empty, items-join, items-add}
+use Rattle.search.proofs.BranchesAreStates.{opened-state, past-state}
 use Rattle.search.proofs.AnswersCompose.{kept-self, kept-set, joined, behind, without, onward, same-place, same-outcome, after-step}
 use Rattle.search.proofs.AnswersCompose.{after-lent}
 use Rattle.search.proofs.AnswersCompose.{tensor-strict-items, tensor-lax-items, with-strict-items, with-lax-items, spent-items}
@@ -113,11 +115,11 @@ module _ {bs twins tape nodes heads : List ℕ} {g : Given} {b : Branch} (R : Re
     ready-tensor p =
         ready-next (pastTensorB b w) tape₁ nodes₁ heads₁ (p .before .size ∙ R .tape-room) refl (p .bounded) (p .node-kept) (p .head-kept)
         (rw (
-          tensor-strict-items (g .rules) (w .slack) (b .strict) (w .used),
-          tensor-lax-items (g .rules) (w .slack) (b .strict) (b .lax)
+          tensor-strict-items es (g .rules) (w .slack) (b .strict) (w .used),
+          tensor-lax-items es (g .rules) (w .slack) (b .strict) (b .lax)
               (w .used),
         )
-        (bounded-within (tensor-bound (w .slack) S L (items (g .rules) (w .used))) (R .bounded)))
+        (bounded-within (tensor-bound (spare es (w .slack)) S L (items (g .rules) (w .used))) (R .bounded)))
 
     -- the right part of a &
     pub ready-with : (G : Goal) → Walks g b tape tape₁ nodes nodes₁ heads heads₁ (walk el (b .depth) G es (stateOf g b tape)) (Solved w)
@@ -125,8 +127,9 @@ module _ {bs twins tape nodes heads : List ℕ} {g : Given} {b : Branch} (R : Re
     unfolding pastWithB reached found stateOf
     ready-with G p =
         ready-next (pastWithB b w) tape₁ nodes₁ heads₁ (p .before .size ∙ R .tape-room) refl (p .bounded) (p .node-kept) (p .head-kept)
-        (rw (with-strict-items (g .rules) (w .slack) (b .strict) (w .used), with-lax-items (g .rules) (w .slack) (b .lax) (w .used))
-        (bounded-within (with-bound (w .slack) S L (find (R .bounded) .0 (walk-solved el (R .bounded) (sym (p .outcome)) .found) .1))
+        (rw (with-strict-items es (g .rules) (w .slack) (b .strict) (w .used), with-lax-items es (g .rules) (w .slack) (b .lax) (w .used))
+        (bounded-within
+        (with-bound (spare es (w .slack)) S L (find (R .bounded) .0 (walk-solved el (R .bounded) (sym (p .outcome)) .found) .1))
         (R .bounded)))
 
     -- the state behind a left part
@@ -169,11 +172,11 @@ module _ {bs twins tape nodes heads : List ℕ} {g : Given} {b : Branch} (R : Re
         count-eq = past-count b w
 
         moved-on : stateOf g (pastTensorB b w) tape₁
-            ≡ moved (stateOf g b tape) l (tensor-strict (w .slack) (stateOf g b tape .strict) U)
-            (tensor-lax (w .slack) (stateOf g b tape .strict) (stateOf g b tape .lax) U)
+            ≡ moved (stateOf g b tape) l (tensor-strict (spare es (w .slack)) (stateOf g b tape .strict) U)
+            (tensor-lax (spare es (w .slack)) (stateOf g b tape .strict) (stateOf g b tape .lax) U)
         moved-on = past (openedB b) (pastTensorB b w) refl at-eq p
-            (tensor-strict-items (g .rules) (w .slack) (b .strict) (w .used))
-            (tensor-lax-items (g .rules) (w .slack) (b .strict) (b .lax) (w .used))
+            (tensor-strict-items es (g .rules) (w .slack) (b .strict) (w .used))
+            (tensor-lax-items es (g .rules) (w .slack) (b .strict) (b .lax) (w .used))
 
     pub with-right : (G H : Goal) {tape₂ nodes₂ heads₂ : List ℕ} {r : Walked}
         → Walks g b tape tape₁ nodes nodes₁ heads heads₁ (walk el (b .depth) G es (stateOf g b tape)) (Solved w)
@@ -201,11 +204,11 @@ module _ {bs twins tape nodes heads : List ℕ} {g : Given} {b : Branch} (R : Re
         count-eq = past-with-count b w
 
         moved-on : stateOf g (pastWithB b w) tape₁
-            ≡ moved (stateOf g b tape) l (with-strict (w .slack) (stateOf g b tape .strict) U)
-            (with-lax (w .slack) (stateOf g b tape .lax) U)
+            ≡ moved (stateOf g b tape) l (with-strict (spare es (w .slack)) (stateOf g b tape .strict) U)
+            (with-lax (spare es (w .slack)) (stateOf g b tape .lax) U)
         moved-on = past b (pastWithB b w) refl at-eq p
-            (with-strict-items (g .rules) (w .slack) (b .strict) (w .used))
-            (with-lax-items (g .rules) (w .slack) (b .lax) (w .used))
+            (with-strict-items es (g .rules) (w .slack) (b .strict) (w .used))
+            (with-lax-items es (g .rules) (w .slack) (b .lax) (w .used))
 
   module _ {tape₁ nodes₁ heads₁ : List ℕ} {p : ℕ} where
     pub tensor-left : (G H : Goal)
@@ -250,7 +253,7 @@ module _ {bs twins tape nodes heads : List ℕ} {g : Given} {b : Branch} (R : Re
       left-in : Within S (S ∪ L)
       left-in = ∪-left S L
 
-      at : (c : Bool) → vacant (length es) S ≡ c
+      at : (c : Bool) → vacant (size es) S ≡ c
           → Walks g b tape tape nodes nodes heads heads (walk el (b .depth) oneᴳ es (stateOf g b tape))
           (cond c (Solved (record { at = b .at; used = emptyS; slack = false })) (Stuck (b .at)))
       at true e = spot (Solved (record { at = b .at; used = emptyS; slack = false })) refl
@@ -260,12 +263,12 @@ module _ {bs twins tape nodes heads : List ℕ} {g : Given} {b : Branch} (R : Re
           spot (Stuck (b .at)) refl (ap stuck (slice-empty (b .at) tape) ∙ sym (one-walk el (b .depth) es (stateOf g b tape) false e))
 
   -- the goal of a ⊸
-  module _ (c : ℕ) (room : b .count < ruleCount bs + 168) (cl : clausePart bs (nodeCount bs) c ≡ true) where
+  module _ (c : ℕ) (room : b .count < ruleCount bs + 168) (cl : clausePart bs (nodeCount bs) c ≡ true) {k : ℕ} (hd : HeadCode bs c k) where
     abbrev nodes⁺ : List ℕ
     nodes⁺ = set nodes (b .count) c
 
     abbrev heads⁺ : List ℕ
-    heads⁺ = set heads (b .count) (headCode (head (clauseOf bs c)))
+    heads⁺ = set heads (b .count) k
 
     abbrev lent : Branch
     lent = lentB b (b .count - g .rules)
@@ -289,7 +292,7 @@ module _ {bs twins tape nodes heads : List ℕ} {g : Given} {b : Branch} (R : Re
       lines = R .lines;
       twin-room = R .twin-room;
       tape-room = R .tape-room;
-      entered = rw add-one (entered-more c (R .entered) few cl);
+      entered = rw add-one (entered-more c (R .entered) few cl hd);
       scoped = let s = R .scoped in omega arith;
       few = omega arith;
       at = R .at;
@@ -313,7 +316,7 @@ module _ {bs twins tape nodes heads : List ℕ} {g : Given} {b : Branch} (R : Re
         ∙ sym (lend-walk el (b .depth) (clauseOf bs c) G es (stateOf g b tape)))
         (after-lent refl refl (let s = R .scoped in let r = R .rules in omega arith)
         (kept-set (b .count) (b .count) nodes c (omega arith))
-        (kept-set (b .count) (b .count) heads (headCode (head (clauseOf bs c))) (omega arith)) p)
+        (kept-set (b .count) (b .count) heads k (omega arith)) p)
 
   -- a name, by what is chosen there
   module _ (a : ℕ) where

@@ -4,15 +4,15 @@ use Prim.Native.Nat.{ℕ, suc, _+_, _-_, _*_, _≤_, _<_}
 use native.Mathlib.Omega.{arith}
 use mathlib.Core.Path.{_≡_, refl, sym, _∙_, ap, ap₂, subst}
 use mathlib.Core.Logic.{⊎-elim}
-use mathlib.Core.Bool.{Bool, true, false, not, cond, _&&_, _||_}
+use mathlib.Core.Bool.{Bool, true, false, not, cond, _&&_, _||_, false≢true}
 use mathlib.Core.List.{List, [], _∷_, _++_}
 use lib.ListN.{length, getD, take, set, length-set}
 use lib.Seq.{slice, slice-cons, slice-empty, getD-set-same}
 use native.Mathlib.Numerals.{add-one}
 use borrow.Author.Tests.{leb-true, leb-false}
 use lib.Dec.{leb}
-use Rattle.calculus.specs.Formula.{Goal, Clause, atomᴳ, topᴳ, oneᴳ, tensor, with, lolliᴳ, lolliᴰ, atomᴰ, topᴰ, head, residual, fits}
-use Rattle.calculus.specs.Formula.{matched}
+use Rattle.calculus.specs.Formula.{Goal, Clause, atomᴳ, topᴳ, oneᴳ, tensor, with, lolliᴳ, lolliᴰ, atomᴰ, topᴰ, Fits, residual}
+use Rattle.calculus.specs.Formula.{matched, usable}
 use Rattle.calculus.specs.Items.{Items, _∪_, _∖_, only}
 use Rattle.calculus.specs.Derivation.{Scope, clauseAt, linearAt}
 use Rattle.calculus.specs.Inner.Summary.{Bounded}
@@ -21,7 +21,7 @@ use Rattle.card.proofs.FrontChecked.{both-left}
 use Rattle.card.proofs.CardChecked.{sound-front}
 use Rattle.card.specs.Format.{ruleCount, nodeCount, kindAt, leftAt, rightAt}
 use Rattle.card.specs.Fault.{Sound, goalPart, clausePart, heightAt}
-use Rattle.card.specs.Decode.{goalAt, clauseOf}
+use Rattle.card.specs.Decode.{goalAt, clauseOf, scopeOf}
 use Rattle.card.proofs.NodesDecoded.{reads-name, reads-rest, reads-done}
 use Rattle.lines.specs.Inner.Set.{Words, joinS}
 use Rattle.search.specs.declared.walk.Given.{Given}
@@ -29,22 +29,22 @@ use Rattle.search.specs.declared.walk.Branch.{Branch}
 use Rattle.search.specs.declared.walk.Way.{Way}
 use Rattle.search.specs.declared.walk.Walked.{Walked}
 use Rattle.search.specs.declared.walk.Walked.the-variants.{Solved, Stuck}
-use mathlib.Core.Option.{none}
 use Rattle.search.specs.declared.walk.Choice.{Choice}
 use Rattle.search.specs.declared.walk.Choice.the-variants.{Taken, Dead}
-use Rattle.search.specs.Inner.Walk.{Outcome, headFits, usable, moved, spent, walk, resolve, after-use, taken, dead}
-use Rattle.search.specs.Inner.Entries.{scopeIn, eligibleBy, headCode}
-use Rattle.search.specs.Inner.Values.{items, stateOf, reached, openedB, pastTensorB, pastWithB, lentB, deeperB, closedW, coveredW}
+use Rattle.search.specs.Inner.Walk.{Outcome, takable, moved, spent, walk, resolve, after-use, taken, dead}
+use Rattle.search.specs.Inner.Entries.{scopeIn, eligibleBy, Headed}
+use Rattle.scope.specs.Inner.Sets.{items}
+use Rattle.search.specs.Inner.Values.{stateOf, reached, openedB, pastTensorB, pastWithB, lentB, deeperB, closedW, coveredW}
 use Rattle.search.specs.Inner.Values.{andThenW, besideW, behindW, withoutW}
 use Rattle.search.specs.Inner.Values.{Ready, GoalReady, ClauseReady, Kept, Walks, goalWalk, clauseWalk, useWalk, pick, choiceOf}
-use Rattle.search.specs.Inner.Values.{CanUse, IsDead, Chose, usableAt}
+use Rattle.search.specs.Inner.Values.{CanUse, IsDead, Chose, takableAt}
 use Rattle.card.proofs.SoundNodes.{goal-lower, goal-kind, goal-above, clause-lower, clause-above, clause-kind, node-here, height-low}
 use Rattle.card.proofs.SoundNodes.{height-pos, height-parts, parts-below, both-parts, either-parts, lend-parts, recipe-parts, sound-both}
-use Rattle.card.proofs.SoundNodes.{sound-either, sound-lend, sound-recipe, head-name, head-rest, head-recipe, name-low}
+use Rattle.card.proofs.SoundNodes.{sound-either, sound-lend, sound-recipe, usable-rest, usable-recipe, name-low}
 use Rattle.search.proofs.AnswersCompose.{joined, without, behind, same-outcome, after-step, given-kept, kept-self, kept-set}
 use Rattle.search.proofs.AnswersCompose.{spent-items}
 use Rattle.search.proofs.BranchesAreStates.{past-state}
-use Rattle.search.proofs.TablesAreScopes.{scope-clause, scope-linear, scope-past}
+use Rattle.search.proofs.TablesAreScopes.{scope-usable, scope-residual, scope-linear, scope-past}
 use Rattle.search.proofs.CallsAreReady.{ready-next, ready-opened, ready-tensor, ready-with, ready-lent, tensor-left, tensor-right}
 use Rattle.search.proofs.CallsAreReady.{with-left}
 use Rattle.search.proofs.CallsAreReady.{with-right, covered, closed, lend-done, atom-dead, atom-used}
@@ -71,17 +71,13 @@ pub without-solved : (item : ℕ) (w x : Way) (r : Walked) → r ≡ Solved w �
 unfolding without
 without-solved item w x r e f = rw (e, f) refl
 
-met-name : (x name : ℕ) → headFits (head (atomᴰ x)) name ≡ true → residual name (atomᴰ x) ≡ oneᴳ
-unfolding headFits head residual matched
-met-name x name e = rw e refl
+met-name : (fits : Fits) (x name : ℕ) → usable fits name (atomᴰ x) ≡ true → residual fits name (atomᴰ x) ≡ oneᴳ
+unfolding usable residual matched
+met-name fits x name e = rw e refl
 
-no-head-fits : (name : ℕ) → headFits none name ≡ true → ⊥
-unfolding headFits
-no-head-fits name e = let z : _≡_ {A = ℕ} 0 1 = cc in omega arith
-
-no-entry : (name : ℕ) → headFits (head topᴰ) name ≡ true → ⊥
-unfolding head
-no-entry name e = no-head-fits name e
+no-entry : (fits : Fits) (name : ℕ) → usable fits name topᴰ ≡ true → ⊥
+unfolding usable
+no-entry fits name e = false≢true e
 
 -- items that are still at hand once an entry is used are in scope
 bounded-spent : (es : Scope) (S L : Items) (e : ℕ) → Bounded es (S ∪ L) → Bounded es (spent es e S ∪ spent es e L)
@@ -101,18 +97,16 @@ unfolding behind
 behind-solved P e w x r q f = rw (q, f) refl
 
 -- a clause that is no recipe and whose head fits is a name that is met
-met-at-head : (bs : List ℕ) (name node : ℕ) → clausePart bs (nodeCount bs) node ≡ true → headFits (head (clauseOf bs node)) name ≡ true
-    → (kindAt bs node ≡ 7 → ⊥) → residual name (clauseOf bs node) ≡ oneᴳ
-met-at-head bs name node c h n = ⊎-elim
+met-at-head : (bs : List ℕ) (fits : Fits) (name node : ℕ) → clausePart bs (nodeCount bs) node ≡ true
+    → usable fits name (clauseOf bs node) ≡ true
+    → (kindAt bs node ≡ 7 → ⊥) → residual fits name (clauseOf bs node) ≡ oneᴳ
+met-at-head bs fits name node c h n = ⊎-elim
     (λ k. met (leftAt bs node) (clauseOf bs node) (reads-name bs node k .1) h)
-    (⊎-elim (λ k. absurd (no-head (head-rest bs node k))) (λ k. absurd (n k)))
+    (⊎-elim (λ k. absurd (false≢true (sym (usable-rest bs node k fits name) ∙ h))) (λ k. absurd (n k)))
     (clause-kind bs (nodeCount bs) node c)
   where
-    met : (x : ℕ) (D : Clause) → D ≡ atomᴰ x → headFits (head D) name ≡ true → residual name D ≡ oneᴳ
-    met x D e f = rw e (met-name x name (rw e at f))
-
-    no-head : head (clauseOf bs node) ≡ none → ⊥
-    no-head e = no-head-fits name (ap (λ o. headFits o name) (sym e) ∙ h)
+    met : (x : ℕ) (D : Clause) → D ≡ atomᴰ x → usable fits name D ≡ true → residual fits name D ≡ oneᴳ
+    met x D e f = rw e (met-name fits x name (rw e at f))
 
 module _ {bs twins tape nodes heads : List ℕ} {g : Given} {b : Branch} (R : Ready bs twins tape nodes heads g b) where
   pub rules-below : g .rules ≤ b .count
@@ -266,17 +260,17 @@ module _ {bs twins tape nodes heads : List ℕ} {g : Given} {b : Branch} (R : Re
           (sym (sound-lend (R .sound) node below kind))
 
       module _ (c : ℕ) (ec : c ≡ leftAt bs node) {nodes₁ heads₁ : List ℕ} (en : nodes₁ ≡ set nodes (b .count) c)
-          (eh : heads₁ ≡ set heads (b .count) (headCode (head (clauseOf bs c)))) (b₁ : Branch)
+          (hd : Headed bs heads heads₁ (b .count) c) (b₁ : Branch)
           (eb : b₁ ≡ lentB b (b .count - g .rules)) where
         clause-c : clausePart bs (nodeCount bs) c ≡ true
         clause-c = rw ec lent-clause
 
         pub lend-call : (t : ℕ) → weight g b + 4 * node + 2 ≡ t → (r : ℕ) → r ≡ rightAt bs node
             → (weight g b₁ + 4 * r + 3 < t) × (Ready bs twins tape nodes₁ heads₁ g b₁ × GoalReady bs g r b₁)
-        lend-call t m r er = rw (eb, er, en, eh) (
+        lend-call t m r er = rw (eb, er, en, hd .written) (
           let low = lower-6 in omega arith,
           (
-            ready-lent R c lend-room clause-c,
+            ready-lent R c lend-room clause-c (hd .is-head),
             record {
               goal =
                   goal-above bs node (rightAt bs node) (nodeCount bs) (let l = below in omega arith)
@@ -293,7 +287,7 @@ module _ {bs twins tape nodes heads : List ℕ} {g : Given} {b : Branch} (R : Re
         lend-returned r er r₁ X =
             same-outcome (ap (λ d. walk (eligibleBy bs twins) (b .depth) (lolliᴳ (clauseOf bs d) (goalAt bs (rightAt bs node)))
             (scopeIn bs nodes (b .count)) (stateOf g b tape)) ec ∙ as-lend)
-            (lend-done R c lend-room clause-c (goalAt bs (rightAt bs node)) (rw (eb, er, en, eh) at X))
+            (lend-done R c lend-room clause-c (hd .is-head) (goalAt bs (rightAt bs node)) (rw (eb, er, en, hd .written) at X))
 
     module _ (kind : kindAt bs node ≡ 1) where
       pub name-small : (name : ℕ) → name ≡ leftAt bs node → name ≤ 999
@@ -373,19 +367,21 @@ module _ {bs twins tape nodes heads : List ℕ} {g : Given} {b : Branch} (R : Re
         (same-outcome (ap (λ G. walk (eligibleBy bs twins) (b .depth) G (scopeIn bs nodes (b .count)) (stateOf g b tape)) (sym one))
         (closed R w))
       where
-        one : residual name (clauseOf bs node) ≡ oneᴳ
-        one = met-at-head bs name node (Q .clause) (Q .head) n
+        one : residual (scopeOf bs .fits) name (clauseOf bs node) ≡ oneᴳ
+        one = met-at-head bs (scopeOf bs .fits) name node (Q .clause) (Q .head) n
 
     module _ (kind : kindAt bs node ≡ 7) where
       lower-7 : (leftAt bs node < node) × (rightAt bs node < node)
       lower-7 = parts-below (R .sound) node below-c (omega arith)
 
-      as-row : walk (eligibleBy bs twins) (b .depth) (tensor (residual name (clauseOf bs (rightAt bs node))) (goalAt bs (leftAt bs node)))
+      as-row : walk (eligibleBy bs twins) (b .depth)
+          (tensor (residual (scopeOf bs .fits) name (clauseOf bs (rightAt bs node))) (goalAt bs (leftAt bs node)))
           (scopeIn bs nodes (b .count)) (stateOf g b tape)
           ≡ clauseWalk bs twins tape nodes g name node b
       unfolding clauseWalk residual
       as-row =
-          ap (λ D. walk (eligibleBy bs twins) (b .depth) (residual name D) (scopeIn bs nodes (b .count)) (stateOf g b tape))
+          ap (λ D. walk (eligibleBy bs twins) (b .depth) (residual (scopeOf bs .fits) name D) (scopeIn bs nodes (b .count))
+          (stateOf g b tape))
           (sym (sound-recipe (R .sound) node below-c kind))
 
       pub row-call-1 : (t : ℕ) → weight g b + 4 * node + 2 ≡ t → (r : ℕ) → r ≡ rightAt bs node → (b₁ : Branch) → b₁ ≡ openedB b
@@ -398,7 +394,7 @@ module _ {bs twins tape nodes heads : List ℕ} {g : Given} {b : Branch} (R : Re
             clause =
                 clause-above bs node (rightAt bs node) (nodeCount bs) (let l = below-c in omega arith)
                 (recipe-parts (R .sound) node below-c kind .1);
-            head = ap (λ h. headFits h name) (sym (head-recipe (R .sound) node below-c kind)) ∙ Q .head;
+            head = sym (usable-recipe (R .sound) node below-c kind (scopeOf bs .fits) name) ∙ Q .head;
             deep = Q .deep;
           },
         ),
@@ -410,7 +406,8 @@ module _ {bs twins tape nodes heads : List ℕ} {g : Given} {b : Branch} (R : Re
             (clauseWalk bs twins tape nodes g name node b) r₁
         unfolding clauseWalk
         row-return-1 p e = rw e
-            (same-outcome as-row (tensor-left R (residual name (clauseOf bs (rightAt bs node))) (goalAt bs (leftAt bs node))
+            (same-outcome as-row
+            (tensor-left R (residual (scopeOf bs .fits) name (clauseOf bs (rightAt bs node))) (goalAt bs (leftAt bs node))
             (rw (eb, er, e) at W)))
 
         module _ (w : Way) (e : r₁ ≡ Solved w) where
@@ -445,24 +442,25 @@ module _ {bs twins tape nodes heads : List ℕ} {g : Given} {b : Branch} (R : Re
           unfolding goalWalk clauseWalk pastTensorB
           row-joined l el b₂ eb₂ r₂ X =
               same-outcome as-row
-              (tensor-right R (residual name (clauseOf bs (rightAt bs node))) (goalAt bs (leftAt bs node)) first-7 (rw (eb₂, el) at X))
+              (tensor-right R (residual (scopeOf bs .fits) name (clauseOf bs (rightAt bs node))) (goalAt bs (leftAt bs node)) first-7
+              (rw (eb₂, el) at X))
 
   -- the use of an entry
   module _ (name e : ℕ) (u : CanUse bs twins tape nodes g name b e) where
     abbrev es : Scope
     es = scopeIn bs nodes (b .count)
 
-    fitting : headFits (head (clauseAt es e)) name ≡ true
-    unfolding usableAt usable
-    fitting = both-left (headFits (head (clauseAt es e)) name) _ (u .usable)
+    fitting : usable (es .fits) name (clauseAt es e) ≡ true
+    unfolding takableAt takable
+    fitting = both-left (usable (es .fits) name (clauseAt es e)) _ (u .takable)
 
     pub use-within : e < b .count
     use-within = within (leb (b .count) e) refl
       where
         within : (c : Bool) → leb (b .count) e ≡ c → e < b .count
         within true q =
-            absurd (no-entry name (ap (λ D. headFits (head D) name) (sym (scope-past bs nodes (b .count) e (leb-true (b .count) e q)))
-            ∙ fitting))
+            absurd (no-entry (es .fits) name (ap (λ D. usable (es .fits) name D)
+            (sym (scope-past bs nodes (b .count) e (leb-true (b .count) e q))) ∙ fitting))
         within false q = leb-false (b .count) e q
 
     pub use-clause-node : clausePart bs (nodeCount bs) (getD nodes e 0) ≡ true
@@ -504,7 +502,7 @@ module _ {bs twins tape nodes heads : List ℕ} {g : Given} {b : Branch} (R : Re
               (let r = u .room in omega arith) (kept-self (b .count) nodes) (kept-self (b .count) heads) spent-bounded,
           record {
             clause = use-clause-node;
-            head = ap (λ D. headFits (head D) name) (sym (scope-clause bs nodes (b .count) e use-within)) ∙ fitting;
+            head = sym (scope-usable bs nodes (b .count) e use-within name) ∙ fitting;
             deep = let d = u .deep in omega arith;
           },
         ),
@@ -534,8 +532,8 @@ module _ {bs twins tape nodes heads : List ℕ} {g : Given} {b : Branch} (R : Re
       unfolding clauseWalk useWalk resolve stateOf deeperB
       use-returned r W =
           same-outcome
-          (ap₂ (λ D st. after-use es e (walk (eligibleBy bs twins) (b .depth - 1) (residual name D) es st))
-          (sym (scope-clause bs nodes (b .count) e use-within)) state-used)
+          (ap₂ (λ G st. after-use es e (walk (eligibleBy bs twins) (b .depth - 1) G es st))
+          (sym (scope-residual bs nodes (b .count) e use-within name)) state-used)
           (after-step es e linear (let w = use-within in let f = R .few in let r = R .rules in omega arith) (R .limit)
           (R .tape-room) step-room (u .kept)
           (rw eb at W))

@@ -1,7 +1,6 @@
 -- Theorems about the walk.
 pub mod WalkFindsLeast
 pub mod LoopKeepsAndEnds
-pub mod FollowsExactly
 pub mod TwinsLoseNothing
 pub mod TablesAreScopes
 pub mod BranchesAreStates
@@ -11,4 +10,3 @@ pub mod CallsAreReady
 pub mod CodeIsModel
 pub mod SeekFindsLeast
 pub mod LoopFindsFirstOfCard
-pub mod FollowTellsOfCard

@@ -24,8 +24,7 @@ use Rattle.card.proofs.FrontChecked.{both-right}
 use Rattle.card.proofs.FaultsInOrder.{not-applied}
 use Rattle.card.proofs.CardChecked.{sound-front, sound-line}
 use Rattle.lines.specs.declared.LineSet.{LineSet}
-use Rattle.lines.specs.Inner.Set.{member, emptyS, fullS, addS, cutS}
-use Rattle.lines.proofs.MemberLaws.{member-empty, member-full, member-add, member-cut}
+use Rattle.lines.specs.Inner.Set.{fullS, cutS}
 use Rattle.search.specs.declared.walk.Given.{Given}
 use Rattle.search.specs.declared.walk.Branch.{Branch}
 use Rattle.search.specs.declared.walk.Way.{Way}
@@ -34,8 +33,10 @@ use Rattle.search.specs.declared.walk.Walked.the-variants.{Solved, Stuck
 use Rattle.search.specs.Inner.Walk.{State, Outcome, solved, stuck, walk}
 use Rattle.search.specs.Inner.Twins.{eligible}
 use Rattle.search.specs.Inner.Entries.{Entered, Twinned, scopeIn, eligibleBy}
-use Rattle.search.specs.Inner.Values.{items, stateOf, found, reached, Ready, GoalReady, Walks, goalWalk}
-use Rattle.search.specs.Inner.Found.{FirstOn, strictBelow, strictOf, startB}
+use Rattle.scope.specs.Inner.Sets.{items, strictOf}
+use Rattle.scope.proofs.SetsAreItems.{strict-items, lax-items}
+use Rattle.search.specs.Inner.Values.{stateOf, found, reached, Ready, GoalReady, Walks, goalWalk}
+use Rattle.search.specs.Inner.Found.{FirstOn, startB}
 use Rattle.card.proofs.SoundNodes.{goal-lower, height-low, sound-root}
 use Rattle.search.proofs.TablesAreScopes.{eligible-twins, entered-kept, scope-kept}
 use Rattle.search.proofs.LoopKeepsAndEnds.{start, ByteSteps, rank, Good, Kept, rank-bound, kept-start, walk-rises, kept-none}
@@ -46,88 +47,11 @@ job-bounded : (bs : List ℕ) → Bounded (jobOf bs .scope) (linesWith bs 1 ∪ 
 unfolding jobOf
 job-bounded bs = lines-bounded bs
 
--- a sound card's must/may byte is 0 or 1
-byte-known : {bs : List ℕ} → Sound bs → (i : ℕ) → i < lineCount bs → lineByte bs i ≤ 1
-unfolding lineFault lineGood
-byte-known {bs} s i h =
-    leb-true (lineByte bs i) 1
-    (both-right (clausePart bs (nodeCount bs) (lineNode bs i)) (leb (lineByte bs i) 1)
-    (not-false _ (not-applied _ _ _ (sound-line bs s i h))))
-
-ltb-next : (i n : ℕ) → (i ≡ n → ⊥) → ltb i (suc n) ≡ ltb i n
-ltb-next i n d = at (ltb i n) refl
-  where
-    at : (c : Bool) → ltb i n ≡ c → ltb i (suc n) ≡ c
-    at true e = let h = ltb-true i n e in lt-ltb i (suc n) (omega arith)
-    at false e = let h = ltb-false i n e in le-ltb i (suc n) (omega arith)
-
--- the must lines among the first n
-strict-member : (bs : List ℕ) (n i : ℕ) → n ≤ 64 → member (strictBelow bs n) i ≡ (ltb i n && eqb (lineByte bs i) 1)
-unfolding strictBelow
-strict-member bs zero i h = member-empty i ∙ sym (rw (le-ltb i 0 (omega arith)) refl)
-strict-member bs (suc n) i h = at (strict-member bs n i (omega arith)) (eqb (lineByte bs n) 1) refl (ℕ-discrete i n)
-  where
-    at : member (strictBelow bs n) i ≡ (ltb i n && eqb (lineByte bs i) 1) → (c : Bool) → eqb (lineByte bs n) 1 ≡ c → Dec (i ≡ n)
-        → member (elim c as (λ x. LineSet) [ true ↦ addS (strictBelow bs n) n | false ↦ strictBelow bs n ]) i ≡
-        (ltb i (suc n) && eqb (lineByte bs i) 1)
-    at before true e (yes q) =
-        member-add (strictBelow bs n) n i (omega arith)
-        ∙ rw (eq-eqb i n q, lt-ltb i (suc n) (omega arith)) (sym (ap (λ k. eqb (lineByte bs k) 1) q ∙ e))
-    at before true e (no q) =
-        member-add (strictBelow bs n) n i (omega arith)
-        ∙ rw (ne-eqb i n q, ltb-next i n q) before
-    at before false e (yes q) =
-        before ∙ rw (le-ltb i n (omega arith), lt-ltb i (suc n) (omega arith)) (sym (ap (λ k. eqb (lineByte bs k) 1) q ∙ e))
-    at before false e (no q) = before ∙ rw (ltb-next i n q) refl
-
--- a line set whose members are the lines with a must/may byte
-lines-items : (bs : List ℕ) (s : LineSet) (b : ℕ) → ((i : ℕ) → member s i ≡ (ltb i (lineCount bs) && eqb (lineByte bs i) b))
-    → items (ruleCount bs) s ≡ linesWith bs b
-unfolding items linesWith
-lines-items bs s b h = fun-ext (λ e. rw (h (e - ruleCount bs)) (at e (leb (ruleCount bs) e) refl))
-  where
-    at : (e : ℕ) (c : Bool) → leb (ruleCount bs) e ≡ c
-        → (c && (ltb (e - ruleCount bs) (lineCount bs) && eqb (lineByte bs (e - ruleCount bs)) b))
-        ≡ (c && (ltb e (ruleCount bs + lineCount bs) && eqb (lineByte bs (e - ruleCount bs)) b))
-    at e false q = refl
-    at e true q = ap (λ d. d && eqb (lineByte bs (e - ruleCount bs)) b) (same (ltb (e - ruleCount bs) (lineCount bs)) refl)
-      where
-        same : (d : Bool) → ltb (e - ruleCount bs) (lineCount bs) ≡ d → ltb (e - ruleCount bs) (lineCount bs) ≡ ltb e
-            (ruleCount bs + lineCount bs)
-        same true f =
-            let l = leb-true (ruleCount bs) e q in let h = ltb-true (e - ruleCount bs) (lineCount bs) f in
-            f ∙ sym (lt-ltb e (ruleCount bs + lineCount bs) (omega arith))
-        same false f =
-            let l = leb-true (ruleCount bs) e q in let h = ltb-false (e - ruleCount bs) (lineCount bs) f in
-            f ∙ sym (le-ltb e (ruleCount bs + lineCount bs) (omega arith))
-
 -- where a walk of the job begins: the given steps, the floor behind them, and the room
 abbrev pub opening : Job → List ℕ → ℕ → ℕ → State
 opening j F f n = record { done = []; ahead = F; floor = f; strict = j .strict; lax = j .lax; room = n }
 
 module _ {bs : List ℕ} (s : Sound bs) where
-  lines-few : lineCount bs ≤ 64
-  lines-few = sound-front bs s .lines
-
-  pub strict-items : items (ruleCount bs) (strictOf bs) ≡ linesWith bs 1
-  unfolding strictOf
-  strict-items = lines-items bs (strictBelow bs (lineCount bs)) 1 (λ i. strict-member bs (lineCount bs) i lines-few)
-
-  pub lax-items : items (ruleCount bs) (cutS (fullS (lineCount bs)) (strictOf bs)) ≡ linesWith bs 0
-  unfolding strictOf
-  lax-items = lines-items bs (cutS (fullS (lineCount bs)) (strictBelow bs (lineCount bs))) 0
-      (λ i. member-cut (fullS (lineCount bs)) (strictBelow bs (lineCount bs)) i
-      ∙ rw (member-full (lineCount bs) i lines-few, strict-member bs (lineCount bs) i lines-few) (at i (ltb i (lineCount bs)) refl))
-    where
-      at : (i : ℕ) (c : Bool) → ltb i (lineCount bs) ≡ c
-          → (c && not (c && eqb (lineByte bs i) 1)) ≡ (c && eqb (lineByte bs i) 0)
-      at i false e = refl
-      at i true e = let k = byte-known s i (ltb-true i (lineCount bs) e) in other (lineByte bs i) k (ℕ-discrete (lineByte bs i) 1)
-        where
-          other : (x : ℕ) → x ≤ 1 → Dec (x ≡ 1) → not (eqb x 1) ≡ eqb x 0
-          other x h (yes q) = rw (eq-eqb x 1 q, ne-eqb x 0 (omega arith)) refl
-          other x h (no q) = rw (ne-eqb x 1 q, eq-eqb x 0 (omega arith)) refl
-
   -- the walk from the card's goal, in the model's terms
   module _ (g : Given) (rules : g .rules ≡ ruleCount bs) (tape nodes : List ℕ)
       (scope : scopeIn bs nodes (ruleCount bs + lineCount bs) ≡ jobOf bs .scope) where
@@ -137,8 +61,8 @@ module _ {bs : List ℕ} (s : Sound bs) where
       done = [];
       ahead = take (g .fixed) tape;
       floor = low i;
-      strict = (ap (λ p. items p (strictOf bs)) rules ∙ strict-items) i;
-      lax = (ap (λ p. items p (cutS (fullS (lineCount bs)) (strictOf bs))) rules ∙ lax-items) i;
+      strict = (ap (λ p. items p (strictOf bs)) rules ∙ strict-items s) i;
+      lax = (ap (λ p. items p (cutS (fullS (lineCount bs)) (strictOf bs))) rules ∙ lax-items s) i;
       room = room i;
     }
       where
@@ -172,11 +96,11 @@ module _ {bs : List ℕ} (s : Sound bs) where
       tape-room = size;
       entered = entered;
       scoped = omega arith;
-      few = let f = lines-few in omega arith;
+      few = let f = sound-front bs s .lines in omega arith;
       at = omega arith;
       limit = small;
       fixed = fixed;
-      bounded = rw (rules, strict-items, lax-items, scope) (job-bounded bs);
+      bounded = rw (rules, strict-items s, lax-items s, scope) (job-bounded bs);
     }
 
     pub start-goal : GoalReady bs g (goalNode bs) (startB bs)

@@ -6,22 +6,22 @@ use mathlib.Core.Path.{_≡_, refl, sym, _∙_, ap, ap₂}
 use mathlib.Core.Logic.{⊎-elim}
 use mathlib.Core.Bool.{Bool, true, false, not, cond, _&&_, _||_}
 use mathlib.Core.List.{List, [], _∷_, _++_}
-use lib.ListN.{length, getD, take, drop}
+use lib.ListN.{getD, take, drop}
 use lib.Seq.{slice, slice-empty}
 use lib.Dec.{leb}
 use borrow.Author.Tests.{le-leb, lt-leb, leb-true, leb-false}
-use Rattle.calculus.specs.Formula.{Goal, Clause, atomᴳ, topᴳ, oneᴳ, tensor, with, lolliᴳ, residual}
+use Rattle.calculus.specs.Formula.{Goal, Clause, atomᴳ, topᴳ, oneᴳ, tensor, with, lolliᴳ}
 use Rattle.calculus.specs.Items.{Items, ∅, _∪_, _∖_, only, Empty}
-use Rattle.calculus.specs.Derivation.{Scope, clauseAt, linearAt, lend}
+use Rattle.calculus.specs.Derivation.{Scope, size, lend}
 use Rattle.calculus.proofs.SetLaws.{not-true}
-use Rattle.calculus.specs.Inner.Summary.{Bounded}
+use Rattle.calculus.specs.Inner.Summary.{spare, Bounded}
 use Rattle.calculus.specs.Inner.Window.{tensor-strict, tensor-lax, with-strict, with-lax}
 use Rattle.lines.specs.declared.LineSet.{LineSet}
 use Rattle.lines.specs.Inner.Set.{member, isEmptyS, emptyS, Words}
 use Rattle.lines.proofs.MemberLaws.{empty-none, none-empty}
 use Rattle.search.specs.Inner.Walk.{State, Outcome, solved, stuck, moved, holding, vacant, walk, go, atomic, resolve, choose, Choice}
 use Rattle.search.specs.Inner.Walk.{taken, dead, after-left, after-lend}
-use Rattle.search.specs.Inner.Values.{items}
+use Rattle.scope.specs.Inner.Sets.{items}
 use Rattle.search.proofs.WalkFindsLeast.{vacant-empty, empty-vacant}
 
 module _ (el : List ℕ → ℕ → Bool) (n : ℕ) where
@@ -31,14 +31,15 @@ module _ (el : List ℕ → ℕ → Bool) (n : ℕ) where
       elim o [
         | stuck p ↦ stuck p
         | solved l U v ↦ after-left l U v _||_ (walk el n H es
-            (moved s l (tensor-strict v (s .strict) U) (tensor-lax v (s .strict) (s .lax) U)))
+            (moved s l (tensor-strict (spare es v) (s .strict) U) (tensor-lax (spare es v) (s .strict) (s .lax) U)))
       ]
 
   then-with : Goal → Scope → State → Outcome → Outcome
   then-with H es s o =
       elim o [
         | stuck p ↦ stuck p
-        | solved l U v ↦ after-left l U v _&&_ (walk el n H es (moved s l (with-strict v (s .strict) U) (with-lax v (s .lax) U)))
+        | solved l U v ↦ after-left l U v _&&_ (walk el n H es
+            (moved s l (with-strict (spare es v) (s .strict) U) (with-lax (spare es v) (s .lax) U)))
       ]
 
   module _ (G H : Goal) (es : Scope) (s : State) where
@@ -48,7 +49,8 @@ module _ (el : List ℕ → ℕ → Bool) (n : ℕ) where
 
     pub tensor-solved : {l : List ℕ} {U : Items} {v : Bool} → walk el n G es (holding s ∅ (s .strict ∪ s .lax)) ≡ solved l U v
         → walk el n (tensor G H) es s
-        ≡ after-left l U v _||_ (walk el n H es (moved s l (tensor-strict v (s .strict) U) (tensor-lax v (s .strict) (s .lax) U)))
+        ≡ after-left l U v _||_
+        (walk el n H es (moved s l (tensor-strict (spare es v) (s .strict) U) (tensor-lax (spare es v) (s .strict) (s .lax) U)))
     unfolding walk go then-tensor
     tensor-solved e = ap (then-tensor H es s) e
 
@@ -58,12 +60,12 @@ module _ (el : List ℕ → ℕ → Bool) (n : ℕ) where
 
     pub with-solved : {l : List ℕ} {U : Items} {v : Bool} → walk el n G es s ≡ solved l U v
         → walk el n (with G H) es s ≡ after-left l U v _&&_
-        (walk el n H es (moved s l (with-strict v (s .strict) U) (with-lax v (s .lax) U)))
+        (walk el n H es (moved s l (with-strict (spare es v) (s .strict) U) (with-lax (spare es v) (s .lax) U)))
     unfolding walk go then-with
     with-solved e = ap (then-with H es s) e
 
   pub lend-walk : (D : Clause) (G : Goal) (es : Scope) (s : State)
-      → walk el n (lolliᴳ D G) es s ≡ after-lend (length es) (walk el n G (lend es D) (holding s (s .strict ∪ only (length es)) (s .lax)))
+      → walk el n (lolliᴳ D G) es s ≡ after-lend (size es) (walk el n G (lend es D) (holding s (s .strict ∪ only (size es)) (s .lax)))
   unfolding walk go
   lend-walk D G es s = refl
 
@@ -71,7 +73,7 @@ module _ (el : List ℕ → ℕ → Bool) (n : ℕ) where
   unfolding walk go
   top-walk es s = refl
 
-  pub one-walk : (es : Scope) (s : State) (b : Bool) → vacant (length es) (s .strict) ≡ b
+  pub one-walk : (es : Scope) (s : State) (b : Bool) → vacant (size es) (s .strict) ≡ b
       → walk el n oneᴳ es s ≡ cond b (solved [] ∅ false) (stuck [])
   unfolding walk go
   one-walk es s true e = ap (λ c. elim c as (λ x. Outcome) [ true ↦ solved [] ∅ false | false ↦ stuck [] ]) e
@@ -109,11 +111,11 @@ items-none P s h = record { vacant = λ e. rw (h (e - P)) (no-more (leb P e)) }
     no-more false = refl
 
 -- the test of 1: no strict item is left
-pub empty-test : (P : ℕ) (s : LineSet) (es : Scope) → Words s → Bounded es (items P s) → vacant (length es) (items P s) ≡ isEmptyS s
-empty-test P s es w b = at (isEmptyS s) refl (vacant (length es) (items P s)) refl
+pub empty-test : (P : ℕ) (s : LineSet) (es : Scope) → Words s → Bounded es (items P s) → vacant (size es) (items P s) ≡ isEmptyS s
+empty-test P s es w b = at (isEmptyS s) refl (vacant (size es) (items P s)) refl
   where
-    at : (x : Bool) → isEmptyS s ≡ x → (y : Bool) → vacant (length es) (items P s) ≡ y → y ≡ x
+    at : (x : Bool) → isEmptyS s ≡ x → (y : Bool) → vacant (size es) (items P s) ≡ y → y ≡ x
     at true e true f = refl
     at false e false f = refl
-    at true e false f = sym f ∙ empty-vacant (length es) (items-none P s (empty-none s e))
+    at true e false f = sym f ∙ empty-vacant (size es) (items-none P s (empty-none s e))
     at false e true f = sym (none-empty w (λ i. sym (items-at P i s) ∙ vacant-empty b f .vacant (P + i))) ∙ e

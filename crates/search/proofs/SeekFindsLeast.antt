@@ -3,7 +3,6 @@ use Prim.Native.Nat.{ℕ, zero, suc, _+_, _-_, _<_, _≤_}
 use native.Mathlib.Numerals.{add-one}
 use native.Mathlib.Omega.{arith}
 use mathlib.Core.Path.{_≡_, refl, sym, _∙_, ap, ap₂}
-use mathlib.Core.Logic.{⊎-elim}
 use mathlib.Core.Bool.{Bool, true, false, not, cond, _&&_, _||_}
 use mathlib.Core.Option.{Option, none, some}
 use mathlib.Core.List.{List, [], _∷_}
@@ -11,22 +10,18 @@ use lib.ListN.{length, getD, take, drop-of-length-le}
 use lib.Seq.{slice, slice-empty, slice-cons, length-take-le}
 use lib.Dec.{leb, eqb}
 use borrow.Author.Tests.{le-leb, lt-leb, eq-eqb, ne-eqb}
-use Rattle.calculus.specs.Formula.{fits, head}
+use Rattle.calculus.specs.Formula.{usable}
 use Rattle.calculus.specs.Items.{_∪_}
-use Rattle.card.specs.Format.{nodeCount, rightAt}
-use Rattle.card.specs.Fault.{Sound, clausePart}
-use Rattle.card.specs.Decode.{clauseOf}
 use Rattle.search.specs.declared.walk.Given.{Given}
 use Rattle.search.specs.declared.walk.Branch.{Branch}
 use Rattle.search.specs.declared.walk.Choice.{Choice}
 use Rattle.search.specs.declared.walk.Choice.the-variants.{Taken, Dead}
 use Rattle.search.specs.declared.walk.Sought.the-variants.{At, Nothing}
-use Rattle.search.specs.Inner.Walk.{headFits, usable, seek, choose, chosen, taken, dead}
-use Rattle.search.specs.Inner.Entries.{headCode, scopeIn, eligibleBy}
-use Rattle.search.specs.Inner.Values.{items, stateOf, usableAt, soughtOf, choiceOf, pick, Chose, Ready}
-use Rattle.card.proofs.SoundNodes.{clause-lower, clause-kind, clause-above, parts-below, recipe-parts, name-low, head-recipe, head-name}
-use Rattle.card.proofs.SoundNodes.{head-rest}
-use Rattle.search.proofs.TablesAreScopes.{head-fits, scope-len, scope-clause, scope-linear, scope-past}
+use Rattle.search.specs.Inner.Walk.{takable, seek, choose, chosen, taken, dead}
+use Rattle.search.specs.Inner.Entries.{scopeIn, eligibleBy}
+use Rattle.scope.specs.Inner.Sets.{items}
+use Rattle.search.specs.Inner.Values.{stateOf, takableAt, soughtOf, choiceOf, pick, Chose, Ready}
+use Rattle.search.proofs.TablesAreScopes.{scope-len, scope-usable, scope-linear, scope-past}
 
 module _ (p : ℕ → Bool) where
   pub seek-taken : (k n : ℕ) → p k ≡ true → seek p k (suc n) ≡ some k
@@ -60,55 +55,40 @@ unfolding soughtOf
 entry-some none e q = absurd (let z : _≡_ {A = ℕ} 0 1 = cc in omega arith)
 entry-some (some k) e q = cc
 
--- A clause's head in two bytes
-pub head-low : {bs : List ℕ} → Sound bs → (n i : ℕ) → i < n → clausePart bs (nodeCount bs) i ≡ true → headCode (head (clauseOf bs i)) ≤ 1000
-unfolding headCode
-head-low s zero i h p = absurd (omega arith)
-head-low {bs} s (suc n) i h p =
-    let below = clause-lower bs (nodeCount bs) i p in
-    ⊎-elim (λ k. rw (head-name bs i k) (omega (arith, name-low s i below k)))
-    (⊎-elim (λ k. rw (head-rest bs i k) (omega arith))
-    (λ k.
-    rw (head-recipe s i below k)
-    (head-low s n (rightAt bs i) (omega (arith, parts-below s i below (omega arith) .1))
-    (clause-above bs i (rightAt bs i) (nodeCount bs) (omega arith) (recipe-parts s i below k .1)))))
-    (clause-kind bs (nodeCount bs) i p)
-
 -- The test of an entry
 module _ {bs twins tape nodes heads : List ℕ} {g : Given} {b : Branch} (R : Ready bs twins tape nodes heads g b) (name e : ℕ) where
   -- no entry stands past the scope
-  pub usable-past : b .count ≤ e → usableAt bs twins tape nodes g name b e ≡ false
-  unfolding usableAt usable headFits head
-  usable-past h = rw (scope-past bs nodes (b .count) e h) refl
+  pub takable-past : b .count ≤ e → takableAt bs twins tape nodes g name b e ≡ false
+  unfolding takableAt takable usable
+  takable-past h = rw (scope-past bs nodes (b .count) e h) refl
 
   module _ (small : name ≤ 999) (h : e < b .count) where
     hand : Bool
     hand = not (leb (g .rules) e) || (items (g .rules) (b .strict) ∪ items (g .rules) (b .lax)) e
 
     -- in the scope: the head of the table, at hand, and eligible
-    usable-at : usableAt bs twins tape nodes g name b e ≡ (eqb (getD heads e 0) name && (hand && eligibleBy bs twins (take (b .at) tape) e))
-    unfolding usableAt usable stateOf hand fits
-    usable-at =
+    takable-at : takableAt bs twins tape nodes g name b e
+        ≡ (eqb (getD heads e 0) name && (hand && eligibleBy bs twins (take (b .at) tape) e))
+    unfolding takableAt takable stateOf hand
+    takable-at =
         ap₂ (λ f l. f && ((not l || (items (g .rules) (b .strict) ∪ items (g .rules) (b .lax)) e) && eligibleBy bs twins
         (take (b .at) tape) e))
-        (ap (λ d. headFits (head d) name) (scope-clause bs nodes (b .count) e h)
-        ∙ head-fits (head (clauseOf bs (getD nodes e 0))) name small
-        ∙ ap (λ k. eqb k name) (sym (R .entered .headed e h)))
+        (scope-usable bs nodes (b .count) e h name ∙ sym (R .entered .headed e h .tells name small))
         (scope-linear bs nodes (b .count) e h ∙ ap (λ n. leb n e) (sym (R .rules)))
 
-    pub usable-other : (getD heads e 0 ≡ name → ⊥) → usableAt bs twins tape nodes g name b e ≡ false
-    usable-other k = usable-at ∙ rw (ne-eqb (getD heads e 0) name k) refl
+    pub takable-other : (getD heads e 0 ≡ name → ⊥) → takableAt bs twins tape nodes g name b e ≡ false
+    takable-other k = takable-at ∙ rw (ne-eqb (getD heads e 0) name k) refl
 
     module _ (k : getD heads e 0 ≡ name) where
-      pub usable-away : (not (leb (g .rules) e) || (items (g .rules) (b .strict) ∪ items (g .rules) (b .lax)) e) ≡ false
-          → usableAt bs twins tape nodes g name b e ≡ false
+      pub takable-away : (not (leb (g .rules) e) || (items (g .rules) (b .strict) ∪ items (g .rules) (b .lax)) e) ≡ false
+          → takableAt bs twins tape nodes g name b e ≡ false
       unfolding hand
-      usable-away p = usable-at ∙ rw (eq-eqb (getD heads e 0) name k, p) refl
+      takable-away p = takable-at ∙ rw (eq-eqb (getD heads e 0) name k, p) refl
 
-      pub usable-near : (not (leb (g .rules) e) || (items (g .rules) (b .strict) ∪ items (g .rules) (b .lax)) e) ≡ true
-          → usableAt bs twins tape nodes g name b e ≡ eligibleBy bs twins (take (b .at) tape) e
+      pub takable-near : (not (leb (g .rules) e) || (items (g .rules) (b .strict) ∪ items (g .rules) (b .lax)) e) ≡ true
+          → takableAt bs twins tape nodes g name b e ≡ eligibleBy bs twins (take (b .at) tape) e
       unfolding hand
-      usable-near p = usable-at ∙ rw (eq-eqb (getD heads e 0) name k, p) refl
+      takable-near p = takable-at ∙ rw (eq-eqb (getD heads e 0) name k, p) refl
 
 -- The choice at a name
 module _ (bs twins tape nodes : List ℕ) (g : Given) (name : ℕ) (b : Branch) where
@@ -125,9 +105,9 @@ module _ (bs twins tape nodes : List ℕ) (g : Given) (name : ℕ) (b : Branch) 
       -- a given step as it stands
       pub pick-given : b .at < g .fixed
           → pick bs twins tape nodes g name b
-          ≡ cond (usableAt bs twins tape nodes g name b (getD tape (b .at) 0)) (taken (getD tape (b .at) 0))
+          ≡ cond (takableAt bs twins tape nodes g name b (getD tape (b .at) 0)) (taken (getD tape (b .at) 0))
           (dead (getD tape (b .at) 0 ∷ []))
-      unfolding pick stateOf choose usableAt
+      unfolding pick stateOf choose takableAt
       pick-given h =
           rw (lt-leb (b .depth) 0 deep, lt-leb (g .limit) (b .at) room)
           (ap (choose (eligibleBy bs twins) (scopeIn bs nodes (b .count)) (stateOf g b tape) name)
@@ -135,13 +115,13 @@ module _ (bs twins tape nodes : List ℕ) (g : Given) (name : ℕ) (b : Branch) 
 
       -- else the least usable one
       pub pick-free : g .fixed ≤ b .at → (floor : ℕ) → floor ≡ cond (leb (b .at) (g .fixed)) (g .from) 0
-          → pick bs twins tape nodes g name b ≡ chosen (seek (usableAt bs twins tape nodes g name b) floor (b .count - floor))
-      unfolding pick stateOf choose usableAt
+          → pick bs twins tape nodes g name b ≡ chosen (seek (takableAt bs twins tape nodes g name b) floor (b .count - floor))
+      unfolding pick stateOf choose takableAt
       pick-free h floor f =
           rw (lt-leb (b .depth) 0 deep, lt-leb (g .limit) (b .at) room)
           (ap (choose (eligibleBy bs twins) (scopeIn bs nodes (b .count)) (stateOf g b tape) name)
           (drop-of-length-le (take (g .fixed) tape) {i = b .at} (omega (arith, length-take-le (g .fixed) tape known)))
-          ∙ ap₂ (λ n k. chosen (seek (usableAt bs twins tape nodes g name b) k (n - k))) (scope-len bs nodes (b .count)) (sym f))
+          ∙ ap₂ (λ n k. chosen (seek (takableAt bs twins tape nodes g name b) k (n - k))) (scope-len bs nodes (b .count)) (sym f))
 
 -- What the choice says, by how it came about
 module _ {bs twins tape nodes heads : List ℕ} {g : Given} {b : Branch} (R : Ready bs twins tape nodes heads g b) (name : ℕ) where
@@ -166,15 +146,15 @@ module _ {bs twins tape nodes heads : List ℕ} {g : Given} {b : Branch} (R : Re
       known = omega (arith, R .fixed, R .tape-room)
 
       module _ (h : b .at < g .fixed) (e : ℕ) (q : e ≡ getD tape (b .at) 0) where
-        given : pick bs twins tape nodes g name b ≡ cond (usableAt bs twins tape nodes g name b e) (taken e) (dead (e ∷ []))
+        given : pick bs twins tape nodes g name b ≡ cond (takableAt bs twins tape nodes g name b e) (taken e) (dead (e ∷ []))
         given = rw q (pick-given bs twins tape nodes g name b deep room known h)
 
         -- a given step that can be used
-        pub told-given : usableAt bs twins tape nodes g name b e ≡ true → Told (Taken e)
+        pub told-given : takableAt bs twins tape nodes g name b e ≡ true → Told (Taken e)
         unfolding choiceOf Chose
         told-given u = (
           sym (given ∙ ap (λ t. cond t (taken e) (dead (e ∷ []))) u),
-          record { deep = deep; room = room; usable = u; kept = λ k. sym q },
+          record { deep = deep; room = room; takable = u; kept = λ k. sym q },
         )
 
         step : slice (b .at) (b .at + 1) tape ≡ e ∷ []
@@ -184,7 +164,7 @@ module _ {bs twins tape nodes heads : List ℕ} {g : Given} {b : Branch} (R : Re
             ∙ ap (λ l. getD tape (b .at) 0 ∷ l) (slice-empty (suc (b .at)) tape))
 
         -- a given step that cannot
-        pub told-wrong : usableAt bs twins tape nodes g name b e ≡ false → Told (Dead (b .at + 1))
+        pub told-wrong : takableAt bs twins tape nodes g name b e ≡ false → Told (Dead (b .at + 1))
         unfolding choiceOf Chose
         told-wrong u = (
           ap dead step ∙ sym (given ∙ ap (λ t. cond t (taken e) (dead (e ∷ []))) u),
@@ -193,7 +173,7 @@ module _ {bs twins tape nodes heads : List ℕ} {g : Given} {b : Branch} (R : Re
 
       module _ (h : g .fixed ≤ b .at) (floor : ℕ) (f : floor ≡ cond (leb (b .at) (g .fixed)) (g .from) 0) where
         abbrev least : Option ℕ
-        least = seek (usableAt bs twins tape nodes g name b) floor (b .count - floor)
+        least = seek (takableAt bs twins tape nodes g name b) floor (b .count - floor)
 
         free : pick bs twins tape nodes g name b ≡ chosen least
         free = pick-free bs twins tape nodes g name b deep room known h floor f
@@ -207,7 +187,7 @@ module _ {bs twins tape nodes heads : List ℕ} {g : Given} {b : Branch} (R : Re
               record {
                 deep = deep;
                 room = room;
-                usable = seek-passes (usableAt bs twins tape nodes g name b) floor (b .count - floor) e q;
+                takable = seek-passes (takableAt bs twins tape nodes g name b) floor (b .count - floor) e q;
                 kept = λ k. absurd (omega arith);
               },
             )

@@ -8,22 +8,22 @@ use mathlib.Core.Logic.{⊎-elim}
 use mathlib.Core.Bool.{Bool, true, false, _||_}
 use mathlib.Core.Option.{Option, none, some}
 use mathlib.Core.List.{List, [], _∷_, _++_, append-assoc}
-use lib.ListN.{length, getD, take, set, length-set, List·getD-eq-default, List·getD-append}
+use lib.ListN.{length, getD, take, set, length-set, List·getD-append}
 use lib.Seq.{getD-take, getD-set-same, getD-set-other, take-set-le, take-suc-set, ext-getD, getD-append-add}
 use lib.Dec.{leb, ltb, eqb}
 use borrow.Author.Tests.{le-leb, lt-leb, leb-true, ltb-true, eq-eqb, ne-eqb}
-use Rattle.calculus.specs.Formula.{topᴰ, fits, head}
-use Rattle.calculus.specs.Derivation.{Entry, noEntry, clauseAt, linearAt, lend}
+use Rattle.calculus.specs.Formula.{Clause, Fits, topᴰ, residual, usable}
+use Rattle.calculus.specs.Derivation.{Entry, Scope, noEntry, size, entryAt, clauseAt, linearAt, residualAt, extend, lend}
 use Rattle.calculus.specs.Steps.{stands}
+use Rattle.calculus.proofs.RenamingKeeps.{entry-past}
 use Rattle.card.specs.Format.{ruleCount, lineCount, nodeCount, ruleNode, lineNode, listing}
 use Rattle.card.specs.Fault.{clausePart}
-use Rattle.card.specs.Decode.{clauseOf, ruleEntry, lineEntry, jobOf}
+use Rattle.card.specs.Decode.{clauseOf, ruleEntry, lineEntry, scopeOf, jobOf}
 use Rattle.card.proofs.FrontChecked.{both-left, both-right}
 use Rattle.card.proofs.TablesGrow.{length-listing, listing-at}
-use Rattle.card.proofs.NodesDecoded.{scope-length, rule-at, line-at}
-use Rattle.search.specs.Inner.Walk.{headFits}
+use Rattle.card.proofs.NodesDecoded.{scope-size, rule-at, line-at}
 use Rattle.search.specs.Inner.Twins.{twinOf, isLine, twinStands, eligible}
-use Rattle.search.specs.Inner.Entries.{headCode, scopeIn, Entered, twinCode, codeTwin, Twinned, eligibleBy}
+use Rattle.search.specs.Inner.Entries.{HeadCode, scopeIn, Entered, twinCode, codeTwin, Twinned, eligibleBy}
 
 -- Lists that agree before n agree at each index before n.
 pub cell-kept : (n : ℕ) (l m : List ℕ) → take n l ≡ take n m → (e : ℕ) → e < n → getD l e 0 ≡ getD m e 0
@@ -39,17 +39,21 @@ listed-more front f l k i h p =
 -- The scope
 
 -- the entry that the table has at e
-abbrev entryAt : List ℕ → List ℕ → ℕ → Entry
-entryAt bs nodes e = record { clause = clauseOf bs (getD nodes e 0); linear = leb (ruleCount bs) e }
+abbrev tableAt : List ℕ → List ℕ → ℕ → Entry
+tableAt bs nodes e = record { clause = clauseOf bs (getD nodes e 0); linear = leb (ruleCount bs) e }
 
 module _ (bs nodes : List ℕ) (n : ℕ) where
-  pub scope-len : length (scopeIn bs nodes n) ≡ n
-  unfolding scopeIn
+  pub scope-len : size (scopeIn bs nodes n) ≡ n
+  unfolding scopeIn size
   scope-len = length-listing _ n
 
+  pub scope-fits : scopeIn bs nodes n .fits ≡ scopeOf bs .fits
+  unfolding scopeIn
+  scope-fits = refl
+
   module _ (e : ℕ) where
-    scope-at : e < n → getD (scopeIn bs nodes n) e noEntry ≡ entryAt bs nodes e
-    unfolding scopeIn
+    scope-at : e < n → entryAt (scopeIn bs nodes n) e ≡ tableAt bs nodes e
+    unfolding scopeIn entryAt
     scope-at = listing-at _ n e noEntry
 
     pub scope-clause : e < n → clauseAt (scopeIn bs nodes n) e ≡ clauseOf bs (getD nodes e 0)
@@ -60,15 +64,30 @@ module _ (bs nodes : List ℕ) (n : ℕ) where
     unfolding linearAt
     scope-linear h = ap (λ x. x .linear) (scope-at h)
 
+    pub scope-usable : e < n → (a : ℕ) → usable (scopeIn bs nodes n .fits) a (clauseAt (scopeIn bs nodes n) e)
+        ≡ usable (scopeOf bs .fits) a (clauseOf bs (getD nodes e 0))
+    scope-usable h a = ap₂ (λ (t : Fits) (d : Clause). usable t a d) scope-fits (scope-clause h)
+
+    pub scope-residual : e < n → (a : ℕ) → residualAt (scopeIn bs nodes n) a e
+        ≡ residual (scopeOf bs .fits) a (clauseOf bs (getD nodes e 0))
+    unfolding residualAt
+    scope-residual h a = ap₂ (λ (t : Fits) (d : Clause). residual t a d) scope-fits (scope-clause h)
+
     pub scope-past : n ≤ e → clauseAt (scopeIn bs nodes n) e ≡ topᴰ
     unfolding clauseAt
-    scope-past h = ap (λ x. x .clause) (List·getD-eq-default (scopeIn bs nodes n) noEntry (omega (arith, scope-len)))
+    scope-past h = ap (λ x. x .clause) (entry-past (scopeIn bs nodes n) e (omega (arith, scope-len)))
+
+-- scopes with the same test and the same entries
+same-scope : (es fs : Scope) → es .fits ≡ fs .fits → size es ≡ size fs → ((e : ℕ) → e < size es → entryAt es e ≡ entryAt fs e) → es ≡ fs
+unfolding size entryAt
+same-scope es fs t n h = λ i. record { entries = ext-getD noEntry (es .entries) (fs .entries) n h i; fits = t i }
 
 -- the scope depends on the nodes in it alone
 pub scope-kept : (bs nodes nodes′ : List ℕ) (n : ℕ) → take n nodes ≡ take n nodes′ → scopeIn bs nodes n ≡ scopeIn bs nodes′ n
 scope-kept bs nodes nodes′ n p =
     let l = scope-len bs nodes n in
-    ext-getD noEntry (scopeIn bs nodes n) (scopeIn bs nodes′ n) (l ∙ sym (scope-len bs nodes′ n))
+    same-scope (scopeIn bs nodes n) (scopeIn bs nodes′ n) (scope-fits bs nodes n ∙ sym (scope-fits bs nodes′ n))
+    (l ∙ sym (scope-len bs nodes′ n))
     (λ e h.
     let k : e < n = omega arith in
     scope-at bs nodes n e k
@@ -78,9 +97,9 @@ scope-kept bs nodes nodes′ n p =
 -- a node that is put behind the scope is lent
 pub lend-scope : (bs nodes : List ℕ) (n c : ℕ) → n < length nodes → ruleCount bs ≤ n
     → scopeIn bs (set nodes n c) (suc n) ≡ lend (scopeIn bs nodes n) (clauseOf bs c)
-unfolding scopeIn listing lend
+unfolding scopeIn listing lend extend
 lend-scope bs nodes n c h k =
-    ap₂ (λ es x. es ++ (x ∷ []))
+    ap₂ (λ (es : Scope) (x : Entry). extend es x)
     (scope-kept bs (set nodes n c) nodes n (take-set-le n nodes n c (omega arith)))
     (ap₂ (λ d b. record { clause = clauseOf bs d; linear = b }) (getD-set-same nodes n c 0 h) (le-leb (ruleCount bs) n k))
 
@@ -108,27 +127,28 @@ module _ (bs nodes : List ℕ)
       ∙ ap (λ k. getD (rules ++ lines) (k + i) 0) (sym (length-listing (ruleNode bs) (ruleCount bs)))
       ∙ getD-append-add rules lines i 0 ∙ listing-at (lineNode bs) (lineCount bs) i 0 h
 
-  entry-at : (e : ℕ) → e < ruleCount bs + lineCount bs → entryAt bs nodes e ≡ getD (jobOf bs .scope) e noEntry
+  entry-at : (e : ℕ) → e < ruleCount bs + lineCount bs → tableAt bs nodes e ≡ entryAt (jobOf bs .scope) e
   unfolding ruleEntry lineEntry
   entry-at e h = go (decLt e (ruleCount bs))
     where
-      line : (i : ℕ) → e ≡ ruleCount bs + i → entryAt bs nodes e ≡ getD (jobOf bs .scope) e noEntry
+      line : (i : ℕ) → e ≡ ruleCount bs + i → tableAt bs nodes e ≡ entryAt (jobOf bs .scope) e
       line i p =
           let k : i < lineCount bs = omega arith in
           ap₂ (λ d b. record { clause = clauseOf bs d; linear = b })
           (ap (λ x. getD nodes x 0) p ∙ line-cell i k) (le-leb (ruleCount bs) e (omega arith))
-          ∙ sym (ap (λ x. getD (jobOf bs .scope) x noEntry) p ∙ line-at bs i k)
+          ∙ sym (ap (λ x. entryAt (jobOf bs .scope) x) p ∙ line-at bs i k)
 
-      go : Dec (e < ruleCount bs) → entryAt bs nodes e ≡ getD (jobOf bs .scope) e noEntry
+      go : Dec (e < ruleCount bs) → tableAt bs nodes e ≡ entryAt (jobOf bs .scope) e
       go (yes k) =
           ap₂ (λ d b. record { clause = clauseOf bs d; linear = b }) (rule-cell e k) (lt-leb (ruleCount bs) e k) ∙ sym (rule-at bs e k)
       go (no k) = line (e - ruleCount bs) (omega arith)
 
   pub job-scope : scopeIn bs nodes (ruleCount bs + lineCount bs) ≡ jobOf bs .scope
+  unfolding jobOf
   job-scope =
       let n = ruleCount bs + lineCount bs in
       let l = scope-len bs nodes n in
-      ext-getD noEntry (scopeIn bs nodes n) (jobOf bs .scope) (l ∙ sym (scope-length bs))
+      same-scope (scopeIn bs nodes n) (jobOf bs .scope) (scope-fits bs nodes n) (l ∙ sym (scope-size bs))
       (λ e h. let k : e < n = omega arith in scope-at bs nodes n e k ∙ entry-at e k)
 
 -- Entries
@@ -140,10 +160,9 @@ set-below : (l : List ℕ) (n c e : ℕ) → e < n → getD (set l n c) e 0 ≡ 
 set-below l n c e h = getD-set-other l n e c 0 (λ p. omega arith)
 
 -- an entry more: its node and its head
-pub entered-more : {bs nodes heads : List ℕ} {n : ℕ} (c : ℕ) → Entered bs nodes heads n → n < 256
-    → clausePart bs (nodeCount bs) c ≡ true → Entered bs (set nodes n c) (set heads n (headCode (head (clauseOf bs c)))) (suc n)
-entered-more {bs} {nodes} {heads} {n} c t l p =
-    let k = headCode (head (clauseOf bs c)) in
+pub entered-more : {bs nodes heads : List ℕ} {n : ℕ} (c : ℕ) {k : ℕ} → Entered bs nodes heads n → n < 256
+    → clausePart bs (nodeCount bs) c ≡ true → HeadCode bs c k → Entered bs (set nodes n c) (set heads n k) (suc n)
+entered-more {bs} {nodes} {heads} {n} c {k} t l p hd =
     let in-nodes : n < length nodes = omega (arith, t .node-room) in
     let in-heads : n < length heads = omega (arith, t .head-room) in
     record {
@@ -153,8 +172,8 @@ entered-more {bs} {nodes} {heads} {n} c t l p =
           ⊎-elim (λ q. rw (set-here nodes n c e q in-nodes) p) (λ q. rw (set-below nodes n c e q) (t .clauses e q))
           (eq-or-lt-of-le {n = e} {m = n} (omega arith));
       headed = λ e h.
-          ⊎-elim (λ q. rw (set-here nodes n c e q in-nodes) (set-here heads n k e q in-heads))
-          (λ q. rw (set-below nodes n c e q) (set-below heads n k e q ∙ t .headed e q))
+          ⊎-elim (λ q. rw (set-here nodes n c e q in-nodes, set-here heads n k e q in-heads) hd)
+          (λ q. rw (set-below nodes n c e q, set-below heads n k e q) (t .headed e q))
           (eq-or-lt-of-le {n = e} {m = n} (omega arith));
     }
 
@@ -181,12 +200,6 @@ entered-fewer m k t =
 pub entered-none : {bs nodes heads : List ℕ} → length nodes ≡ 256 → length heads ≡ 256 → Entered bs nodes heads 0
 entered-none ln lh =
     record { node-room = ln; head-room = lh; clauses = λ e h. absurd (omega arith); headed = λ e h. absurd (omega arith) }
-
--- a head's code fits a wanted name where the head does
-pub head-fits : (o : Option ℕ) (a : ℕ) → a ≤ 999 → headFits o a ≡ fits (headCode o) a
-unfolding headFits headCode fits
-head-fits none a h = sym (ne-eqb 1000 a (λ p. omega arith))
-head-fits (some b) a h = refl
 
 -- Twins
 
@@ -215,16 +228,6 @@ eligible-twins {bs} {tw} t = fun-ext (λ done. fun-ext (λ e. by-test done e (is
         let i = e - ruleCount bs in
         ap (twinStands bs done) (ap codeTwin (t .coded i (omega arith)) ∙ code-twin (twinOf bs i))
     by-test done e false h = refl
-
--- THEOREM. With no twins every entry is eligible.
-pub eligible-all : (bs tw : List ℕ) → ((i : ℕ) → getD tw i 0 ≡ 0) → eligibleBy bs tw ≡ (λ done e. true)
-unfolding eligibleBy codeTwin twinStands
-eligible-all bs tw z = fun-ext (λ done. fun-ext (λ e. by-test done e (isLine bs e)))
-  where
-    by-test : (done : List ℕ) (e : ℕ) (b : Bool)
-        → elim b [ true ↦ twinStands bs done (codeTwin (getD tw (e - ruleCount bs) 0)) | false ↦ true ] ≡ true
-    by-test done e true = ap (λ k. twinStands bs done (codeTwin k)) (z (e - ruleCount bs))
-    by-test done e false = refl
 
 -- Steps so far
 

@@ -9,17 +9,17 @@ use mathlib.Core.Bool.{Bool, true, false, _&&_, _||_, true≢false, false≢true
 use mathlib.Core.Option.{Option, some}
 use mathlib.Core.List.{List, [], _∷_, _++_, map, map-append}
 use lib.Dec.{eqb}
-use lib.ListN.{length, getD, length-append, length-map}
-use lib.Seq.{getD-append-add, append-snoc}
+use lib.ListN.{length, length-map}
+use lib.Seq.{append-snoc}
 use borrow.Author.Tests.{eqb-true, eqb-false, lt-ltb, le-ltb, le-leb, lt-leb, eq-eqb}
-use Rattle.calculus.specs.Derivation.{Entry, noEntry, clauseAt, linearAt}
+use Rattle.calculus.specs.Derivation.{Entry, clauseAt, linearAt}
 use Rattle.calculus.specs.Steps.{stands, Before, here, there}
 use Rattle.calculus.specs.Job.{Listed, First}
 use Rattle.calculus.specs.Inner.Renaming.{swap, EqualLines}
 use Rattle.calculus.proofs.RenamingKeeps.{swap-second, swap-other, swap-lines}
-use Rattle.card.specs.Format.{ruleCount, lineCount, lineNode, lineByte, listing}
-use Rattle.card.specs.Decode.{clauseOf, ruleEntry, lineEntry, linesWith, jobOf}
-use Rattle.card.proofs.TablesGrow.{length-listing, listing-at}
+use Rattle.card.specs.Format.{ruleCount, lineCount, lineNode, lineByte}
+use Rattle.card.specs.Decode.{clauseOf, lineEntry, linesWith, jobOf}
+use Rattle.card.proofs.NodesDecoded.{scope-size, line-at}
 use Rattle.search.proofs.WalkFindsLeast.{Chosen, none, step}
 use Rattle.search.specs.Inner.Twins.{sameLine, lastBelow, twinOf, isLine, twinStands, eligible}
 
@@ -225,20 +225,6 @@ no-later-trans (inr a) (inr b) = inr (before-trans a b)
 -- Equal lines may be swapped
 
 module _ (bs : List ℕ) where
-  scope-length : length (jobOf bs .scope) ≡ ruleCount bs + lineCount bs
-  unfolding jobOf
-  scope-length =
-      length-append (listing (ruleCount bs) (ruleEntry bs)) (listing (lineCount bs) (lineEntry bs))
-      ∙ ap₂ _+_ (length-listing (ruleEntry bs) (ruleCount bs)) (length-listing (lineEntry bs) (lineCount bs))
-
-  line-entry : (i : ℕ) → i < lineCount bs → getD (jobOf bs .scope) (ruleCount bs + i) noEntry ≡ lineEntry bs i
-  unfolding jobOf
-  line-entry i h =
-      let rs = listing (ruleCount bs) (ruleEntry bs) in
-      let ls = listing (lineCount bs) (lineEntry bs) in
-      ap (λ (n : ℕ). getD (rs ++ ls) (n + i) noEntry) (sym (length-listing (ruleEntry bs) (ruleCount bs)))
-      ∙ getD-append-add rs ls i noEntry ∙ listing-at (lineEntry bs) (lineCount bs) i noEntry h
-
   line-with : (b i : ℕ) → i < lineCount bs → linesWith bs b (ruleCount bs + i) ≡ eqb (lineByte bs i) b
   unfolding linesWith
   line-with b i h =
@@ -251,10 +237,10 @@ module _ (bs : List ℕ) where
       let w = twin-some bs i k q in
       let same = same-line bs i k .0 (w .passes) in
       let l : k < lineCount bs = omega arith in
-      let p = line-entry k l ∙ ap (λ (n : ℕ). record { clause = clauseOf bs n; linear = true }) (same .0) ∙ sym (line-entry i h) in
+      let p = line-at bs k l ∙ ap (λ (n : ℕ). record { clause = clauseOf bs n; linear = true }) (same .0) ∙ sym (line-at bs i h) in
       record {
-        x-within = omega (arith, scope-length);
-        y-within = omega (arith, scope-length);
+        x-within = omega (arith, scope-size bs);
+        y-within = omega (arith, scope-size bs);
         same-clause = ap (λ (x : Entry). x .clause) p;
         same-linear = ap (λ (x : Entry). x .linear) p;
         same-strict = line-with 1 k l ∙ ap (λ (n : ℕ). eqb n 1) (same .1) ∙ sym (line-with 1 i h);

@@ -2,7 +2,7 @@
 -- one of them comes after a dead list.
 use Prim.Native.Nat.{ℕ, zero, suc, _+_, _-_, _≤_, _<_, zero-le}
 use native.Mathlib.Nat.{le-refl}
-use native.Mathlib.Decide.{ℕ-discrete}
+use native.Mathlib.Decide.{ℕ-discrete, decLt}
 use native.Mathlib.Omega.{arith}
 use mathlib.Core.Path.{_≡_, refl, sym, ap, _∙_, subst, subst₂}
 use mathlib.Core.Logic.{_↔_, _≢_, _⊎_, inl, inr, ⊎-elim, ⊎-map, by-cases}
@@ -11,21 +11,23 @@ use mathlib.Core.List.{List, [], _∷_, _++_, append-nil, append-assoc, head-eq-
 use mathlib.Core.Option.{Option, some}
 use lib.ListN.{length, drop, length-append}
 use lib.Dec.{leb, leb·zero, leb·suc-zero, leb·suc-suc}
-use Rattle.calculus.specs.Formula.{Goal, Clause, atomᴳ, topᴳ, oneᴳ, zeroᴳ, tensor, with, lolliᴳ, atomᴰ, topᴰ, lolliᴰ, fits, head}
-use Rattle.calculus.specs.Formula.{matched, residual}
+use Rattle.calculus.specs.Formula.{Goal, Clause, atomᴳ, topᴳ, oneᴳ, zeroᴳ, tensor, with, lolliᴳ, atomᴰ, topᴰ, lolliᴰ, Fits, matched}
+use Rattle.calculus.specs.Formula.{residual, usable}
 use Rattle.calculus.specs.Items.{Items, ∅, _∪_, _∖_, only, Empty, Within}
-use Rattle.calculus.specs.Derivation.{Scope, clauseAt, linearAt, lend}
+use Rattle.calculus.specs.Derivation.{Scope, Entry, size, clauseAt, linearAt, residualAt, lend}
 use Rattle.calculus.specs.Steps.{Before, here, there}
 use Rattle.calculus.specs.Job.{Job, Listed}
 use Rattle.calculus.proofs.SetLaws.{_≐_, _⟹_, _⊑_, table, same-path, not-true, only-without, only-plus, empty-∅, ∪-joins, join-left}
 use Rattle.calculus.proofs.SetLaws.{∅-∪-within}
-use Rattle.calculus.specs.Inner.Summary.{Bounded}
-use Rattle.calculus.proofs.SummaryExact.{bounded-within, unique}
+use Rattle.calculus.specs.Inner.Summary.{spare, Bounded}
+use Rattle.calculus.proofs.SummaryExact.{bounded-within}
+use Rattle.calculus.proofs.TraceExact.{unique}
+use Rattle.calculus.proofs.RenamingKeeps.{entry-past}
 use Rattle.calculus.specs.Inner.Window.{tensor-strict, tensor-lax, with-strict, with-lax, Find, find-1, find-⊤, find-⊗, find-&, find-⊸}
 use Rattle.calculus.specs.Inner.Window.{find-rule, find-item}
 use Rattle.calculus.proofs.WindowExact.{find, find-counts, listed, tensor-bound, with-bound, bounded-⊸, bounded-item}
-use Rattle.search.specs.Inner.Walk.{State, Outcome, solved, stuck, moved, holding, vacant, headFits, seek, spent, spending, after-use}
-use Rattle.search.specs.Inner.Walk.{after-left, after-lend, Choice, taken, dead, chosen, usable, choose, go, resolve, atomic, walk}
+use Rattle.search.specs.Inner.Walk.{State, Outcome, solved, stuck, moved, holding, vacant, seek, spent, spending, after-use}
+use Rattle.search.specs.Inner.Walk.{after-left, after-lend, Choice, taken, dead, chosen, takable, choose, go, resolve, atomic, walk}
 
 -- l is not below the floor: the given steps F, and f as the least step after them
 pub data Floor : List ℕ → List ℕ → ℕ → Type 0 where
@@ -121,26 +123,28 @@ record Parts (Q R : List ℕ → Type 0) (l m : List ℕ) : Type 0 where
 
 parts-⊗ : {n : ℕ} {es : Scope} {G : Goal} (H : Goal) (S L : Items) {l m : List ℕ} {U W : Items} {v w : Bool} → Bounded es (S ∪ L)
     → Find n es G ∅ (S ∪ L) l U v → Find n es (tensor G H) S L m W w
-    → Parts (Findable n es G ∅ (S ∪ L)) (Findable n es H (tensor-strict v S U) (tensor-lax v S L U)) l m
+    → Parts (Findable n es G ∅ (S ∪ L)) (Findable n es H (tensor-strict (spare es v) S U) (tensor-lax (spare es v) S L U)) l m
 parts-⊗ {n} {es} H S L b x (find-⊗ {l₁} {l₂} p j e y z) = record {
   left = l₁;
   right = l₂;
   list = p;
   first = findable y;
   second = λ q. let s = same-found (bounded-within (∅-∪-within (S ∪ L)) b) x y q in
-      subst₂ (λ (U : Items) (v : Bool). Findable n es H (tensor-strict v S U) (tensor-lax v S L U) l₂) (s .0) (s .1) (findable z);
+      subst₂ (λ (U : Items) (v : Bool). Findable n es H (tensor-strict (spare es v) S U) (tensor-lax (spare es v) S L U) l₂) (s .0) (s .1)
+      (findable z);
 }
 
 parts-& : {n : ℕ} {es : Scope} {G : Goal} (H : Goal) (S L : Items) {l m : List ℕ} {U W : Items} {v w : Bool} → Bounded es (S ∪ L)
     → Find n es G S L l U v → Find n es (with G H) S L m W w
-    → Parts (Findable n es G S L) (Findable n es H (with-strict v S U) (with-lax v L U)) l m
+    → Parts (Findable n es G S L) (Findable n es H (with-strict (spare es v) S U) (with-lax (spare es v) L U)) l m
 parts-& {n} {es} H S L b x (find-& {l₁} {l₂} p j e y z) = record {
   left = l₁;
   right = l₂;
   list = p;
   first = findable y;
   second = λ q. let s = same-found b x y q in
-      subst₂ (λ (U : Items) (v : Bool). Findable n es H (with-strict v S U) (with-lax v L U) l₂) (s .0) (s .1) (findable z);
+      subst₂ (λ (U : Items) (v : Bool). Findable n es H (with-strict (spare es v) S U) (with-lax (spare es v) L U) l₂) (s .0) (s .1)
+      (findable z);
 }
 
 left-⊗ : {n : ℕ} {es : Scope} {G H : Goal} {S L U : Items} {m : List ℕ} {v : Bool} → Find n es (tensor G H) S L m U v
@@ -152,7 +156,7 @@ left-& : {n : ℕ} {es : Scope} {G H : Goal} {S L U : Items} {m : List ℕ} {v :
 left-& (find-& {l₁} {l₂} p j e y z) = (l₁, l₂, p, findable y)
 
 left-⊸ : {n : ℕ} {es : Scope} {D : Clause} {G : Goal} {S L U : Items} {m : List ℕ} {v : Bool} → Find n es (lolliᴳ D G) S L m U v
-    → Findable n (lend es D) G (S ∪ only (length es)) L m
+    → Findable n (lend es D) G (S ∪ only (size es)) L m
 left-⊸ (find-⊸ s y) = findable y
 
 nil-1 : {n : ℕ} {es : Scope} {S L U : Items} {m : List ℕ} {v : Bool} → Find n es oneᴳ S L m U v → m ≡ []
@@ -182,9 +186,9 @@ vacant-below I zero h i k = absurd (omega arith)
 vacant-below I (suc n) h i k =
     let g = not-and (I n) (vacant n I) h in last-or-below I k (g .0) (λ j. vacant-below I n (g .1) i j)
 
-pub vacant-empty : {es : Scope} {I : Items} → Bounded es I → vacant (length es) I ≡ true → Empty I
+pub vacant-empty : {es : Scope} {I : Items} → Bounded es I → vacant (size es) I ≡ true → Empty I
 vacant-empty {es} {I} b h = record {
-  vacant = λ i. not-true (I i) (λ t. false≢true (sym (vacant-below I (length es) h i (b .bounded i t)) ∙ t));
+  vacant = λ i. not-true (I i) (λ t. false≢true (sym (vacant-below I (size es) h i (b .bounded i t)) ∙ t));
 }
 
 pub empty-vacant : {I : Items} (n : ℕ) → Empty I → vacant n I ≡ true
@@ -194,14 +198,14 @@ empty-vacant {I} (suc n) e = rw (e .vacant n) (empty-vacant n e)
 
 -- m is the one step of an entry that can be used for the name a: its head fits, and it is a rule or an item at hand
 data Use (es : Scope) (S L : Items) (a : ℕ) : List ℕ → Type 0 where
-  use-of : {e : ℕ} → headFits (head (clauseAt es e)) a ≡ true → (not (linearAt es e) || (S ∪ L) e) ≡ true → Use es S L a (e ∷ [])
+  use-of : {e : ℕ} → usable (es .fits) a (clauseAt es e) ≡ true → (not (linearAt es e) || (S ∪ L) e) ≡ true → Use es S L a (e ∷ [])
 
 -- an entry whose head fits stands in the scope
-in-scope : (a : ℕ) (es : Scope) (e : ℕ) → headFits (head (clauseAt es e)) a ≡ true → e < length es
-unfolding clauseAt head headFits
-in-scope a [] e h = absurd (false≢true h)
-in-scope a (x ∷ es) zero h = omega arith
-in-scope a (x ∷ es) (suc e) h = let k : e < length es = in-scope a es e h in omega arith
+in-scope : (a : ℕ) (es : Scope) (e : ℕ) → usable (es .fits) a (clauseAt es e) ≡ true → e < size es
+unfolding clauseAt usable
+in-scope a es e h =
+    by-cases (decLt e (size es)) (λ k. k)
+    (λ k. absurd (false≢true (sym (ap (λ (x : Entry). usable (es .fits) a (x .clause)) (entry-past es e (omega arith))) ∙ h)))
 
 matched-true : (b : Bool) {n : ℕ} {es : Scope} {S L U : Items} {l : List ℕ} {v : Bool} → Find n es (matched b) S L l U v → b ≡ true
 unfolding matched
@@ -209,12 +213,12 @@ matched-true true x = refl
 matched-true false x = absurd (no-0 x)
 
 -- a residual that can be walked is that of a clause whose head fits
-fitting : (a : ℕ) (D : Clause) {n : ℕ} {es : Scope} {S L U : Items} {l : List ℕ} {v : Bool} → Find n es (residual a D) S L l U v
-    → headFits (head D) a ≡ true
-unfolding residual head headFits
-fitting a (atomᴰ b) x = matched-true (fits b a) x
-fitting a topᴰ x = absurd (no-0 x)
-fitting a (lolliᴰ G D) x = fitting a D (left-⊗ x .3 .found)
+fitting : (fits : Fits) (a : ℕ) (D : Clause) {n : ℕ} {es : Scope} {S L U : Items} {l : List ℕ} {v : Bool}
+    → Find n es (residual fits a D) S L l U v → usable fits a D ≡ true
+unfolding residual usable
+fitting fits a (atomᴰ b) x = matched-true (fits b a) x
+fitting fits a topᴰ x = absurd (no-0 x)
+fitting fits a (lolliᴰ G D) x = fitting fits a D (left-⊗ x .3 .found)
 
 -- what a use finds, one deeper, and back
 spent-found : {n : ℕ} {es : Scope} {G : Goal} (S L : Items) {U : Items} {l : List ℕ} {v : Bool} (e : ℕ) (b : Bool) → linearAt es e ≡ b
@@ -223,21 +227,22 @@ unfolding spent
 spent-found S L e b r x = rw r (findable x)
 
 parts-use : (n a : ℕ) {es : Scope} (S L : Items) (e : ℕ) {m : List ℕ} {W : Items} {w : Bool} → Find (suc n) es (atomᴳ a) S L m W w
-    → Parts (Use es S L a) (Findable n es (residual a (clauseAt es e)) (spent es e S) (spent es e L)) (e ∷ []) m
+    → Parts (Use es S L a) (Findable n es (residualAt es a e) (spent es e S) (spent es e L)) (e ∷ []) m
+unfolding residualAt
 parts-use n a {es} S L e (find-rule {e = x} {l} r y) = record {
   left = x ∷ [];
   right = l;
   list = refl;
-  first = use-of (fitting a (clauseAt es x) y) (rw r);
-  second = λ q. subst (λ (i : ℕ). Findable n es (residual a (clauseAt es i)) (spent es i S) (spent es i L) l) (head-eq-of-cons-eq q)
+  first = use-of (fitting (es .fits) a (clauseAt es x) y) (rw r);
+  second = λ q. subst (λ (i : ℕ). Findable n es (residualAt es a i) (spent es i S) (spent es i L) l) (head-eq-of-cons-eq q)
       (spent-found S L x false r y);
 }
 parts-use n a {es} S L e (find-item {e = x} {l} r h p y) = record {
   left = x ∷ [];
   right = l;
   list = refl;
-  first = use-of (fitting a (clauseAt es x) y) (rw r h);
-  second = λ q. subst (λ (i : ℕ). Findable n es (residual a (clauseAt es i)) (spent es i S) (spent es i L) l) (head-eq-of-cons-eq q)
+  first = use-of (fitting (es .fits) a (clauseAt es x) y) (rw r h);
+  second = λ q. subst (λ (i : ℕ). Findable n es (residualAt es a i) (spent es i S) (spent es i L) l) (head-eq-of-cons-eq q)
       (spent-found S L x true r y);
 }
 
@@ -257,7 +262,7 @@ no-room (find-rule r x) h = omega arith
 no-room (find-item r k p x) h = omega arith
 
 find-use : (n a : ℕ) {es : Scope} {S L U : Items} {e : ℕ} {l : List ℕ} {v : Bool} (b : Bool) → linearAt es e ≡ b
-    → (not b || (S ∪ L) e) ≡ true → Find n es (residual a (clauseAt es e)) (cond b (S ∖ only e) S) (cond b (L ∖ only e) L) l U v
+    → (not b || (S ∪ L) e) ≡ true → Find n es (residualAt es a e) (cond b (S ∖ only e) S) (cond b (L ∖ only e) L) l U v
     → Find (suc n) es (atomᴳ a) S L (e ∷ l) (cond b (U ∪ only e) U) v
 find-use n a {U} {e} true r h x = find-item r h (only-plus U e) x
 find-use n a false r h x = find-rule r x
@@ -425,7 +430,8 @@ module _ (eligible : List ℕ → ℕ → Bool) where
   -- The connectives.
   told-⊗-right : {n : ℕ} {es : Scope} {G : Goal} (H : Goal) (s : State) {l : List ℕ} {U : Items} {v : Bool}
       → Bounded es (s .strict ∪ s .lax) → Solved n es G (holding s ∅ (s .strict ∪ s .lax)) l U v
-      → (o : Outcome) → Told n es H (moved s l (tensor-strict v (s .strict) U) (tensor-lax v (s .strict) (s .lax) U)) o
+      → (o : Outcome)
+      → Told n es H (moved s l (tensor-strict (spare es v) (s .strict) U) (tensor-lax (spare es v) (s .strict) (s .lax) U)) o
       → Told n es (tensor G H) s (after-left l U v _||_ o)
   unfolding after-left holding moved
   told-⊗-right H s {U} b h (solved k W w) g = record {
@@ -436,7 +442,7 @@ module _ (eligible : List ℕ → ℕ → Bool) where
 
   told-⊗ : (n : ℕ) {es : Scope} (G H : Goal) (s : State) (right : List ℕ → Items → Bool → Outcome) → Bounded es (s .strict ∪ s .lax)
       → ((l : List ℕ) (U : Items) (v : Bool)
-      → Told n es H (moved s l (tensor-strict v (s .strict) U) (tensor-lax v (s .strict) (s .lax) U)) (right l U v))
+      → Told n es H (moved s l (tensor-strict (spare es v) (s .strict) U) (tensor-lax (spare es v) (s .strict) (s .lax) U)) (right l U v))
       → (o : Outcome) → Told n es G (holding s ∅ (s .strict ∪ s .lax)) o
       → Told n es (tensor G H) s (elim o [ stuck p ↦ stuck p | solved l U v ↦ after-left l U v _||_ (right l U v) ])
   unfolding holding
@@ -445,7 +451,7 @@ module _ (eligible : List ℕ → ℕ → Bool) where
 
   told-&-right : {n : ℕ} {es : Scope} {G : Goal} (H : Goal) (s : State) {l : List ℕ} {U : Items} {v : Bool}
       → Bounded es (s .strict ∪ s .lax) → Solved n es G s l U v
-      → (o : Outcome) → Told n es H (moved s l (with-strict v (s .strict) U) (with-lax v (s .lax) U)) o
+      → (o : Outcome) → Told n es H (moved s l (with-strict (spare es v) (s .strict) U) (with-lax (spare es v) (s .lax) U)) o
       → Told n es (with G H) s (after-left l U v _&&_ o)
   unfolding after-left moved
   told-&-right H s {U} b h (solved k W w) g = record {
@@ -456,29 +462,29 @@ module _ (eligible : List ℕ → ℕ → Bool) where
 
   told-& : (n : ℕ) {es : Scope} (G H : Goal) (s : State) (right : List ℕ → Items → Bool → Outcome) → Bounded es (s .strict ∪ s .lax)
       → ((l : List ℕ) (U : Items) (v : Bool) → Within U (s .strict ∪ s .lax)
-      → Told n es H (moved s l (with-strict v (s .strict) U) (with-lax v (s .lax) U)) (right l U v))
+      → Told n es H (moved s l (with-strict (spare es v) (s .strict) U) (with-lax (spare es v) (s .lax) U)) (right l U v))
       → (o : Outcome) → Told n es G s o
       → Told n es (with G H) s (elim o [ stuck p ↦ stuck p | solved l U v ↦ after-left l U v _&&_ (right l U v) ])
   told-& n G H s right b g (solved l U v) h = told-&-right H s b h (right l U v) (g l U v (find b .0 (h .found) .1))
   told-& n G H s right b g (stuck p) h = left-dead (λ m p. left-& (p .found)) h
 
   told-⊸ : (n : ℕ) (es : Scope) (D : Clause) (G : Goal) (s : State) (o : Outcome)
-      → Told n (lend es D) G (holding s (s .strict ∪ only (length es)) (s .lax)) o
-      → Told n es (lolliᴳ D G) s (after-lend (length es) o)
+      → Told n (lend es D) G (holding s (s .strict ∪ only (size es)) (s .lax)) o
+      → Told n es (lolliᴳ D G) s (after-lend (size es) o)
   unfolding holding after-lend
   told-⊸ n es D G s (solved l U v) h = record {
-    found = find-⊸ (only-without U (length es)) (h .found);
+    found = find-⊸ (only-without U (size es)) (h .found);
     first = least-of (λ m p. left-⊸ (p .found)) (h .first);
   }
   told-⊸ n es D G s (stuck p) h = dead-of (λ m p. left-⊸ (p .found)) h
 
-  told-1 : (n : ℕ) (es : Scope) (s : State) → Bounded es (s .strict ∪ s .lax) → (b : Bool) → vacant (length es) (s .strict) ≡ b
+  told-1 : (n : ℕ) (es : Scope) (s : State) → Bounded es (s .strict ∪ s .lax) → (b : Bool) → vacant (size es) (s .strict) ≡ b
       → Told n es oneᴳ s (elim b [ true ↦ solved [] ∅ false | false ↦ stuck [] ])
   told-1 n es s b true e = record {
     found = find-1 (vacant-empty (bounded-within (join-left (∪-joins (s .strict) (s .lax))) b) e) empty-∅;
     first = least-nil (λ m p. nil-1 (p .found));
   }
-  told-1 n es s b false e = dead-nil (λ m p o. false≢true (sym e ∙ empty-vacant (length es) (strict-1 (p .found))))
+  told-1 n es s b false e = dead-nil (λ m p o. false≢true (sym e ∙ empty-vacant (size es) (strict-1 (p .found))))
 
   told-⊤ : (n : ℕ) (es : Scope) (s : State) → Told n es topᴳ s (solved [] ∅ true)
   told-⊤ n es s = record { found = find-⊤ empty-∅; first = least-nil (λ m p. nil-⊤ (p .found)) }
@@ -493,21 +499,22 @@ module _ (eligible : List ℕ → ℕ → Bool) where
   unfolding go holding moved
   told-go n at h (atomᴳ a) es s b = h a es s b
   told-go n at h topᴳ es s b = told-⊤ n es s
-  told-go n at h oneᴳ es s b = told-1 n es s b (vacant (length es) (s .strict)) refl
+  told-go n at h oneᴳ es s b = told-1 n es s b (vacant (size es) (s .strict)) refl
   told-go n at h zeroᴳ es s b = told-0 n es s
   told-go n at h (tensor G H) es s b = told-⊗ n G H s
-      (λ l U v. go eligible at H es (moved s l (tensor-strict v (s .strict) U) (tensor-lax v (s .strict) (s .lax) U))) b
-      (λ l U v. told-go n at h H es (moved s l (tensor-strict v (s .strict) U) (tensor-lax v (s .strict) (s .lax) U))
-      (bounded-within (tensor-bound v (s .strict) (s .lax) U) b))
+      (λ l U v. go eligible at H es (moved s l (tensor-strict (spare es v) (s .strict) U) (tensor-lax (spare es v) (s .strict) (s .lax) U)))
+      b
+      (λ l U v. told-go n at h H es (moved s l (tensor-strict (spare es v) (s .strict) U) (tensor-lax (spare es v) (s .strict) (s .lax) U))
+      (bounded-within (tensor-bound (spare es v) (s .strict) (s .lax) U) b))
       (go eligible at G es (holding s ∅ (s .strict ∪ s .lax)))
       (told-go n at h G es (holding s ∅ (s .strict ∪ s .lax)) (bounded-within (∅-∪-within (s .strict ∪ s .lax)) b))
   told-go n at h (with G H) es s b = told-& n G H s
-      (λ l U v. go eligible at H es (moved s l (with-strict v (s .strict) U) (with-lax v (s .lax) U))) b
-      (λ l U v w. told-go n at h H es (moved s l (with-strict v (s .strict) U) (with-lax v (s .lax) U))
-      (bounded-within (with-bound v (s .strict) (s .lax) w) b))
+      (λ l U v. go eligible at H es (moved s l (with-strict (spare es v) (s .strict) U) (with-lax (spare es v) (s .lax) U))) b
+      (λ l U v w. told-go n at h H es (moved s l (with-strict (spare es v) (s .strict) U) (with-lax (spare es v) (s .lax) U))
+      (bounded-within (with-bound (spare es v) (s .strict) (s .lax) w) b))
       (go eligible at G es s) (told-go n at h G es s b)
-  told-go n at h (lolliᴳ D G) es s b = told-⊸ n es D G s (go eligible at G (lend es D) (holding s (s .strict ∪ only (length es)) (s .lax)))
-      (told-go n at h G (lend es D) (holding s (s .strict ∪ only (length es)) (s .lax)) (bounded-⊸ (s .strict) (s .lax) D b))
+  told-go n at h (lolliᴳ D G) es s b = told-⊸ n es D G s (go eligible at G (lend es D) (holding s (s .strict ∪ only (size es)) (s .lax)))
+      (told-go n at h G (lend es D) (holding s (s .strict ∪ only (size es)) (s .lax)) (bounded-⊸ (s .strict) (s .lax) D b))
 
   -- The choice at a name: an entry that is the least list of one step, or a dead list. F stands for the given steps.
   abbrev Picked : Scope → ℕ → State → List ℕ → Choice → Type 0
@@ -520,21 +527,21 @@ module _ (eligible : List ℕ → ℕ → Bool) where
 
   -- the one step of a list that is open is usable
   use-usable : {es : Scope} {a : ℕ} (s : State) {e : ℕ} → Use es (s .strict) (s .lax) a (e ∷ []) → Chosen (s .done) (e ∷ [])
-      → usable eligible es s a e ≡ true
-  unfolding usable
+      → takable eligible es s a e ≡ true
+  unfolding takable
   use-usable {es} {a} s (use-of {e} h k) c = table 3 (λ x y z. x ≐ true ⟹ y ≐ true ⟹ z ≐ true ⟹ (x && (y && z)) ≐ true) refl
-      (headFits (head (clauseAt es e)) a) (not (linearAt es e) || (s .strict ∪ s .lax) e) (eligible (s .done) e) h k (chosen-head c)
+      (usable (es .fits) a (clauseAt es e)) (not (linearAt es e) || (s .strict ∪ s .lax) e) (eligible (s .done) e) h k (chosen-head c)
 
-  usable-use : (es : Scope) (a : ℕ) (s : State) (e : ℕ) → usable eligible es s a e ≡ true
+  usable-use : (es : Scope) (a : ℕ) (s : State) (e : ℕ) → takable eligible es s a e ≡ true
       → Use es (s .strict) (s .lax) a (e ∷ []) × Chosen (s .done) (e ∷ [])
-  unfolding usable
+  unfolding takable
   usable-use es a s e h = (
     use-of (table 3 (λ x y z. x && (y && z) ⊑ x) refl x y z h) (table 3 (λ x y z. x && (y && z) ⊑ y) refl x y z h),
     step (table 3 (λ x y z. x && (y && z) ⊑ z) refl x y z h) none,
   )
     where
       x : Bool
-      x = headFits (head (clauseAt es e)) a
+      x = usable (es .fits) a (clauseAt es e)
 
       y : Bool
       y = not (linearAt es e) || (s .strict ∪ s .lax) e
@@ -547,13 +554,13 @@ module _ (eligible : List ℕ → ℕ → Bool) where
       → (m ≡ x ∷ []) ⊎ Before (x ∷ []) m
   given-least (use-of h k) g = ⊎-map (λ p. ap (λ (y : ℕ). y ∷ []) (p .0)) here (floor-cons g)
 
-  given-dead : {es : Scope} {a x : ℕ} (s : State) {m F : List ℕ} → usable eligible es s a x ≡ false → Use es (s .strict) (s .lax) a m
+  given-dead : {es : Scope} {a x : ℕ} (s : State) {m F : List ℕ} → takable eligible es s a x ≡ false → Use es (s .strict) (s .lax) a m
       → Open (s .done) (x ∷ F) (s .floor) (s .room) m → Before (x ∷ []) m
   given-dead {es} {a} s h (use-of p k) o = ⊎-elim
-      (λ q. absurd (false≢true (sym h ∙ ap (usable eligible es s a) (sym (q .0)) ∙ use-usable s (use-of p k) (o .chosen)))) here
+      (λ q. absurd (false≢true (sym h ∙ ap (takable eligible es s a) (sym (q .0)) ∙ use-usable s (use-of p k) (o .chosen)))) here
       (floor-cons (o .floor))
 
-  pick-given : (es : Scope) (a : ℕ) (s : State) (x : ℕ) (F : List ℕ) → 0 < s .room → (b : Bool) → usable eligible es s a x ≡ b
+  pick-given : (es : Scope) (a : ℕ) (s : State) (x : ℕ) (F : List ℕ) → 0 < s .room → (b : Bool) → takable eligible es s a x ≡ b
       → Picked es a s (x ∷ F) (cond b (taken x) (dead (x ∷ [])))
   pick-given es a s x F r true h = (
     usable-use es a s x h .0,
@@ -568,20 +575,20 @@ module _ (eligible : List ℕ → ℕ → Bool) where
 
   -- no given step is left
   none-sought : {es : Scope} {a : ℕ} (s : State) {m : List ℕ}
-      → Sought (usable eligible es s a) (s .floor) (length es - s .floor) Option.none
+      → Sought (takable eligible es s a) (s .floor) (size es - s .floor) Option.none
       → Use es (s .strict) (s .lax) a m → Open (s .done) [] (s .floor) (s .room) m → ⊥
   none-sought {es} {a} s t (use-of {e} h k) o =
       let g : s .floor ≤ e = floor-open (o .floor) in t e g (omega (arith, in-scope a es e h)) (use-usable s (use-of h k) (o .chosen))
 
   least-sought : {es : Scope} {a e : ℕ} (s : State) {m : List ℕ}
-      → Sought (usable eligible es s a) (s .floor) (length es - s .floor) (some e)
+      → Sought (takable eligible es s a) (s .floor) (size es - s .floor) (some e)
       → Use es (s .strict) (s .lax) a m → Open (s .done) [] (s .floor) (s .room) m → (m ≡ e ∷ []) ⊎ Before (e ∷ []) m
   least-sought {e} s t (use-of {e = x} h k) o =
       let g : e ≤ x = t .2 x (floor-open (o .floor)) (use-usable s (use-of h k) (o .chosen)) in
       by-cases (ℕ-discrete x e) (λ q. inl (ap (λ (y : ℕ). y ∷ []) q)) (λ q. inr (here (omega arith)))
 
   pick-sought : (es : Scope) (a : ℕ) (s : State) → 0 < s .room → (o : Option ℕ)
-      → Sought (usable eligible es s a) (s .floor) (length es - s .floor) o → Picked es a s [] (chosen o)
+      → Sought (takable eligible es s a) (s .floor) (size es - s .floor) o → Picked es a s [] (chosen o)
   unfolding chosen
   pick-sought es a s r Option.none t = dead-nil (λ m u o. none-sought s t u o)
   pick-sought es a s r (some e) t = (
@@ -596,13 +603,13 @@ module _ (eligible : List ℕ → ℕ → Bool) where
 
   picked : (es : Scope) (a : ℕ) (s : State) → 0 < s .room → (F : List ℕ) → Picked es a s F (choose eligible es s a F)
   unfolding choose
-  picked es a s r [] = pick-sought es a s r (seek (usable eligible es s a) (s .floor) (length es - s .floor))
-      (sought (usable eligible es s a) (s .floor) (length es - s .floor))
-  picked es a s r (x ∷ F) = pick-given es a s x F r (usable eligible es s a x) refl
+  picked es a s r [] = pick-sought es a s r (seek (takable eligible es s a) (s .floor) (size es - s .floor))
+      (sought (takable eligible es s a) (s .floor) (size es - s .floor))
+  picked es a s r (x ∷ F) = pick-given es a s x F r (takable eligible es s a x) refl
 
   -- A use: the one step, then the residual.
   told-use : (n a : ℕ) (es : Scope) (s : State) (e : ℕ) → Picked es a s (s .ahead) (taken e)
-      → (o : Outcome) → Told n es (residual a (clauseAt es e)) (moved s (e ∷ []) (spent es e (s .strict)) (spent es e (s .lax))) o
+      → (o : Outcome) → Told n es (residualAt es a e) (moved s (e ∷ []) (spent es e (s .strict)) (spent es e (s .lax))) o
       → Told (suc n) es (atomᴳ a) s (after-use es e o)
   unfolding moved after-use spent spending
   told-use n a es s e h (solved l U v) g = record {
@@ -616,8 +623,8 @@ module _ (eligible : List ℕ → ℕ → Bool) where
       → (c : Choice) → Picked es a s (s .ahead) c → Told (suc n) es (atomᴳ a) s (resolve eligible deeper a es s c)
   unfolding resolve moved
   told-resolve n a es s deeper b h (taken e) p = told-use n a es s e p
-      (deeper (residual a (clauseAt es e)) es (moved s (e ∷ []) (spent es e (s .strict)) (spent es e (s .lax))))
-      (h (residual a (clauseAt es e)) es (moved s (e ∷ []) (spent es e (s .strict)) (spent es e (s .lax)))
+      (deeper (residualAt es a e) es (moved s (e ∷ []) (spent es e (s .strict)) (spent es e (s .lax))))
+      (h (residualAt es a e) es (moved s (e ∷ []) (spent es e (s .strict)) (spent es e (s .lax)))
       (spent-bounded (s .strict) (s .lax) e b))
   told-resolve n a es s deeper b h (dead p) q = left-dead (λ m p. left-use (p .found)) q
 

@@ -8,21 +8,20 @@ use card::format::right;
 use card::format::rule_node;
 ghost use mathlib.Core.Path.{_≡_};
 ghost use mathlib.Core.Bool.{true};
-ghost use Prim.Native.Nat.{ℕ, _+_, _≤_, _<_};
-ghost use lib.ListN.{length, getD, take, set};
-ghost use Rattle.calculus.specs.Formula.{head};
+ghost use Prim.Native.Nat.{_+_, _≤_, _<_};
+ghost use lib.ListN.{length, take, set};
 ghost use Rattle.calculus.specs.Steps.{stands};
 ghost use Rattle.card.specs.Format.{nodeCount, ruleCount, lineCount, ruleNode, listing};
 ghost use Rattle.card.specs.Fault.{Sound, clausePart};
-ghost use Rattle.card.specs.Decode.{clauseOf, jobOf};
+ghost use Rattle.card.specs.Decode.{jobOf};
 ghost use Rattle.search.specs.Inner.Twins.{sameLine, twinOf};
-ghost use Rattle.search.specs.Inner.Entries.{headCode, scopeIn, Entered, twinCode, Twinned, eligibleBy};
+ghost use Rattle.search.specs.Inner.Entries.{HeadCode, Headed, scopeIn, Entered, twinCode, Twinned, eligibleBy};
 
 // The head of the clause at the node, found by following the right parts of recipes; 1000 where there is none.
 pub fn head_code(card: &[u8], node: usize) -> u16
     requires { ⌜ Sound (now card) ⌝ }
     requires { ⌜ clausePart (now card) (nodeCount (now card)) node ≡ true ⌝ }
-    ensures { λ r. ⌜ r ≡ headCode (head (clauseOf (now (card .entry)) node)) ⌝ }
+    ensures { λ r. ⌜ HeadCode (now (card .entry)) node r ⌝ }
 {
     let mut at = node;
     let mut k = kind(card, at);
@@ -42,7 +41,7 @@ pub fn put(card: &[u8], nodes: &mut [u16; 256], heads: &mut [u16; 256], e: usize
     requires { ⌜ clausePart (now card) (nodeCount (now card)) node ≡ true ⌝ }
     requires { ⌜ (e < 256) × ((length (now nodes) ≡ 256) × (length (now heads) ≡ 256)) ⌝ }
     ensures { λ _. ⌜ now (nodes .exit) ≡ set (now (nodes .entry)) e node ⌝ }
-    ensures { λ _. ⌜ now (heads .exit) ≡ set (now (heads .entry)) e (headCode (head (clauseOf (now (card .entry)) node))) ⌝ }
+    ensures { λ _. ⌜ Headed (now (card .entry)) (now (heads .entry)) (now (heads .exit)) e node ⌝ }
 {
     nodes[e] = node as u16;
     heads[e] = head_code(card, node);
@@ -130,13 +129,6 @@ pub fn twins(card: &[u8]) -> [u8; 64]
         i += 1;
     }
     table
-}
-
-// No twins: with them every entry is eligible.
-pub fn no_twins() -> [u8; 64]
-    ensures { λ r. ⌜ (length r ≡ 64) × ((i : ℕ) → getD r i 0 ≡ 0) ⌝ }
-{
-    [0u8; 64]
 }
 
 // Entry e is one of the steps so far.

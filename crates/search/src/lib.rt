@@ -1,6 +1,5 @@
 // The search: the walk, and the first list (01, "Steps, nesting, order, marks").
 pub mod entries;
-pub mod follow;
 pub mod walk;
 
 use lines::LineSet;
@@ -12,30 +11,12 @@ ghost use Prim.Native.Nat.{ℕ, _+_, _-_, _≤_, _<_};
 ghost use lib.ListN.{length};
 ghost use Rattle.card.specs.Format.{byteAt};
 ghost use Rattle.card.specs.Fault.{Sound};
-ghost use Rattle.search.specs.Inner.Found.{Finds, startB, strictOf};
+ghost use Rattle.search.specs.Inner.Found.{Finds, startB};
 
 // The first list, as the first steps of the tape, or that there is none.
 pub enum Found {
     List(usize),
     Nothing,
-}
-
-// The must lines.
-fn strict_lines(card: &[u8]) -> LineSet
-    requires { ⌜ Sound (now card) ⌝ }
-    ensures { λ r. ⌜ r ≡ strictOf (now (card .entry)) ⌝ }
-{
-    let t = card::format::byte(card, 4);
-    let mut s = LineSet::empty();
-    let mut i = 0;
-    while i < t {
-        let b = card::format::line_byte(card, i);
-        if b == 1 {
-            s = s.add(i);
-        }
-        i += 1;
-    }
-    s
 }
 
 // The branch at the card's goal.
@@ -46,7 +27,7 @@ fn start(card: &[u8]) -> Branch
     let p = card::format::byte(card, 3);
     let t = card::format::byte(card, 4);
     let depth = card::format::byte(card, 9);
-    let strict = strict_lines(card);
+    let strict = scope::strict_lines(card);
     let lax = LineSet::full(t).cut(strict);
     Branch {
         at: 0,

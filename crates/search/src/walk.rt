@@ -14,9 +14,10 @@ ghost use Rattle.card.specs.Format.{kindAt};
 ghost use lib.ListN.{length};
 ghost use lib.Dec.{leb};
 ghost use Rattle.search.specs.Inner.Walk.{seek as seekM};
-ghost use Rattle.search.specs.Inner.Values.{items, openedB, pastTensorB, pastWithB, lentB, deeperB, closedW, coveredW, andThenW};
+ghost use Rattle.scope.specs.Inner.Sets.{items};
+ghost use Rattle.search.specs.Inner.Values.{openedB, pastTensorB, pastWithB, lentB, deeperB, closedW, coveredW, andThenW};
 ghost use Rattle.search.specs.Inner.Values.{besideW, behindW, withoutW};
-ghost use Rattle.search.specs.Inner.Values.{Ready, GoalReady, ClauseReady, Walks, goalWalk, clauseWalk, useWalk, usableAt, soughtOf};
+ghost use Rattle.search.specs.Inner.Values.{Ready, GoalReady, ClauseReady, Walks, goalWalk, clauseWalk, useWalk, takableAt, soughtOf};
 ghost use Rattle.search.specs.Inner.Values.{choiceOf, pick, CanUse, Chose};
 
 // What stays the same during a walk.
@@ -292,7 +293,7 @@ fn usable(
 ) -> bool
     requires { ⌜ Ready (now card) (now twins) (now tape) (now nodes) (now heads) g b ⌝ }
     requires { ⌜ name ≤ 999 ⌝ }
-    ensures { λ r. ⌜ r ≡ usableAt (now (card .entry)) (now (twins .entry)) (now (tape .entry)) (now (nodes .entry)) g name b e ⌝ }
+    ensures { λ r. ⌜ r ≡ takableAt (now (card .entry)) (now (twins .entry)) (now (tape .entry)) (now (nodes .entry)) g name b e ⌝ }
 {
     let count = b.count;
     if count <= e {
@@ -323,7 +324,7 @@ fn seek(
 ) -> Sought
     requires { ⌜ Ready (now card) (now twins) (now tape) (now nodes) (now heads) g b ⌝ }
     requires { ⌜ name ≤ 999 ⌝ }
-    ensures { λ r. ⌜ r ≡ soughtOf (seekM (usableAt (now (card .entry)) (now (twins .entry)) (now (tape .entry))
+    ensures { λ r. ⌜ r ≡ soughtOf (seekM (takableAt (now (card .entry)) (now (twins .entry)) (now (tape .entry))
         (now (nodes .entry)) g name b) from (b .count - from)) ⌝ }
 {
     let count = b.count;

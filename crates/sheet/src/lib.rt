@@ -18,9 +18,8 @@ ghost use Rattle.sheet.specs.Front.{sheetFits, sheetFault};
 ghost use Rattle.sheet.specs.Marks.{markFault};
 
 // Entry e stands in the list.
-fn is_step(steps: &[u8; 255], k: usize, e: usize) -> bool
-    requires { ⌜ length (now steps) ≡ 255 ⌝ }
-    requires { ⌜ k ≤ 255 ⌝ }
+fn is_step(steps: &[u8], k: usize, e: usize) -> bool
+    requires { ⌜ k ≤ length (now steps) ⌝ }
     ensures { λ r. ⌜ r ≡ stands e (take k (now (steps .entry))) ⌝ }
 {
     let mut i = 0;
@@ -35,10 +34,9 @@ fn is_step(steps: &[u8; 255], k: usize, e: usize) -> bool
 }
 
 // The mark of line i.
-fn mark(card: &[u8], steps: &[u8; 255], k: usize, i: usize) -> u8
+fn mark(card: &[u8], steps: &[u8], k: usize, i: usize) -> u8
     requires { ⌜ Framed (now card) ⌝ }
-    requires { ⌜ length (now steps) ≡ 255 ⌝ }
-    requires { ⌜ k ≤ 255 ⌝ }
+    requires { ⌜ k ≤ length (now steps) ⌝ }
     requires { ⌜ i < lineCount (now card) ⌝ }
     ensures { λ r. ⌜ r ≡ markOf (now (card .entry)) (take k (now (steps .entry))) i ⌝ }
 {
@@ -162,10 +160,9 @@ pub fn front_check(card: &[u8], sheet: &[u8]) -> Checked
 }
 
 // 14 at mark i: it is not the true one.
-fn mark_check(card: &[u8], steps: &[u8; 255], k: usize, marks: &[u8], i: usize) -> Checked
+fn mark_check(card: &[u8], steps: &[u8], k: usize, marks: &[u8], i: usize) -> Checked
     requires { ⌜ Framed (now card) ⌝ }
-    requires { ⌜ length (now steps) ≡ 255 ⌝ }
-    requires { ⌜ k ≤ 255 ⌝ }
+    requires { ⌜ k ≤ length (now steps) ⌝ }
     requires { ⌜ i < lineCount (now card) ⌝ }
     requires { ⌜ i < length (now marks) ⌝ }
     ensures { λ r. ⌜ told r ≡ markFault (now (card .entry)) (take k (now (steps .entry))) (now (marks .entry)) i ⌝ }
@@ -175,10 +172,9 @@ fn mark_check(card: &[u8], steps: &[u8; 255], k: usize, marks: &[u8], i: usize) 
 }
 
 // 14, by rising index.
-pub fn marks_check(card: &[u8], steps: &[u8; 255], k: usize, marks: &[u8]) -> Checked
+pub fn marks_check(card: &[u8], steps: &[u8], k: usize, marks: &[u8]) -> Checked
     requires { ⌜ Framed (now card) ⌝ }
-    requires { ⌜ length (now steps) ≡ 255 ⌝ }
-    requires { ⌜ k ≤ 255 ⌝ }
+    requires { ⌜ k ≤ length (now steps) ⌝ }
     requires { ⌜ lineCount (now card) ≤ length (now marks) ⌝ }
     ensures { λ r. ⌜ told r
         ≡ firstOf (lineCount (now (card .entry))) (markFault (now (card .entry)) (take k (now (steps .entry))) (now (marks .entry))) ⌝ }

@@ -3,9 +3,8 @@ use Prim.Native.Nat.{ℕ, suc, max, _≤_, _<_}
 use mathlib.Core.Path.{_≡_}
 use mathlib.Core.Bool.{true}
 use mathlib.Core.List.{List}
-use lib.ListN.{length}
 use Rattle.calculus.specs.Formula.{Goal, Clause, atomᴳ, topᴳ, oneᴳ, zeroᴳ, tensor, with, lolliᴳ, atomᴰ, topᴰ, lolliᴰ}
-use Rattle.calculus.specs.Derivation.{Scope, clauseAt}
+use Rattle.calculus.specs.Derivation.{Scope, size, clauseAt}
 use Rattle.calculus.specs.Steps.{stands}
 
 unfoldable mutual
@@ -34,7 +33,7 @@ lends (lolliᴳ D G) = suc (lends G)
 
 -- every clause in scope is at most 8 high
 pub record Low (es : Scope) : Type 0 where
-  pub low : (e : ℕ) → e < length es → heightᴰ (clauseAt es e) ≤ 8
+  pub low : (e : ℕ) → e < size es → heightᴰ (clauseAt es e) ≤ 8
 
 -- every entry of the list is below m
 pub record Below (m : ℕ) (l : List ℕ) : Type 0 where

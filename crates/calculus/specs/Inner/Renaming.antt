@@ -3,27 +3,38 @@ use Prim.Native.Nat.{ℕ, _+_, _≤_, _<_}
 use mathlib.Core.Path.{_≡_}
 use mathlib.Core.Logic.{ite}
 use mathlib.Core.Bool.{true}
-use mathlib.Core.List.{List}
+use mathlib.Core.List.{List, [], _∷_, _++_}
 use native.Mathlib.Decide.{ℕ-discrete}
-use lib.ListN.{length}
 use Rattle.calculus.specs.Formula.{Goal}
 use Rattle.calculus.specs.Items.{Items, _∪_}
-use Rattle.calculus.specs.Derivation.{Scope, clauseAt, linearAt, Derives}
+use Rattle.calculus.specs.Derivation.{Scope, size, clauseAt, linearAt, Derives, res-1, res-⊤, res-⊗, res-&, res-⊸, res-atm-int, res-atm-lin}
 use Rattle.calculus.specs.Steps.{steps, nesting}
 use Rattle.calculus.specs.Job.{Job}
 
--- f takes the entries of one scope to those of another, keeping clauses and linearity; g undoes it; lent clauses go on from the end.
+-- f takes the entries of one scope to those of another, keeping clauses and linearity; what fits in the one fits in the other; g undoes
+-- f; lent clauses go on from the end.
 pub record Renaming (es fs : Scope) (f g : ℕ → ℕ) : Type 0 where
-  pub within : (e : ℕ) → e < length es → f e < length fs
-  pub clause : (e : ℕ) → e < length es → clauseAt fs (f e) ≡ clauseAt es e
-  pub linear : (e : ℕ) → e < length es → linearAt fs (f e) ≡ linearAt es e
+  pub within : (e : ℕ) → e < size es → f e < size fs
+  pub clause : (e : ℕ) → e < size es → clauseAt fs (f e) ≡ clauseAt es e
+  pub linear : (e : ℕ) → e < size es → linearAt fs (f e) ≡ linearAt es e
+  pub fit : (head wanted : ℕ) → es .fits head wanted ≡ true → fs .fits head wanted ≡ true
   pub undone : (e : ℕ) → g (f e) ≡ e
-  pub beyond : (k : ℕ) → f (length es + k) ≡ length fs + k
+  pub beyond : (k : ℕ) → f (size es + k) ≡ size fs + k
 
 -- J holds the images of the items of I and no others.
 pub record Image (f g : ℕ → ℕ) (I J : Items) : Type 0 where
   pub taken : (i : ℕ) → J (f i) ≡ I i
   pub sole : (k : ℕ) → J k ≡ true → f (g k) ≡ k
+
+-- the steps of a derivation with its entries renamed, and nothing else
+unfoldable pub over : {es : Scope} {I : Items} {G : Goal} → (ℕ → ℕ) → Derives es I G → List ℕ
+over f (res-1 n) = []
+over f res-⊤ = []
+over f (res-⊗ s l r) = over f l ++ over f r
+over f (res-& l r) = over f l ++ over f r
+over f (res-⊸ h d) = over f d
+over f (res-atm-int e n d) = f e ∷ over f d
+over f (res-atm-lin e n h d) = f e ∷ over f d
 
 -- a derivation with this list and this nesting
 pub record Renamed (fs : Scope) (J : Items) (G : Goal) (l : List ℕ) (n : ℕ) : Type 0 where
@@ -47,8 +58,8 @@ swap x y e = ite (ℕ-discrete e x) y (ite (ℕ-discrete e y) x e)
 
 -- x and y are entries of the scope with the same clause, linearity and status.
 pub record EqualLines (j : Job) (x y : ℕ) : Type 0 where
-  pub x-within : x < length (j .scope)
-  pub y-within : y < length (j .scope)
+  pub x-within : x < size (j .scope)
+  pub y-within : y < size (j .scope)
   pub same-clause : clauseAt (j .scope) x ≡ clauseAt (j .scope) y
   pub same-linear : linearAt (j .scope) x ≡ linearAt (j .scope) y
   pub same-strict : j .strict x ≡ j .strict y

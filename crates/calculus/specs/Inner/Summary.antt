@@ -4,10 +4,9 @@ use mathlib.Core.Path.{_≡_}
 use mathlib.Core.Logic.{_⊎_}
 use mathlib.Core.Bool.{Bool, true, false, not, _&&_, _||_}
 use mathlib.Core.List.{List, [], _∷_, _++_}
-use lib.ListN.{length}
-use Rattle.calculus.specs.Formula.{Goal, Clause, atomᴳ, topᴳ, oneᴳ, tensor, with, lolliᴳ, residual}
+use Rattle.calculus.specs.Formula.{Goal, Clause, atomᴳ, topᴳ, oneᴳ, tensor, with, lolliᴳ}
 use Rattle.calculus.specs.Items.{Items, only, Empty, Splits, Within}
-use Rattle.calculus.specs.Derivation.{Scope, Derives, clauseAt, linearAt, lend}
+use Rattle.calculus.specs.Derivation.{Scope, Derives, size, linearAt, residualAt, lend}
 use Rattle.calculus.specs.Steps.{steps, nesting}
 
 -- the same items
@@ -26,9 +25,17 @@ pub record Without (T W : Items) (e : ℕ) : Type 0 where
 pub record Plus (T W : Items) (e : ℕ) : Type 0 where
   pub plus : (i : ℕ) → T i ≡ (W i || only e i)
 
--- every item of the last is in U, unless there is slack
-pub record Covers (slack : Bool) (U I : Items) : Type 0 where
-  pub cover : (i : ℕ) → I i ≡ true → (slack || U i) ≡ true
+-- T is R ∩ S
+pub record Meets (T R S : Items) : Type 0 where
+  pub met : (i : ℕ) → T i ≡ (R i && S i)
+
+-- the items that slack takes: with slack, any
+unfoldable pub spare : Scope → Bool → Items
+spare es v i = v
+
+-- every item of I is in U, or spare
+pub record Covers (R U I : Items) : Type 0 where
+  pub cover : (i : ℕ) → I i ≡ true → (R i || U i) ≡ true
 
 -- Sum n es G l U v: walking the list l at the goal G in the scope es, with nesting n left, takes the outer items U; v says whether there
 -- is slack.
@@ -41,24 +48,24 @@ pub data Sum : ℕ → Scope → Goal → List ℕ → Items → Bool → Type 0
       → Sum n es G l₁ U₁ v₁ → Sum n es H l₂ U₂ v₂ → Sum n es (tensor G H) l U v
   -- each side covers the other
   sum-& : {n : ℕ} {es : Scope} {G H : Goal} {l l₁ l₂ : List ℕ} {U U₁ U₂ : Items} {v v₁ v₂ : Bool}
-      → l ≡ l₁ ++ l₂ → Joins U U₁ U₂ → v ≡ (v₁ && v₂) → Covers v₁ U₁ U₂ → Covers v₂ U₂ U₁
+      → l ≡ l₁ ++ l₂ → Joins U U₁ U₂ → v ≡ (v₁ && v₂) → Covers (spare es v₁) U₁ U₂ → Covers (spare es v₂) U₂ U₁
       → Sum n es G l₁ U₁ v₁ → Sum n es H l₂ U₂ v₂ → Sum n es (with G H) l U v
   -- without slack the lent clause is taken
   sum-⊸ : {n : ℕ} {es : Scope} {D : Clause} {G : Goal} {l : List ℕ} {U W : Items} {v : Bool}
-      → Without U W (length es) → (v || W (length es)) ≡ true
+      → Without U W (size es) → (spare es v (size es) || W (size es)) ≡ true
       → Sum n (lend es D) G l W v → Sum n es (lolliᴳ D G) l U v
   -- a rule stays
   sum-rule : {n : ℕ} {es : Scope} {a e : ℕ} {l : List ℕ} {U : Items} {v : Bool}
       → linearAt es e ≡ false
-      → Sum n es (residual a (clauseAt es e)) l U v → Sum (suc n) es (atomᴳ a) (e ∷ l) U v
+      → Sum n es (residualAt es a e) l U v → Sum (suc n) es (atomᴳ a) (e ∷ l) U v
   -- a line or lent clause is gone: its conditions do not take it again
   sum-item : {n : ℕ} {es : Scope} {a e : ℕ} {l : List ℕ} {U W : Items} {v : Bool}
       → linearAt es e ≡ true → W e ≡ false → Plus U W e
-      → Sum n es (residual a (clauseAt es e)) l W v → Sum (suc n) es (atomᴳ a) (e ∷ l) U v
+      → Sum n es (residualAt es a e) l W v → Sum (suc n) es (atomᴳ a) (e ∷ l) U v
 
 -- every item stands in the scope
 pub record Bounded (es : Scope) (I : Items) : Type 0 where
-  pub bounded : (i : ℕ) → I i ≡ true → i < length es
+  pub bounded : (i : ℕ) → I i ≡ true → i < size es
 
 -- l derives G from I within nesting n
 pub record ByList (n : ℕ) (es : Scope) (I : Items) (G : Goal) (l : List ℕ) : Type 0 where

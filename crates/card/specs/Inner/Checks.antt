@@ -8,6 +8,8 @@ use lib.Dec.{leb}
 use Rattle.card.specs.Format.{ruleCount, lineCount, nodeCount, depthLimit, cardLength, grow}
 use Rattle.card.specs.declared.checks.Built.{Built}
 use Rattle.card.specs.declared.checks.Built.the-variants.{Height, Faulty}
+use Rattle.card.specs.declared.kinds.Field.{Field}
+use Rattle.card.specs.declared.kinds.Field.the-variants.{Unused, Name, GoalPart, ClausePart, Unknown}
 use Rattle.card.specs.Verdict.{Verdict, Where, sound, fault}
 use Rattle.card.specs.Fault.{wellBuilt, heightStep, heightAt}
 
@@ -27,6 +29,14 @@ pub record Framed (bs : List ℕ) : Type 0 where
   pub rules : ruleCount bs ≤ 64
   pub lines : lineCount bs ≤ 64
   pub depth : depthLimit bs ≤ 16
+
+-- The part in a field, where it holds one, is below n.
+unfoldable pub PartBelow : ℕ → Field → ℕ → Type 0
+PartBelow n Unused v = Unit {0}
+PartBelow n Name v = Unit {0}
+PartBelow n GoalPart v = v < n
+PartBelow n ClausePart v = v < n
+PartBelow n Unknown v = Unit {0}
 
 -- Node i stands on the card, and t begins with the heights of the nodes before it.
 pub record Tabled (bs : List ℕ) (i : ℕ) (t : List ℕ) : Type 0 where

@@ -1,14 +1,8 @@
 -- `kit_plan` meets its contract: each case of the answer is told as a number that reads as it.
-use native.Mathlib.Omega.{arith}
 use borrow.Author.Needs.{needs}
-use Rattle.card.specs.Format.{Bytes}
-use Rattle.planner_c.proofs.NumbersReadBack.{tells-planned, tells-refused}
+use Rattle.planner_c.proofs.NumbersReadBack.{plain-fine, tells-planned, tells-refused}
 use Rattle.planner_c.proofs.kit_plan.Statement.{statement}
 use Rattle.planner_c.proofs.kit_plan.Tie as tie
-
--- every byte of the lent card
-lent : (m : tie.After-plan) → Bytes (m .before .before .before .before .args .card .now)
-lent m = record { byte = λ i. omega (arith, m .before .before .before .shared-slice-known .given i) }
 
 plan-requires : tie.Need-plan-requires
 plan-requires c κs = search needs
@@ -33,16 +27,20 @@ same-length c = search needs
 
 returns : tie.Need-returns
 returns c =
-    let m = c .before .before .before .before .before .before in
-    tells-planned (lent m) _ (m .plan .ensures) (c .before .before .answer .given .1) (c .packed .ensures)
+    let m = c .before .before .before .before .before .before in (
+      tells-planned (c .packed .result) _ (m .plan .ensures) (c .before .before .answer .given .1) (c .packed .ensures),
+      plain-fine (c .packed .result) (c .packed .ensures .0),
+    )
 
 same-length-2 : tie.Need-same-length-2
 same-length-2 c = search needs
 
 returns-2 : tie.Need-returns-2
 returns-2 c =
-    let m = c .before .before .before .before .before .before in
-    tells-refused (lent m) _ (m .plan .ensures) (c .before .before .answer2 .given .1) (c .packed-refusal .ensures)
+    let m = c .before .before .before .before .before .before in (
+      tells-refused (c .packed-refusal .result) _ (m .plan .ensures) (c .before .before .answer2 .given .1) (c .packed-refusal .ensures .0),
+      c .packed-refusal .ensures .1,
+    )
 
 pub kit-plan-spec : {M : Type 1} → statement M
 kit-plan-spec =

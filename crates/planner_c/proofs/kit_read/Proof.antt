@@ -1,14 +1,8 @@
 -- `kit_read` meets its contract: each case of the answer is told as a number that reads as it.
-use native.Mathlib.Omega.{arith}
 use borrow.Author.Needs.{needs}
-use Rattle.card.specs.Format.{Bytes}
-use Rattle.planner_c.proofs.NumbersReadBack.{tells-accepted, tells-not-accepted}
+use Rattle.planner_c.proofs.NumbersReadBack.{plain-fine, tells-accepted, tells-not-accepted}
 use Rattle.planner_c.proofs.kit_read.Statement.{statement}
 use Rattle.planner_c.proofs.kit_read.Tie as tie
-
--- every byte of the lent card
-lent : (m : tie.After-read) → Bytes (m .before .before .before .args .card .now)
-lent m = record { byte = λ i. omega (arith, m .before .before .shared-slice-known .given i) }
 
 read-requires : tie.Need-read-requires
 read-requires c κs = search needs
@@ -31,13 +25,16 @@ packed-refusal-requires c κs = search needs
 returns : tie.Need-returns
 returns c =
     let m = c .before .before .before .before in
-    tells-accepted (lent m) _ (m .read .ensures .0) (m .read .ensures .1) (c .before .before .answer .given .1) (c .packed .ensures)
+    let t = tells-accepted (c .packed .result) _ (m .read .ensures .0) (m .read .ensures .1) (c .before .before .answer .given .1)
+    (c .packed .ensures) in
+    (t .0, (t .1, plain-fine (c .packed .result) (c .packed .ensures .0)))
 
 returns-2 : tie.Need-returns-2
 returns-2 c =
     let m = c .before .before .before .before in
-    tells-not-accepted (lent m) _ (m .read .ensures .0) (m .read .ensures .1) (c .before .before .answer2 .given .1)
-    (c .packed-refusal .ensures)
+    let t = tells-not-accepted (c .packed-refusal .result) _ (m .read .ensures .0) (m .read .ensures .1) (c .before .before .answer2 .given .1)
+    (c .packed-refusal .ensures .0) in
+    (t .0, (t .1, c .packed-refusal .ensures .1))
 
 pub kit-read-spec : {M : Type 1} → statement M
 kit-read-spec =

@@ -1,7 +1,9 @@
+use native.Mathlib.Omega.{arith}
+use mathlib.Core.Path.{refl}
 use borrow.Author.Needs.{needs}
 use Rattle.card.specs.Verdict.{whereOf}
-use Rattle.planner_c.specs.Inner.Pack.{placeNumber, placeIndex}
-use Rattle.planner_c.proofs.NumbersReadBack.{packs}
+use Rattle.planner_c.specs.Numbers.{places, placeOf}
+use Rattle.planner_c.proofs.NumbersReadBack.{told-at, indexOf, plain-indexed, plain-bare}
 use Rattle.planner_c.proofs.packed_refusal.Statement.{statement}
 use Rattle.planner_c.proofs.packed_refusal.Tie as tie
 
@@ -48,32 +50,53 @@ packed-requires-7 : tie.Need-packed-requires-7
 packed-requires-7 c κs = search needs
 
 returns : tie.Need-returns
-unfolding whereOf placeNumber placeIndex
-returns c = packs _ _ _ (c .before .enum-told .given .1) (c .packed .ensures)
+unfolding whereOf placeOf places indexOf
+returns c = (
+  told-at (c .packed .result) (c .before .enum-told .given .1) (c .packed .ensures) refl,
+  plain-bare (c .packed .result) (c .packed .ensures) (omega arith) refl,
+)
 
 returns-2 : tie.Need-returns-2
-unfolding whereOf placeNumber placeIndex
-returns-2 c = packs _ _ _ (c .before .before .place .given .1) (c .packed2 .ensures)
+unfolding whereOf placeOf places indexOf
+returns-2 c = (
+  told-at (c .packed2 .result) (c .before .before .place .given .1) (c .packed2 .ensures) refl,
+  plain-indexed (c .packed2 .result) (c .packed2 .ensures) (omega arith) refl refl,
+)
 
 returns-3 : tie.Need-returns-3
-unfolding whereOf placeNumber placeIndex
-returns-3 c = packs _ _ _ (c .before .before .place2 .given .1) (c .packed3 .ensures)
+unfolding whereOf placeOf places indexOf
+returns-3 c = (
+  told-at (c .packed3 .result) (c .before .before .place2 .given .1) (c .packed3 .ensures) refl,
+  plain-indexed (c .packed3 .result) (c .packed3 .ensures) (omega arith) refl refl,
+)
 
 returns-4 : tie.Need-returns-4
-unfolding whereOf placeNumber placeIndex
-returns-4 c = packs _ _ _ (c .before .before .place3 .given .1) (c .packed4 .ensures)
+unfolding whereOf placeOf places indexOf
+returns-4 c = (
+  told-at (c .packed4 .result) (c .before .before .place3 .given .1) (c .packed4 .ensures) refl,
+  plain-indexed (c .packed4 .result) (c .packed4 .ensures) (omega arith) refl refl,
+)
 
 returns-5 : tie.Need-returns-5
-unfolding whereOf placeNumber placeIndex
-returns-5 c = packs _ _ _ (c .before .enum-told2 .given .1) (c .packed5 .ensures)
+unfolding whereOf placeOf places indexOf
+returns-5 c = (
+  told-at (c .packed5 .result) (c .before .enum-told2 .given .1) (c .packed5 .ensures) refl,
+  plain-bare (c .packed5 .result) (c .packed5 .ensures) (omega arith) refl,
+)
 
 returns-6 : tie.Need-returns-6
-unfolding whereOf placeNumber placeIndex
-returns-6 c = packs _ _ _ (c .before .enum-told3 .given .1) (c .packed6 .ensures)
+unfolding whereOf placeOf places indexOf
+returns-6 c = (
+  told-at (c .packed6 .result) (c .before .enum-told3 .given .1) (c .packed6 .ensures) refl,
+  plain-bare (c .packed6 .result) (c .packed6 .ensures) (omega arith) refl,
+)
 
 returns-7 : tie.Need-returns-7
-unfolding whereOf placeNumber placeIndex
-returns-7 c = packs _ _ _ (c .before .before .place4 .given .1) (c .packed7 .ensures)
+unfolding whereOf placeOf places indexOf
+returns-7 c = (
+  told-at (c .packed7 .result) (c .before .before .place4 .given .1) (c .packed7 .ensures) refl,
+  plain-indexed (c .packed7 .result) (c .packed7 .ensures) (omega arith) refl refl,
+)
 
 pub packed-refusal-spec : {M : Type 1} → statement M
 packed-refusal-spec =

@@ -5,7 +5,8 @@ use borrow.Author.Needs.{needs}
 use Rattle.card.specs.Format.{lineCount}
 use Rattle.card.proofs.CardChecked.{sound-front}
 use Rattle.lines.specs.Inner.Set.{fullS, cutS}
-use Rattle.search.specs.Inner.Found.{strictOf, startB}
+use Rattle.scope.specs.Inner.Sets.{strictOf}
+use Rattle.search.specs.Inner.Found.{startB}
 use Rattle.search.proofs.start.Statement.{statement}
 use Rattle.search.proofs.start.Tie as tie
 

@@ -7,15 +7,16 @@ use mathlib.Core.List.{List, [], _∷_}
 use lib.ListN.{length, getD, take, drop}
 use lib.Seq.{slice}
 use lib.Dec.{leb, ltb}
-use Rattle.calculus.specs.Formula.{Goal, head, residual}
+use Rattle.calculus.specs.Formula.{Goal, usable, residual}
 use Rattle.calculus.specs.Items.{Items, _∪_}
 use Rattle.calculus.specs.Derivation.{Scope}
 use Rattle.calculus.specs.Inner.Summary.{Bounded}
 use Rattle.card.specs.Format.{ruleCount, lineCount, nodeCount}
 use Rattle.card.specs.Fault.{Sound, goalPart, clausePart, heightAt}
-use Rattle.card.specs.Decode.{goalAt, clauseOf}
+use Rattle.card.specs.Decode.{goalAt, clauseOf, scopeOf}
 use Rattle.lines.specs.declared.LineSet.{LineSet}
-use Rattle.lines.specs.Inner.Set.{member, isEmptyS, emptyS, addS, takeS, cutS, joinS}
+use Rattle.scope.specs.Inner.Sets.{items}
+use Rattle.lines.specs.Inner.Set.{isEmptyS, emptyS, addS, takeS, cutS, joinS}
 use Rattle.search.specs.declared.walk.Given.{Given}
 use Rattle.search.specs.declared.walk.Branch.{Branch}
 use Rattle.search.specs.declared.walk.Way.{Way}
@@ -25,13 +26,9 @@ use Rattle.search.specs.declared.walk.Choice.{Choice}
 use Rattle.search.specs.declared.walk.Choice.the-variants.{Taken, Dead}
 use Rattle.search.specs.declared.walk.Sought.{Sought}
 use Rattle.search.specs.declared.walk.Sought.the-variants.{At, Nothing}
-use Rattle.search.specs.Inner.Walk.{State, Outcome, solved, stuck, headFits, usable, seek, choose, walk, resolve, Choice as ChoiceM}
+use Rattle.search.specs.Inner.Walk.{State, Outcome, solved, stuck, takable, seek, choose, walk, resolve, Choice as ChoiceM}
 use Rattle.search.specs.Inner.Walk.{taken, dead}
 use Rattle.search.specs.Inner.Entries.{Entered, scopeIn, eligibleBy}
-
--- The items of a line set: item i is the entry P + i.
-unfoldable pub items : ℕ → LineSet → Items
-items P s e = leb P e && member s (e - P)
 
 -- Where a branch stands in the walk.
 unfoldable pub stateOf : Given → Branch → List ℕ → State
@@ -133,7 +130,7 @@ pub record GoalReady (bs : List ℕ) (g : Given) (node : ℕ) (b : Branch) : Typ
 -- The node is a clause of the card whose head fits the name, and the same of the room.
 pub record ClauseReady (bs : List ℕ) (g : Given) (name node : ℕ) (b : Branch) : Type 0 where
   pub clause : clausePart bs (nodeCount bs) node ≡ true
-  pub head : headFits (Rattle.calculus.specs.Formula.head (clauseOf bs node)) name ≡ true
+  pub head : usable (scopeOf bs .fits) name (clauseOf bs node) ≡ true
   pub deep : b .count + 7 + 6 * b .depth ≤ g .rules + 168
 
 -- The first n of a list are kept, and its length.
@@ -160,7 +157,8 @@ goalWalk bs twins tape nodes g node b =
 
 unfoldable pub clauseWalk : List ℕ → List ℕ → List ℕ → List ℕ → Given → ℕ → ℕ → Branch → Outcome
 clauseWalk bs twins tape nodes g name node b =
-    walk (eligibleBy bs twins) (b .depth) (residual name (clauseOf bs node)) (scopeIn bs nodes (b .count)) (stateOf g b tape)
+    walk (eligibleBy bs twins) (b .depth) (residual (scopeOf bs .fits) name (clauseOf bs node)) (scopeIn bs nodes (b .count))
+    (stateOf g b tape)
 
 unfoldable pub useWalk : List ℕ → List ℕ → List ℕ → List ℕ → Given → ℕ → ℕ → Branch → Outcome
 useWalk bs twins tape nodes g name e b =
@@ -168,9 +166,9 @@ useWalk bs twins tape nodes g name e b =
     (taken e)
 
 -- What an entry's test, the least entry and the choice at a name are.
-unfoldable pub usableAt : List ℕ → List ℕ → List ℕ → List ℕ → Given → ℕ → Branch → ℕ → Bool
-usableAt bs twins tape nodes g name b e =
-    usable (eligibleBy bs twins) (scopeIn bs nodes (b .count)) (stateOf g b tape) name e
+unfoldable pub takableAt : List ℕ → List ℕ → List ℕ → List ℕ → Given → ℕ → Branch → ℕ → Bool
+takableAt bs twins tape nodes g name b e =
+    takable (eligibleBy bs twins) (scopeIn bs nodes (b .count)) (stateOf g b tape) name e
 
 unfoldable pub soughtOf : Option ℕ → Sought
 soughtOf none = Nothing
@@ -191,7 +189,7 @@ pick bs twins tape nodes g name b =
 pub record CanUse (bs twins tape nodes : List ℕ) (g : Given) (name : ℕ) (b : Branch) (e : ℕ) : Type 0 where
   pub deep : 1 ≤ b .depth
   pub room : b .at < g .limit
-  pub usable : usableAt bs twins tape nodes g name b e ≡ true
+  pub takable : takableAt bs twins tape nodes g name b e ≡ true
   pub kept : b .at < g .fixed → getD tape (b .at) 0 ≡ e
 
 pub record IsDead (g : Given) (b : Branch) (p : ℕ) : Type 0 where

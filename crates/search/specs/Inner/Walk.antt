@@ -6,9 +6,10 @@ use mathlib.Core.Option.{Option, none, some}
 use mathlib.Core.List.{List, [], _∷_, _++_}
 use lib.ListN.{length, drop}
 use lib.Dec.{leb}
-use Rattle.calculus.specs.Formula.{Goal, Clause, atomᴳ, topᴳ, oneᴳ, zeroᴳ, tensor, with, lolliᴳ, fits, head, residual}
+use Rattle.calculus.specs.Formula.{Goal, Clause, atomᴳ, topᴳ, oneᴳ, zeroᴳ, tensor, with, lolliᴳ, usable}
 use Rattle.calculus.specs.Items.{Items, ∅, _∪_, _∖_, only}
-use Rattle.calculus.specs.Derivation.{Scope, clauseAt, linearAt, lend}
+use Rattle.calculus.specs.Derivation.{Scope, size, clauseAt, linearAt, residualAt, lend}
+use Rattle.calculus.specs.Inner.Summary.{spare}
 use Rattle.calculus.specs.Inner.Window.{tensor-strict, tensor-lax, with-strict, with-lax}
 
 -- Where a walk stands.
@@ -54,11 +55,6 @@ unfoldable pub vacant : ℕ → Items → Bool
 vacant zero I = true
 vacant (suc n) I = not (I n) && vacant n I
 
--- the clause's head fits the wanted name
-unfoldable pub headFits : Option ℕ → ℕ → Bool
-headFits none a = false
-headFits (some b) a = fits b a
-
 -- the least k, k + 1, .., k + n - 1 that passes
 unfoldable pub seek : (ℕ → Bool) → ℕ → ℕ → Option ℕ
 seek p k zero = none
@@ -96,42 +92,44 @@ chosen (some e) = taken e
 
 module _ (eligible : List ℕ → ℕ → Bool) where
   -- an entry that can be used for the name: its head fits, it is a rule or an item at hand, and it is eligible after the steps so far
-  unfoldable pub usable : Scope → State → ℕ → ℕ → Bool
-  usable es s a e =
-      headFits (head (clauseAt es e)) a
+  unfoldable pub takable : Scope → State → ℕ → ℕ → Bool
+  takable es s a e =
+      usable (es .fits) a (clauseAt es e)
       && ((not (linearAt es e) || (s .strict ∪ s .lax) e) && eligible (s .done) e)
 
-  -- a given step is taken as it stands; else the first usable entry from the floor on
+  -- a given step is taken as it stands; else the first such entry from the floor on
   unfoldable pub choose : Scope → State → ℕ → List ℕ → Choice
-  choose es s a [] = chosen (seek (usable es s a) (s .floor) (length es - s .floor))
-  choose es s a (x ∷ F) = cond (usable es s a x) (taken x) (dead (x ∷ []))
+  choose es s a [] = chosen (seek (takable es s a) (s .floor) (size es - s .floor))
+  choose es s a (x ∷ F) = cond (takable es s a x) (taken x) (dead (x ∷ []))
 
   -- the walk at a goal, where `atomic` walks a name
   unfoldable pub go : (ℕ → Scope → State → Outcome) → Goal → Scope → State → Outcome
   go atomic (atomᴳ a) es s = atomic a es s
   go atomic topᴳ es s = solved [] ∅ true
-  go atomic oneᴳ es s = elim (vacant (length es) (s .strict)) [ true ↦ solved [] ∅ false | false ↦ stuck [] ]
+  go atomic oneᴳ es s = elim (vacant (size es) (s .strict)) [ true ↦ solved [] ∅ false | false ↦ stuck [] ]
   go atomic zeroᴳ es s = stuck []
   go atomic (tensor G H) es s =
       elim (go atomic G es (holding s ∅ (s .strict ∪ s .lax))) [
         | stuck p ↦ stuck p
         | solved l U v ↦
-            after-left l U v _||_ (go atomic H es (moved s l (tensor-strict v (s .strict) U) (tensor-lax v (s .strict) (s .lax) U)))
+            after-left l U v _||_
+            (go atomic H es (moved s l (tensor-strict (spare es v) (s .strict) U) (tensor-lax (spare es v) (s .strict) (s .lax) U)))
       ]
   go atomic (with G H) es s =
       elim (go atomic G es s) [
         | stuck p ↦ stuck p
-        | solved l U v ↦ after-left l U v _&&_ (go atomic H es (moved s l (with-strict v (s .strict) U) (with-lax v (s .lax) U)))
+        | solved l U v ↦
+            after-left l U v _&&_ (go atomic H es (moved s l (with-strict (spare es v) (s .strict) U) (with-lax (spare es v) (s .lax) U)))
       ]
   go atomic (lolliᴳ D G) es s =
-      after-lend (length es) (go atomic G (lend es D) (holding s (s .strict ∪ only (length es)) (s .lax)))
+      after-lend (size es) (go atomic G (lend es D) (holding s (s .strict ∪ only (size es)) (s .lax)))
 
   -- a use: the residual, with the entry spent, in the walk one deeper
   unfoldable pub resolve : (Goal → Scope → State → Outcome) → ℕ → Scope → State → Choice → Outcome
   resolve deeper a es s (dead p) = stuck p
   resolve deeper a es s (taken e) =
       after-use es e
-      (deeper (residual a (clauseAt es e)) es (moved s (e ∷ []) (spent es e (s .strict)) (spent es e (s .lax))))
+      (deeper (residualAt es a e) es (moved s (e ∷ []) (spent es e (s .strict)) (spent es e (s .lax))))
 
   -- a name: nothing can be used with no nesting or no room left
   unfoldable pub atomic : ℕ → ℕ → Scope → State → Outcome

@@ -23,7 +23,7 @@ byte-requires c κs = search needs
 returns : tie.Need-returns Inv-loop μ-loop
 returns c =
     let s = c .before .before .before .before .before .args in
-    let i = c .before .before .before .before .loop .i in
+    let i = c .before .before .before .loop .i in
     let q : s .e ≡ getD (s .steps .now) i 0 = cc in
     sym (stands-found (s .e) (s .steps .now) (s .k) i (omega arith) (omega arith) q)
 
@@ -35,12 +35,12 @@ loop-less c = search needs
 
 loop-again : tie.Need-loop-again Inv-loop μ-loop
 loop-again c =
-    let turn = c .before .before .before .before in
+    let turn = c .before .before .before in
     (search needs, below-more _ _ (turn .loop .inv .1) (λ q. c .if1 .left (q ∙ sym (c .before .byte .ensures .0))))
 
 returns-2 : tie.Need-returns-2 Inv-loop μ-loop
 returns-2 c =
-    let s = c .before .before .args in
+    let s = c .before .before .before .args in
     sym (stands-none (s .e) (s .steps .now) (s .k) (λ j h. c .before .loop .inv .1 j (omega arith)))
 
 pub is-step-spec : {M : Type 1} → statement M

@@ -52,7 +52,7 @@ loop-again c =
 returns-2 : tie.Need-returns-2 Inv-loop μ-loop
 unfolding told
 returns-2 c =
-    let e : c .before .loop .i ≡ lineCount (c .before .before .before .before .before .args .card .now) = omega arith in
+    let e : c .before .loop .i ≡ lineCount (c .before .before .before .before .before .before .args .card .now) = omega arith in
     sym (rw e at (c .before .loop .inv .1))
 
 pub marks-check-spec : {M : Type 1} → statement M

@@ -29,10 +29,10 @@ mark-requires c κs = search needs
 
 slice-write-marks : tie.Need-slice-write-marks Inv-loop μ-loop
 slice-write-marks c =
-    let s = c .before .before .before .before .before .before .args in
-    let i = c .before .before .loop .i in
+    let s = c .before .before .before .before .before .before .before .args in
+    let i = c .before .before .before .loop .i in
     let kept = listing-kept (markOf (s .card .now) (take (s .k) (s .steps .now))) i (s .marks .now) (omega arith) in
-    omega (arith, ap length (c .before .before .loop .inv .1))
+    omega (arith, ap length (c .before .before .before .loop .inv .1))
 
 add-i : tie.Need-add-i Inv-loop μ-loop
 add-i c = search needs
@@ -42,10 +42,10 @@ loop-less c = search needs
 
 loop-again : tie.Need-loop-again Inv-loop μ-loop
 loop-again c =
-    let s = c .before .before .before .before .before .before .args in
-    let i = c .before .before .loop .i in
+    let s = c .before .before .before .before .before .before .before .args in
+    let i = c .before .before .before .loop .i in
     let more = listing-more (markOf (s .card .now) (take (s .k) (s .steps .now))) i (s .marks .now) (omega arith) in
-    (search needs, rw (c .before .before .loop .inv .1, c .mark .ensures, add-one) more)
+    (search needs, rw (c .before .before .before .loop .inv .1, c .mark .ensures, add-one) more)
 
 same-length : tie.Need-same-length Inv-loop μ-loop
 same-length c =

@@ -1,36 +1,40 @@
-use Prim.Native.Nat.{_<_}
-use native.Mathlib.Omega.{arith}
+use Prim.Native.Nat.{_+_, max}
+use mathlib.Core.Path.{_∙_, ap, ap₂}
 use borrow.Author.Needs.{needs}
-use Rattle.card.specs.Format.{leftAt, rightAt}
-use Rattle.card.proofs.NodesChecked.{parts-lower, height-1, height-more}
+use Rattle.card.specs.Kinds.{kindOf}
+use Rattle.card.specs.Fault.{partHeight}
+use Rattle.card.proofs.NodesChecked.{left-within, right-within, height-from}
 use Rattle.card.proofs.checks.height.Statement.{statement}
 use Rattle.card.proofs.checks.height.Tie as tie
 
--- the function's entry, of a node with parts, and that both stand below it
-abbrev start : tie.Else1 → tie.Start
+-- the function's entry, once the row is known
+abbrev start : tie.After-row → tie.Start
 start c = c .before .before .before
 
-low : (c : tie.Else1)
-    → let bs = start c .args .card .now in let i = start c .args .i in (leftAt bs i < i) × (rightAt bs i < i)
-low c = parts-lower _ _ (start c .pre .1) (omega arith)
-
 kind-requires : tie.Need-kind-requires
-kind-requires c κs = search needs
+kind-requires c κs = c .before .pre .0 .here
 
-returns : tie.Need-returns
-returns c = height-1 _ _ (omega arith)
+row-requires : tie.Need-row-requires
+row-requires c κs = search needs
 
 left-requires : tie.Need-left-requires
-left-requires c κs = search needs
+left-requires c κs = start c .pre .0 .here
+
+part-height-requires : tie.Need-part-height-requires
+part-height-requires c κs =
+    let s = start (c .before) in
+    let x = c .before .row .ensures in
+    (s .pre .0 .size, left-within _ _ (s .pre .1) (s .pre .0 .few) (x .0) (c .before .before .kind .ensures .0) (c .left .ensures .0))
 
 right-requires : tie.Need-right-requires
-right-requires c κs = search needs
+right-requires c κs = start (c .before .before) .pre .0 .here
 
-byte-requires : tie.Need-byte-requires
-byte-requires c κs = let l = low (c .before .before .before) in omega arith
-
-byte-requires-2 : tie.Need-byte-requires-2
-byte-requires-2 c κs = let l = low (c .before .before .before .before .before) in omega arith
+part-height-requires-2 : tie.Need-part-height-requires-2
+part-height-requires-2 c κs =
+    let a = c .before .before .before in
+    let s = start a in
+    let x = a .row .ensures in
+    (s .pre .0 .size, right-within _ _ (s .pre .1) (s .pre .0 .few) (x .1) (a .before .kind .ensures .0) (c .right .ensures .0))
 
 greater-requires : tie.Need-greater-requires
 greater-requires c κs = search needs
@@ -38,22 +42,33 @@ greater-requires c κs = search needs
 add-result : tie.Need-add-result
 add-result c = search needs
 
-returns-2 : tie.Need-returns-2
-returns-2 c =
-    let s = start (c .before .before .before .before .before .before .before) in
-    let more = height-more _ _ _ (s .pre .0) (s .pre .1) (omega arith) in
-    cc
+returns : tie.Need-returns
+returns c =
+    let second = c .before in
+    let first = second .before .before in
+    let a = first .before .before in
+    let s = start a in
+    let t = s .args .heights .now in
+    let k = a .before .kind .ensures .0 in
+    let l = a .row .ensures .0 ∙ ap (λ x. kindOf x .left) k in
+    let r = a .row .ensures .1 ∙ ap (λ x. kindOf x .right) k in
+    ap (λ n. n + 1)
+    (c .greater .ensures
+    ∙ ap₂ max
+    (first .part-height .ensures .0 ∙ ap₂ (partHeight t) l (first .before .left .ensures .0))
+    (second .part-height2 .ensures .0 ∙ ap₂ (partHeight t) r (second .before .right .ensures .0)))
+    ∙ height-from _ _ (s .pre .1) _ (s .pre .0)
 
 pub height-spec : {M : Type 1} → statement M
 height-spec =
     tie.close
     (tie.spec
     kind-requires
-    returns
+    row-requires
     left-requires
+    part-height-requires
     right-requires
-    byte-requires
-    byte-requires-2
+    part-height-requires-2
     greater-requires
     add-result
-    returns-2)
+    returns)

@@ -1,7 +1,10 @@
 -- `line_check` meets its contract: 9 is told of a line whose test fails.
+use mathlib.Core.Path.{_∙_, ap, ap₂}
+use mathlib.Core.Bool.{not, _&&_}
+use lib.Dec.{leb}
 use borrow.Author.Needs.{needs}
-use Rattle.card.specs.Verdict.{whereOf}
-use Rattle.card.specs.Fault.{lineFault, lineGood}
+use Rattle.card.specs.Verdict.{line, refuse, whereOf}
+use Rattle.card.specs.Fault.{clausePart, lineFault, lineGood}
 use Rattle.card.proofs.checks.line_check.Statement.{statement}
 use Rattle.card.proofs.checks.line_check.Tie as tie
 
@@ -28,7 +31,19 @@ refuse-requires c κs = search needs
 
 returns : tie.Need-returns
 unfolding lineFault whereOf lineGood
-returns c = cc
+returns c =
+    let both = c .before in
+    let part = both .before in
+    let node = part .before in
+    let byte = node .before in
+    let start = byte .before .before .before in
+    let bs = start .args .card .now in
+    c .refuse .ensures
+    ∙ ap (λ b. refuse (not b) 9 (line (start .args .i)))
+    (both .both .ensures
+    ∙ ap₂ _&&_
+    (part .clause-part .ensures ∙ ap₂ (clausePart bs) (byte .before .word .ensures .0) (node .line-node .ensures .0))
+    (ap (λ n. leb n 1) (byte .line-byte .ensures .0)))
 
 pub line-check-spec : {M : Type 1} → statement M
 line-check-spec =

@@ -43,10 +43,11 @@ cast-t9 c = search needs
 returns : tie.Need-returns Inv-loop μ-loop
 unfolding told whereOf
 returns c =
-    let turn = c .before .before .before .before .before in
+    let check = c .before .before in
+    let turn = check .before .before .before in
     let bs = turn .before .before .before .args .card .now in
     let i = turn .loop .i in
-    let e : builtAt bs i ≡ Faulty = cc in
+    let e : builtAt bs i ≡ Faulty = sym (check .node-check .ensures) ∙ c .enum-told .given .1 in
     sym (first-stops i (nodeCount bs) (nodeFault bs) (turn .loop .inv .1 .0) (fault-of bs i e) (omega arith))
 
 array-write-heights : tie.Need-array-write-heights Inv-loop μ-loop

@@ -1,7 +1,9 @@
 -- `rule_check` meets its contract: 8 is told of a rule whose test fails.
+use mathlib.Core.Path.{_∙_, ap, ap₂}
+use mathlib.Core.Bool.{not}
 use borrow.Author.Needs.{needs}
-use Rattle.card.specs.Verdict.{whereOf}
-use Rattle.card.specs.Fault.{ruleFault}
+use Rattle.card.specs.Verdict.{rule, refuse, whereOf}
+use Rattle.card.specs.Fault.{clausePart, ruleFault}
 use Rattle.card.proofs.checks.rule_check.Statement.{statement}
 use Rattle.card.proofs.checks.rule_check.Tie as tie
 
@@ -22,7 +24,14 @@ refuse-requires c κs = search needs
 
 returns : tie.Need-returns
 unfolding ruleFault whereOf
-returns c = cc
+returns c =
+    let part = c .before in
+    let node = part .before in
+    let start = node .before .before .before in
+    let bs = start .args .card .now in
+    c .refuse .ensures
+    ∙ ap (λ b. refuse (not b) 8 (rule (start .args .i)))
+    (part .clause-part .ensures ∙ ap₂ (clausePart bs) (node .before .word .ensures .0) (node .rule-node .ensures .0))
 
 pub rule-check-spec : {M : Type 1} → statement M
 rule-check-spec =

@@ -82,8 +82,9 @@ loop-again c =
     let f = sound-front bs (start .pre .0) in
     let n : p + (i + 1) ≡ suc (p + i) = omega arith in (
       omega arith,
-      rw (c .put .ensures .0, c .put .ensures .1, c .before .line-node .ensures .0, n, add-one i) (
-        entered-more (lineNode bs i) t (omega arith) (sound-line-node (start .pre .0) i (omega arith)),
+      rw (c .put .ensures .0, c .put .ensures .1 .written, c .before .line-node .ensures .0, n, add-one i) (
+        entered-more (lineNode bs i) t (omega arith) (sound-line-node (start .pre .0) i (omega arith))
+            (rw (c .before .line-node .ensures .0) at (c .put .ensures .1 .is-head)),
         listed-more (listing p (ruleNode bs)) (lineNode bs) (turn .nodes) (p + i) i (omega arith) (turn .inv .1 .1),
       ),
     )

@@ -64,8 +64,9 @@ loop-again c =
     let t = turn .inv .1 .0 in
     let f = sound-front bs (start .pre .0) in (
       omega arith,
-      rw (c .put .ensures .0, c .put .ensures .1, c .before .rule-node .ensures .0, add-one i) (
-        entered-more (ruleNode bs i) t (omega arith) (sound-rule-node (start .pre .0) i (omega arith)),
+      rw (c .put .ensures .0, c .put .ensures .1 .written, c .before .rule-node .ensures .0, add-one i) (
+        entered-more (ruleNode bs i) t (omega arith) (sound-rule-node (start .pre .0) i (omega arith))
+            (rw (c .before .rule-node .ensures .0) at (c .put .ensures .1 .is-head)),
         listed-more [] (ruleNode bs) (turn .nodes) i i (omega arith) (turn .inv .1 .1),
       ),
     )

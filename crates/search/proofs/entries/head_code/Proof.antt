@@ -6,14 +6,16 @@ use mathlib.Core.Bool.{true}
 use mathlib.Core.List.{List}
 use native.Mathlib.Omega.{arith}
 use borrow.Author.Needs.{needs}
+use borrow.Author.Tests.{ne-eqb}
 use lib.ListN.{length}
-use Rattle.calculus.specs.Formula.{head}
-use Rattle.card.specs.Format.{nodeCount, kindAt, rightAt}
+use lib.Dec.{eqb}
+use Rattle.calculus.specs.Formula.{Fits, usable}
+use Rattle.card.specs.Format.{nodeCount, kindAt, leftAt, rightAt}
 use Rattle.card.specs.Fault.{Sound, clausePart}
-use Rattle.card.specs.Decode.{clauseOf}
-use Rattle.search.specs.Inner.Entries.{headCode}
-use Rattle.card.proofs.SoundNodes.{clause-lower, clause-kind, clause-above, node-here, parts-below, recipe-parts, head-recipe, head-name}
-use Rattle.card.proofs.SoundNodes.{head-rest}
+use Rattle.card.specs.Decode.{clauseOf, scopeOf}
+use Rattle.search.specs.Inner.Entries.{HeadCode}
+use Rattle.card.proofs.SoundNodes.{clause-lower, clause-kind, clause-above, node-here, parts-below, recipe-parts, usable-recipe}
+use Rattle.card.proofs.SoundNodes.{usable-name, usable-rest, name-low}
 use Rattle.search.proofs.entries.head_code.Statement.{statement}
 use Rattle.search.proofs.entries.head_code.Tie as tie
 
@@ -32,19 +34,35 @@ module _ {bs : List ℕ} (s : Sound bs) (i : ℕ) (p : clausePart bs (nodeCount 
     clause : clausePart bs (nodeCount bs) j ≡ true
     clause = rw e (clause-above bs i (rightAt bs i) (nodeCount bs) (omega (arith, below)) (recipe-parts s i below k .1))
 
-    same : head (clauseOf bs j) ≡ head (clauseOf bs i)
-    same = ap (λ n. head (clauseOf bs n)) e ∙ sym (head-recipe s i below k)
+    same : (fits : Fits) (a : ℕ) → usable fits a (clauseOf bs j) ≡ usable fits a (clauseOf bs i)
+    same fits a = ap (λ n. usable fits a (clauseOf bs n)) e ∙ sym (usable-recipe s i below k fits a)
 
-  -- a clause that is neither a name nor a recipe has no head
-  headless : (kindAt bs i ≡ 7 → ⊥) → (kindAt bs i ≡ 1 → ⊥) → 1000 ≡ headCode (head (clauseOf bs i))
-  unfolding headCode
+  -- the code of a name, and of a clause that is neither a name nor a recipe
+  named : (c : ℕ) → kindAt bs i ≡ 1 → c ≡ leftAt bs i → HeadCode bs i c
+  unfolding scopeOf
+  named c k e = record {
+    small = omega (arith, name-low s i below k);
+    tells = λ a h. ap (λ n. eqb n a) e ∙ sym (usable-name bs i k (scopeOf bs .fits) a);
+  }
+
+  headless : (kindAt bs i ≡ 7 → ⊥) → (kindAt bs i ≡ 1 → ⊥) → HeadCode bs i 1000
   headless n m =
-      ⊎-elim (λ k. absurd (m k)) (⊎-elim (λ k. ap headCode (sym (head-rest bs i k))) (λ k. absurd (n k)))
+      ⊎-elim (λ k. absurd (m k))
+      (⊎-elim (λ k. record {
+        small = omega arith;
+        tells = λ a h. ne-eqb 1000 a (λ q. omega arith) ∙ sym (usable-rest bs i k (scopeOf bs .fits) a);
+      }) (λ k. absurd (n k)))
       (clause-kind bs (nodeCount bs) i p)
+
+-- clauses that can be used for the same names have the same head
+head-of : {bs : List ℕ} {i j c : ℕ} → ((fits : Fits) (a : ℕ) → usable fits a (clauseOf bs i) ≡ usable fits a (clauseOf bs j))
+    → HeadCode bs i c → HeadCode bs j c
+head-of {bs} e t = record { small = t .small; tells = λ a h. t .tells a h ∙ e (scopeOf bs .fits) a }
 
 abbrev Inv-loop : tie.InvT-loop
 Inv-loop card node at₀ k₀ at k =
-    (k ≡ kindAt card at) × ((clausePart card (nodeCount card) at ≡ true) × (head (clauseOf card at) ≡ head (clauseOf card node)))
+    (k ≡ kindAt card at) × ((clausePart card (nodeCount card) at ≡ true)
+    × ((fits : Fits) (a : ℕ) → usable fits a (clauseOf card at) ≡ usable fits a (clauseOf card node)))
 
 abbrev μ-loop : tie.MeasureT-loop
 μ-loop card node at₀ k₀ at k = at
@@ -57,7 +75,7 @@ kind-requires c κs =
 loop-holds : tie.Need-loop-holds Inv-loop μ-loop
 loop-holds c =
     let start = c .before .before in
-    (c .kind .ensures .0, (start .pre .1, refl))
+    (c .kind .ensures .0, (start .pre .1, λ fits a. refl))
 
 right-requires : tie.Need-right-requires Inv-loop μ-loop
 right-requires c κs =
@@ -88,7 +106,8 @@ loop-again c =
       c .kind2 .ensures .0,
       (
         clause (start .pre .0) (turn .at) (inv .1 .0) (c .before .right .result) k (c .before .right .ensures .0),
-        same (start .pre .0) (turn .at) (inv .1 .0) (c .before .right .result) k (c .before .right .ensures .0) ∙ inv .1 .1,
+        λ fits a. same (start .pre .0) (turn .at) (inv .1 .0) (c .before .right .result) k (c .before .right .ensures .0) fits a
+            ∙ inv .1 .1 fits a,
       ),
     )
 
@@ -102,19 +121,18 @@ cast-result : tie.Need-cast-result Inv-loop μ-loop
 cast-result c = search needs
 
 returns : tie.Need-returns Inv-loop μ-loop
-unfolding headCode
 returns c =
     let start = c .before .before .before .before .before .before in
     let turn = c .before .before .before .loop in
     let inv = turn .inv in
-    c .left .ensures .0 ∙ ap headCode (sym (head-name (start .args .card .now) (turn .at) (omega arith)) ∙ inv .1 .1)
+    head-of (inv .1 .1) (named (start .pre .0) (turn .at) (inv .1 .0) _ (omega arith) (c .left .ensures .0))
 
 returns-2 : tie.Need-returns-2 Inv-loop μ-loop
 returns-2 c =
     let start = c .before .before .before .before .before in
     let turn = c .before .before .loop in
     let inv = turn .inv in
-    headless (start .pre .0) (turn .at) (inv .1 .0) (λ k. omega arith) (λ k. omega arith) ∙ ap headCode (inv .1 .1)
+    head-of (inv .1 .1) (headless (start .pre .0) (turn .at) (inv .1 .0) (λ k. omega arith) (λ k. omega arith))
 
 pub head-code-spec : {M : Type 1} → statement M
 head-code-spec =

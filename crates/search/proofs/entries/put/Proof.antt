@@ -1,6 +1,5 @@
-use mathlib.Core.Path.{refl, ap}
+use mathlib.Core.Path.{refl}
 use borrow.Author.Needs.{needs}
-use lib.ListN.{set}
 use Rattle.card.specs.Format.{nodeCount}
 use Rattle.card.proofs.CardChecked.{sound-front}
 use Rattle.card.proofs.SoundNodes.{clause-lower}
@@ -31,9 +30,7 @@ element-write-heads : tie.Need-element-write-heads
 element-write-heads c = search needs
 
 returns : tie.Need-returns
-returns c =
-    let start = c .before .before in
-    (refl, ap (set (start .args .heads .now) (start .args .e)) (c .head-code .ensures))
+returns c = (refl, record { code = c .head-code .result; written = refl; is-head = c .head-code .ensures })
 
 pub put-spec : {M : Type 1} → statement M
 put-spec =

@@ -3,7 +3,7 @@ use mathlib.Core.Path.{refl}
 use borrow.Author.Tests.{lt-leb, le-leb}
 use borrow.Author.Needs.{needs}
 use Rattle.calculus.specs.Items.{_∪_}
-use Rattle.search.specs.Inner.Values.{items}
+use Rattle.scope.specs.Inner.Sets.{items}
 use Rattle.search.proofs.walk.at_hand.Statement.{statement}
 use Rattle.search.proofs.walk.at_hand.Tie as tie
 

@@ -6,15 +6,15 @@ use mathlib.Core.Path.{_≡_, refl, sym, _∙_, ap}
 use mathlib.Core.Bool.{Bool}
 use borrow.Author.Needs.{needs}
 use Rattle.search.specs.Inner.Walk.{seek}
-use Rattle.search.specs.Inner.Values.{usableAt, soughtOf}
+use Rattle.search.specs.Inner.Values.{takableAt, soughtOf}
 use Rattle.search.proofs.SeekFindsLeast.{seek-taken, seek-passed}
 use Rattle.search.proofs.walk.seek.Statement.{statement}
 use Rattle.search.proofs.walk.seek.Tie as tie
 
 abbrev Inv-loop : tie.InvT-loop
 Inv-loop card twins tape nodes heads g b name from count e₀ e =
-    _≡_ (seek (usableAt card twins tape nodes g name b) from (b .count - from))
-    (seek (usableAt card twins tape nodes g name b) e (b .count - e))
+    _≡_ (seek (takableAt card twins tape nodes g name b) from (b .count - from))
+    (seek (takableAt card twins tape nodes g name b) e (b .count - e))
 
 abbrev μ-loop : tie.MeasureT-loop
 μ-loop card twins tape nodes heads g b name from count e₀ e = b .count - e
@@ -23,7 +23,7 @@ abbrev μ-loop : tie.MeasureT-loop
 abbrev test : tie.Start Inv-loop μ-loop → ℕ → Bool
 test start =
     let a = start .args in
-    usableAt (a .card .now) (a .twins .now) (a .tape .now) (a .nodes .now) (a .g) (a .name) (a .b)
+    takableAt (a .card .now) (a .twins .now) (a .tape .now) (a .nodes .now) (a .g) (a .name) (a .b)
 
 loop-holds : tie.Need-loop-holds Inv-loop μ-loop
 loop-holds c = refl

@@ -1,19 +1,17 @@
 -- An entry past the scope has no head; else the head of the table, at hand, eligible.
-use Prim.Native.Nat.{suc, _<_}
 use native.Mathlib.Omega.{arith}
 use mathlib.Core.Path.{sym, _∙_}
 use borrow.Author.Tests.{not-true, not-false}
 use borrow.Author.Needs.{needs}
-use lib.ListN.{getD}
 use Rattle.card.proofs.CardChecked.{sound-front}
-use Rattle.search.proofs.SeekFindsLeast.{head-low, usable-past, usable-other, usable-away, usable-near}
+use Rattle.search.proofs.SeekFindsLeast.{takable-past, takable-other, takable-away, takable-near}
 use Rattle.search.proofs.walk.usable.Statement.{statement}
 use Rattle.search.proofs.walk.usable.Tie as tie
 
 returns : tie.Need-returns
 returns c =
     let start = c .before .before in
-    sym (usable-past (start .pre .0) (start .args .name) (start .args .e) (c .if1 .taken))
+    sym (takable-past (start .pre .0) (start .args .name) (start .args .e) (c .if1 .taken))
 
 mul-head : tie.Need-mul-head
 mul-head c =
@@ -28,17 +26,13 @@ element-copy-out-head c =
 cast-head : tie.Need-cast-head
 cast-head c =
     let start = c .before .before .before in
-    let r = start .pre .0 in
-    let e = start .args .e in
-    let n = getD (start .args .nodes .now) e 0 in
-    let h : e < start .args .b .count = c .before .if1 .left in
-    let low = rw (← r .entered .headed e h) at (head-low (r .sound) (suc n) n (omega arith) (r .entered .clauses e h)) in
+    let low = start .pre .0 .entered .headed (start .args .e) (c .before .if1 .left) .small in
     omega arith
 
 returns-2 : tie.Need-returns-2
 returns-2 c =
     let start = c .before .before .before .before in
-    sym (usable-other (start .pre .0) (start .args .name) (start .args .e) (start .pre .1) (c .before .before .if1 .left) (c .if2 .taken))
+    sym (takable-other (start .pre .0) (start .args .name) (start .args .e) (start .pre .1) (c .before .before .if1 .left) (c .if2 .taken))
 
 at-hand-requires : tie.Need-at-hand-requires
 at-hand-requires c κs = search needs
@@ -46,7 +40,7 @@ at-hand-requires c κs = search needs
 returns-3 : tie.Need-returns-3
 returns-3 c =
     let start = c .before .before .before .before .before .before in
-    sym (usable-away (start .pre .0) (start .args .name) (start .args .e) (start .pre .1) (c .before .before .before .before .if1 .left)
+    sym (takable-away (start .pre .0) (start .args .name) (start .args .e) (start .pre .1) (c .before .before .before .before .if1 .left)
     (c .before .before .if2 .left) (sym (c .before .at-hand .ensures) ∙ not-true _ (c .if3 .taken)))
 
 eligible-requires : tie.Need-eligible-requires
@@ -56,7 +50,7 @@ returns-4 : tie.Need-returns-4
 returns-4 c =
     let start = c .before .before .before .before .before .before .before in
     c .eligible .ensures
-    ∙ sym (usable-near (start .pre .0) (start .args .name) (start .args .e) (start .pre .1)
+    ∙ sym (takable-near (start .pre .0) (start .args .name) (start .args .e) (start .pre .1)
     (c .before .before .before .before .before .if1 .left)
     (c .before .before .before .if2 .left) (sym (c .before .before .at-hand .ensures) ∙ not-false _ (c .before .if3 .left)))
 

@@ -1,0 +1,87 @@
+-- What the table of kinds says of every kind: a test that each row passes, and an unknown kind too, holds of all numbers.
+use Prim.Native.Nat.{ℕ, zero, suc, _≤_, _<_}
+use native.Mathlib.Omega.{arith}
+use mathlib.Core.Path.{_≡_, refl, sym, _∙_}
+use mathlib.Core.Logic.{_⊎_, inl, inr, ⊎-elim}
+use mathlib.Core.Bool.{Bool, true, false, not, _&&_, _||_}
+use mathlib.Core.List.{List, [], _∷_}
+use lib.ListN.{length, getD, List·getD-eq-default}
+use lib.Dec.{leb, eqb}
+use borrow.Author.Tests.{leb-true, eqb-true, lt-leb}
+use Rattle.card.specs.declared.kinds.Field.{Field}
+use Rattle.card.specs.declared.kinds.Field.the-variants.{Unused, Name, GoalPart, ClausePart, Unknown}
+use Rattle.card.specs.Kinds.{Kind, unknown, kinds, kindOf}
+use Rattle.card.specs.Fault.{given, isGoal, isClause}
+use Rattle.card.proofs.FrontChecked.{both-left, both-right}
+
+-- the rows pass the test, each with its number
+passes : (ℕ → Kind → Bool) → List Kind → Bool
+passes f [] = true
+passes f (x ∷ xs) = f zero x && passes (λ k. f (suc k)) xs
+
+at-row : (f : ℕ → Kind → Bool) (xs : List Kind) → passes f xs ≡ true → ((k : ℕ) → f k unknown ≡ true) → (k : ℕ)
+    → f k (getD xs k unknown) ≡ true
+unfolding passes
+at-row f [] e u k = u k
+at-row f (x ∷ xs) e u zero = both-left (f zero x) (passes (λ k. f (suc k)) xs) e
+at-row f (x ∷ xs) e u (suc k) =
+    at-row (λ n. f (suc n)) xs (both-right (f zero x) (passes (λ n. f (suc n)) xs) e) (λ n. u (suc n)) k
+
+-- past the last row no kind is known
+pub past-last : (k : ℕ) → length kinds ≤ k → kindOf k ≡ unknown
+unfolding kindOf
+past-last k h = List·getD-eq-default kinds unknown h
+
+or-cases : (a b : Bool) → (a || b) ≡ true → (a ≡ true) ⊎ (b ≡ true)
+or-cases true b e = inl refl
+or-cases false b e = inr e
+
+follows : (a b : Bool) → (not a || b) ≡ true → a ≡ true → b ≡ true
+follows true b e h = e
+follows false b e h = absurd (let z : _≡_ {A = ℕ} 0 1 = cc in omega arith)
+
+-- which kinds read as a goal
+goal-test : ℕ → Kind → Bool
+goal-test k x = not (given (x .goal)) || (leb 1 k && leb k 6)
+
+pub goal-kinds : (k : ℕ) → isGoal k ≡ true → (1 ≤ k) × (k ≤ 6)
+unfolding isGoal kindOf goal-test given passes kinds
+goal-kinds k e =
+    let b = follows (given (kindOf k .goal)) (leb 1 k && leb k 6) (at-row goal-test kinds refl (λ n. refl) k) e in
+    (leb-true _ _ (both-left (leb 1 k) (leb k 6) b), leb-true _ _ (both-right (leb 1 k) (leb k 6) b))
+
+-- which read as a clause
+clause-test : ℕ → Kind → Bool
+clause-test k x = not (given (x .clause)) || (eqb k 1 || (eqb k 2 || eqb k 7))
+
+pub clause-kinds : (k : ℕ) → isClause k ≡ true → (k ≡ 1) ⊎ ((k ≡ 2) ⊎ (k ≡ 7))
+unfolding isClause kindOf clause-test given passes kinds
+clause-kinds k e =
+    ⊎-elim (λ h. inl (eqb-true k 1 h))
+    (λ h. inr (⊎-elim (λ g. inl (eqb-true k 2 g)) (λ g. inr (eqb-true k 7 g)) (or-cases (eqb k 2) (eqb k 7) h)))
+    (or-cases (eqb k 1) (eqb k 2 || eqb k 7)
+    (follows (given (kindOf k .clause)) _ (at-row clause-test kinds refl (λ n. refl) k) e))
+
+-- a field in which nothing fits but a part
+unfoldable pub partOnly : Field → Bool
+partOnly Unused = false
+partOnly Name = false
+partOnly GoalPart = true
+partOnly ClausePart = true
+partOnly Unknown = true
+
+-- a kind above 3 has two parts
+parts-test : ℕ → Kind → Bool
+parts-test k x = (partOnly (x .left) && partOnly (x .right)) || leb k 3
+
+pub two-parts : (k : ℕ) → 3 < k → (partOnly (kindOf k .left) ≡ true) × (partOnly (kindOf k .right) ≡ true)
+unfolding kindOf parts-test partOnly passes kinds
+two-parts k h =
+    let l = partOnly (kindOf k .left) in
+    let r = partOnly (kindOf k .right) in
+    let b = by-test (l && r) (leb k 3) (lt-leb k 3 h) (at-row parts-test kinds refl (λ n. refl) k) in
+    (both-left l r b, both-right l r b)
+  where
+    by-test : (a b : Bool) → b ≡ false → (a || b) ≡ true → a ≡ true
+    by-test true b n e = refl
+    by-test false b n e = sym n ∙ e

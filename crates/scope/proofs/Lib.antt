@@ -1,0 +1,3 @@
+-- Theorems about the definitions of specs/ that belong to no one function.
+pub mod SetsAreItems
+pub mod TablesAreScopes

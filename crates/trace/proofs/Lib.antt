@@ -1,0 +1,5 @@
+-- Theorems about the definitions of specs/ that belong to no one function.
+pub mod SummariesGather
+pub mod WalksTell
+pub mod CallsAreReady
+pub mod FollowsExactly
