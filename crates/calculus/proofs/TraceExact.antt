@@ -57,11 +57,6 @@ pub trace-sum : {n : ℕ} {es : Scope} {G : Goal} {w : Gathered}
     → Trace n es (goal G) w → w .alive ≡ true → Sum n es G (w .list) (w .used) (w .slack)
 trace-sum t h = part-sum t h
 
--- the same at the conditions of a clause
-pub meet-sum : {n : ℕ} {es : Scope} {a : ℕ} {D : Clause} {w : Gathered}
-    → Trace n es (meet a D) w → w .alive ≡ true → Sum n es (residual (es .fits) a D) (w .list) (w .used) (w .slack)
-meet-sum t h = part-sum t h
-
 -- The walk of a summary
 
 -- a walk whose items divide
@@ -122,11 +117,6 @@ sum-part (sum-item {es} {a} {e} r h s x) itself =
 pub sum-trace : {n : ℕ} {es : Scope} {G : Goal} {l : List ℕ} {U : Items} {v : Bool}
     → Sum n es G l U v → Trace n es (goal G) (divided l U v)
 sum-trace s = sum-part s itself
-
--- the same at the conditions of a clause
-pub sum-meet : {n : ℕ} {es : Scope} {l : List ℕ} {U : Items} {v : Bool} (a : ℕ) (D : Clause)
-    → Sum n es (residual (es .fits) a D) l U v → Trace n es (meet a D) (divided l U v)
-sum-meet {es} a D s = sum-part s (comes es a D)
 
 -- A list is walked in one way
 

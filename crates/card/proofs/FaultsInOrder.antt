@@ -59,3 +59,11 @@ first-each (suc n) f p i h = ⊎-elim
     (λ e. rw e (sound-right (firstOf n f) (f n) p))
     (λ l. first-each n f (sound-left (firstOf n f) (f n) p) i l)
     (eq-or-lt-of-le {n = i} {m = n} (omega arith))
+
+-- no verdict is sound and a fault, and none is two faults, whatever a call makes of its fault
+pub sound-or-faulty : {v : Verdict} {n : ℕ} {w : Where} → v ≡ sound → v ≡ fault n w → ⊥
+sound-or-faulty p q = let z : _≡_ {A = ℕ} 0 1 = cc in omega arith
+
+pub same-fault : {A : Type 0} (refused : ℕ → Where → A) {v : Verdict} {n m : ℕ} {w u : Where} → v ≡ fault n w → v ≡ fault m u
+    → refused n w ≡ refused m u
+same-fault refused p q = cc

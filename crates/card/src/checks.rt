@@ -2,6 +2,7 @@
 use crate::Checked;
 use crate::Place;
 use crate::Refusal;
+use crate::both;
 use crate::format::byte;
 use crate::format::kind;
 use crate::format::left;
@@ -14,7 +15,7 @@ use crate::kinds::Field;
 use crate::kinds::row;
 use crate::refuse;
 ghost use mathlib.Core.Path.{_≡_};
-ghost use mathlib.Core.Bool.{_&&_, true};
+ghost use mathlib.Core.Bool.{true};
 ghost use Prim.Native.Nat.{_+_, _*_, _≤_, _<_, max};
 ghost use lib.ListN.{length};
 ghost use Rattle.card.specs.Format.{nodeCount, ruleCount, lineCount, cardLength};
@@ -22,12 +23,6 @@ ghost use Rattle.card.specs.Verdict.{told, firstOf};
 ghost use Rattle.card.specs.Fault.{frontFault, nodeFault, goalFault, ruleFault, lineFault};
 ghost use Rattle.card.specs.Fault.{inRange, isGoal, isClause, goalPart, clausePart, fitsField, wellBuilt, partHeight, heightAt};
 ghost use Rattle.card.specs.Inner.Checks.{builtAt, Framed, PartBelow, Tabled};
-
-fn both(a: bool, b: bool) -> bool
-    ensures { λ r. ⌜ r ≡ (a && b) ⌝ }
-{
-    if a { b } else { false }
-}
 
 // P, T, N and d are in range.
 fn in_range(card: &[u8]) -> bool

@@ -4,6 +4,7 @@ pub mod format;
 mod kinds;
 
 ghost use mathlib.Core.Path.{_≡_};
+ghost use mathlib.Core.Bool.{_&&_, _||_};
 ghost use Rattle.card.specs.Verdict.{told, refuse, whereOf};
 ghost use Rattle.card.specs.Fault.{firstFault};
 
@@ -28,6 +29,19 @@ pub struct Refusal {
 pub enum Checked {
     Sound,
     Refused(Refusal),
+}
+
+// Two tests of which both have to hold, and two of which one has to: `&&` and `||` with a contract.
+pub fn both(a: bool, b: bool) -> bool
+    ensures { λ r. ⌜ r ≡ (a && b) ⌝ }
+{
+    if a { b } else { false }
+}
+
+pub fn either(a: bool, b: bool) -> bool
+    ensures { λ r. ⌜ r ≡ (a || b) ⌝ }
+{
+    if a { true } else { b }
 }
 
 // A check whose test says whether it applies.

@@ -11,6 +11,7 @@ use Rattle.calculus.specs.Job.{Job, Derivable, Listed, First}
 use Rattle.card.specs.Format.{Bytes, lineCount}
 use Rattle.card.specs.Verdict.{Verdict, Where, fault}
 use Rattle.card.specs.Fault.{firstFault, Placed, Sound}
+use Rattle.card.proofs.FaultsInOrder.{sound-or-faulty, same-fault}
 use Rattle.card.specs.Decode.{jobOf}
 use Rattle.card.specs.Sheet.{word, sheetOf}
 use Rattle.card.proofs.CardChecked.{sound-front}
@@ -40,28 +41,21 @@ first-unique j l m f g = at (f .least m (g .listed)) (g .least l (f .listed))
 pub derivable : {j : Job} {l : List ℕ} → Listed j l → Derivable j
 derivable x = record { derivation = x .derivation; limited = x .limited }
 
--- The cases of an outcome exclude each other.
-sound-or-faulty : {bs : List ℕ} {n : ℕ} {w : Where} → Sound bs → firstFault bs ≡ fault n w → ⊥
-sound-or-faulty s e = let p = s .faultless in let z : _≡_ {A = ℕ} 0 1 = cc in omega arith
-
-same-fault : {u : Verdict} {n m : ℕ} {w v : Where} → u ≡ fault n w → u ≡ fault m v → refused n w ≡ refused m v
-same-fault p q = cc
-
--- "Card, .. old buffer and these rules therefore determine every answer and byte."
+-- "Card, .. old buffer and these rules therefore determine every answer and byte": the cases of an outcome exclude each other.
 pub plan-determined : {bs old : List ℕ} {a b : PlanVerdict} {m n : List ℕ} → Planning bs old a m → Planning bs old b n → (a ≡ b) × (m ≡ n)
-plan-determined (faulty p) (faulty q) = (same-fault p q, refl)
-plan-determined (faulty p) (short s h) = absurd (sound-or-faulty s p)
-plan-determined (faulty p) (underivable s h u) = absurd (sound-or-faulty s p)
-plan-determined (faulty p) (planned-as s h l f) = absurd (sound-or-faulty s p)
-plan-determined (short s h) (faulty q) = absurd (sound-or-faulty s q)
+plan-determined (faulty p) (faulty q) = (same-fault refused p q, refl)
+plan-determined (faulty p) (short s h) = absurd (sound-or-faulty (s .faultless) p)
+plan-determined (faulty p) (underivable s h u) = absurd (sound-or-faulty (s .faultless) p)
+plan-determined (faulty p) (planned-as s h l f) = absurd (sound-or-faulty (s .faultless) p)
+plan-determined (short s h) (faulty q) = absurd (sound-or-faulty (s .faultless) q)
 plan-determined (short s h) (short t i) = (refl, refl)
 plan-determined (short s h) (underivable t i u) = absurd (omega arith)
 plan-determined (short s h) (planned-as t i l f) = absurd (omega arith)
-plan-determined (underivable s h u) (faulty q) = absurd (sound-or-faulty s q)
+plan-determined (underivable s h u) (faulty q) = absurd (sound-or-faulty (s .faultless) q)
 plan-determined (underivable s h u) (short t i) = absurd (omega arith)
 plan-determined (underivable s h u) (underivable t i v) = (refl, refl)
 plan-determined (underivable s h u) (planned-as t i l f) = absurd (u (derivable (f .listed)))
-plan-determined (planned-as s h l f) (faulty q) = absurd (sound-or-faulty s q)
+plan-determined (planned-as s h l f) (faulty q) = absurd (sound-or-faulty (s .faultless) q)
 plan-determined (planned-as s h l f) (short t i) = absurd (omega arith)
 plan-determined (planned-as s h l f) (underivable t i u) = absurd (u (derivable (f .listed)))
 plan-determined {bs} {old} (planned-as s h l f) (planned-as t i m g) =
@@ -71,7 +65,7 @@ plan-determined {bs} {old} (planned-as s h l f) (planned-as t i m g) =
 -- Demand 2. Of a sound card and a buffer with room: it is planned exactly if there is a derivation within limits.
 pub planned-exactly : {bs old new : List ℕ} {a : PlanVerdict} → Sound bs → roomOf bs ≤ length old → Planning bs old a new
     → ((k : ℕ) × (a ≡ planned k)) ↔ Derivable (jobOf bs)
-planned-exactly s r (faulty p) = absurd (sound-or-faulty s p)
+planned-exactly s r (faulty p) = absurd (sound-or-faulty (s .faultless) p)
 planned-exactly s r (short t h) = absurd (omega arith)
 planned-exactly s r (underivable t h u) = (λ q. let z : _≡_ {A = ℕ} 0 1 = cc (q .1) in absurd (omega arith), λ d. absurd (u d))
 planned-exactly s r (planned-as t h l f) = (λ q. derivable (f .listed), λ d. (length l, refl))

@@ -15,7 +15,7 @@ use Rattle.card.specs.Fault.{Placed, Sound}
 use Rattle.card.specs.Decode.{jobOf}
 use Rattle.card.specs.Sheet.{markOf, marksOf, word, sheetOf}
 use Rattle.card.proofs.TablesGrow.{length-listing, listing-at}
-use Rattle.card.proofs.FaultsInOrder.{not-applied, first-each, first-goes}
+use Rattle.card.proofs.FaultsInOrder.{not-applied, first-each, first-goes, sound-or-faulty, same-fault}
 use Rattle.card.proofs.NodesDecoded.{listed-short}
 use Rattle.card.proofs.FaultsInRange.{Tells, tells-refuse, tells-first, fault-in-range}
 use Rattle.sheet.specs.Front.{stepCount, stepsOf, marksIn, sheetFault}
@@ -26,22 +26,15 @@ use Rattle.sheet.proofs.SheetWritten.{mark-right}
 use Rattle.reader.specs.Read.{ReadVerdict, accepted, refused, marksFault, Reading, faulty, misfit, no-list, wrong-mark, accepted-as}
 use Rattle.reader.specs.Read.{ReadDecided, is-accepted, is-refused, Holds, AcceptsExactly}
 
--- The cases of an outcome exclude each other.
-sound-or-faulty : {v : Verdict} {n : ℕ} {w : Where} → v ≡ sound → v ≡ fault n w → ⊥
-sound-or-faulty p q = let z : _≡_ {A = ℕ} 0 1 = cc in omega arith
-
-same-fault : {v : Verdict} {n m : ℕ} {w u : Where} → v ≡ fault n w → v ≡ fault m u → refused n w ≡ refused m u
-same-fault p q = cc
-
--- "Card, the reader's sheet .. and these rules therefore determine every answer".
+-- "Card, the reader's sheet .. and these rules therefore determine every answer": the cases of an outcome exclude each other.
 pub read-determined : {bs sh : List ℕ} {a b : ReadVerdict} → Reading bs sh a → Reading bs sh b → a ≡ b
-read-determined (faulty p) (faulty q) = same-fault p q
+read-determined (faulty p) (faulty q) = same-fault refused p q
 read-determined (faulty p) (misfit s q) = absurd (sound-or-faulty (s .faultless) p)
 read-determined (faulty p) (no-list s f n) = absurd (sound-or-faulty (s .faultless) p)
 read-determined (faulty p) (wrong-mark s f x q) = absurd (sound-or-faulty (s .faultless) p)
 read-determined (faulty p) (accepted-as s f x m) = absurd (sound-or-faulty (s .faultless) p)
 read-determined (misfit s p) (faulty q) = absurd (sound-or-faulty (s .faultless) q)
-read-determined (misfit s p) (misfit t q) = same-fault p q
+read-determined (misfit s p) (misfit t q) = same-fault refused p q
 read-determined (misfit s p) (no-list t f n) = absurd (sound-or-faulty f p)
 read-determined (misfit s p) (wrong-mark t f x q) = absurd (sound-or-faulty f p)
 read-determined (misfit s p) (accepted-as t f x m) = absurd (sound-or-faulty f p)
@@ -53,7 +46,7 @@ read-determined (no-list s f n) (accepted-as t g x m) = absurd (n x)
 read-determined (wrong-mark s f x p) (faulty q) = absurd (sound-or-faulty (s .faultless) q)
 read-determined (wrong-mark s f x p) (misfit t q) = absurd (sound-or-faulty f q)
 read-determined (wrong-mark s f x p) (no-list t g n) = absurd (n x)
-read-determined (wrong-mark s f x p) (wrong-mark t g y q) = same-fault p q
+read-determined (wrong-mark s f x p) (wrong-mark t g y q) = same-fault refused p q
 read-determined (wrong-mark s f x p) (accepted-as t g y m) = absurd (sound-or-faulty m p)
 read-determined (accepted-as s f x m) (faulty q) = absurd (sound-or-faulty (s .faultless) q)
 read-determined (accepted-as s f x m) (misfit t q) = absurd (sound-or-faulty f q)

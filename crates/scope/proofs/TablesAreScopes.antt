@@ -82,20 +82,20 @@ job-scope bs nodes linear n p = ap (λ es. record { entries = es; fits = scopeOf
 
 -- Entries
 
+pub kept-trans : {A : Type 0} {n m : ℕ} {xs ys zs : List A} → n ≤ m → Kept n xs ys → Kept m ys zs → Kept n xs zs
+kept-trans {n} {m} {ys} {zs} h p q = record {
+  size = q .size ∙ p .size;
+  same = sym (take-take n m zs h) ∙ ap (take n) (q .same) ∙ take-take n m ys h ∙ p .same;
+}
+
+pub kept-again : {A : Type 0} (n : ℕ) {xs ys zs : List A} → Kept n xs ys → Kept n ys zs → Kept n xs zs
+kept-again n = kept-trans {n = n} {m = n} (omega arith)
+
 pub kept-self : {A : Type 0} (n : ℕ) (xs : List A) → Kept n xs xs
 kept-self n xs = record { size = refl; same = refl }
 
-pub kept-trans : {A : Type 0} {n : ℕ} {xs ys zs : List A} → Kept n xs ys → Kept n ys zs → Kept n xs zs
-kept-trans p q = record { size = q .size ∙ p .size; same = q .same ∙ p .same }
-
-pub kept-set : {A : Type 0} (n : ℕ) (xs : List A) (x : A) → Kept n xs (set xs n x)
-kept-set n xs x = record { size = length-set xs n x; same = take-set-le n xs n x (omega arith) }
-
-pub kept-fewer : {A : Type 0} {n : ℕ} (m : ℕ) {xs ys : List A} → m ≤ n → Kept n xs ys → Kept m xs ys
-kept-fewer {n} m {xs} {ys} h k = record {
-  size = k .size;
-  same = sym (take-take m n ys h) ∙ ap (take m) (k .same) ∙ take-take m n xs h;
-}
+pub kept-set : {A : Type 0} (n i : ℕ) (xs : List A) (x : A) → n ≤ i → Kept n xs (set xs i x)
+kept-set n i xs x h = record { size = length-set xs i x; same = take-set-le n xs i x h }
 
 set-here : {A : Type 0} (z : A) (l : List A) (n : ℕ) (c : A) (e : ℕ) → e ≡ n → n < length l → getD (set l n c) e z ≡ c
 set-here z l n c e p h = ap (λ x. getD (set l n c) x z) p ∙ getD-set-same l n c z h
@@ -133,14 +133,4 @@ entered-kept {bs} {nodes} {nodes′} {linear} {linear′} {n} t p q =
       linear-room = q .size ∙ t .linear-room;
       clauses = λ e h. rw (cell-kept 0 n nodes′ nodes (p .same) e h) (t .clauses e h);
       items = λ e h g. t .items e h (sym (cell-kept false n linear′ linear (q .same) e h) ∙ g);
-    }
-
--- a table of n entries has fewer
-pub entered-fewer : {bs nodes : List ℕ} {linear : List Bool} {n : ℕ} (m : ℕ) → m ≤ n → Entered bs nodes linear n → Entered bs nodes linear m
-entered-fewer m k t =
-    record {
-      node-room = t .node-room;
-      linear-room = t .linear-room;
-      clauses = λ e h. t .clauses e (omega arith);
-      items = λ e h. t .items e (omega arith);
     }

@@ -24,25 +24,12 @@ use Rattle.search.specs.declared.walk.Walked.the-variants.{Solved, Stuck
 use Rattle.search.specs.Inner.Walk.{State, Outcome, solved, stuck, moved, holding, walk, go, after-left, after-use, after-lend, spent}
 use Rattle.search.specs.Inner.Walk.{spending}
 use Rattle.scope.specs.Inner.Sets.{items}
-use Rattle.search.specs.Inner.Values.{stateOf, found, reached, pastTensorB, pastWithB, deeperB, behindW, withoutW, Kept, Walks}
+use Rattle.scope.specs.Inner.Tables.{Kept}
+use Rattle.search.specs.Inner.Values.{stateOf, found, reached, pastTensorB, pastWithB, deeperB, behindW, withoutW, Walks}
+use Rattle.scope.proofs.TablesAreScopes.{kept-trans, kept-again, kept-set}
 use Rattle.scope.proofs.SetsAreItems.{items-empty, items-join, items-cut, items-add, items-take}
 
 -- what is kept stays kept over two calls, and a shorter beginning of it
-pub kept-trans : {n m : ℕ} {xs ys zs : List ℕ} → n ≤ m → Kept n xs ys → Kept m ys zs → Kept n xs zs
-kept-trans {n} {m} {xs} {ys} {zs} h p q = record {
-  size = q .size ∙ p .size;
-  same = sym (take-take n m zs h) ∙ ap (take n) (q .same) ∙ take-take n m ys h ∙ p .same;
-}
-
-pub kept-again : (n : ℕ) {xs ys zs : List ℕ} → Kept n xs ys → Kept n ys zs → Kept n xs zs
-kept-again n = kept-trans {n = n} {m = n} (omega arith)
-
-pub kept-self : (n : ℕ) (xs : List ℕ) → Kept n xs xs
-kept-self n xs = record { size = refl; same = refl }
-
-pub kept-set : (n i : ℕ) (xs : List ℕ) (x : ℕ) → n ≤ i → Kept n xs (set xs i x)
-kept-set n i xs x h = record { size = length-set xs i x; same = take-set-le n xs i x h }
-
 -- two runs of steps on the tape, one behind the other
 pub slices : (a m z : ℕ) (t t′ : List ℕ) → Kept m t t′ → a ≤ m → m ≤ z → m ≤ length t → slice a m t ++ slice m z t′ ≡ slice a z t′
 slices a m z t t′ k h i j =

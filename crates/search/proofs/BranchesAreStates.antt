@@ -14,7 +14,8 @@ use Rattle.search.specs.declared.walk.Given.{Given}
 use Rattle.search.specs.declared.walk.Branch.{Branch}
 use Rattle.search.specs.Inner.Walk.{State, moved, holding}
 use Rattle.scope.specs.Inner.Sets.{items}
-use Rattle.search.specs.Inner.Values.{stateOf, openedB, Kept}
+use Rattle.scope.specs.Inner.Tables.{Kept}
+use Rattle.search.specs.Inner.Values.{stateOf, openedB}
 
 -- a branch with other items in the same place
 pub opened-state : (g : Given) (b : Branch) (tape : List ℕ)

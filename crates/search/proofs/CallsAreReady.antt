@@ -31,12 +31,14 @@ use Rattle.search.specs.Inner.Walk.{after-left, after-use, after-lend, s
 use Rattle.search.specs.Inner.Entries.{Entered, scopeIn, eligibleBy, HeadCode}
 use Rattle.scope.specs.Inner.Sets.{items}
 use Rattle.search.specs.Inner.Values.{stateOf, found, reached, openedB, pastTensorB, pastWithB, lentB, deeperB, closedW}
-use Rattle.search.specs.Inner.Values.{coveredW, Ready, Kept, Walks, useWalk, pick, choiceOf, CanUse}
+use Rattle.scope.specs.Inner.Tables.{Kept}
+use Rattle.search.specs.Inner.Values.{coveredW, Ready, Walks, useWalk, pick, choiceOf, CanUse}
 use Rattle.search.proofs.WalkFindsLeast.{walk-solved}
 use Rattle.search.proofs.TablesAreScopes.{scope-len, scope-clause, scope-linear, scope-kept, lend-scope, entered-more, entered-kept}
 use Rattle.scope.proofs.SetsAreItems.{items-empty, items-join, items-add}
 use Rattle.search.proofs.BranchesAreStates.{opened-state, past-state}
-use Rattle.search.proofs.AnswersCompose.{kept-self, kept-set, joined, behind, without, onward, same-place, same-outcome, after-step}
+use Rattle.scope.proofs.TablesAreScopes.{kept-self, kept-set}
+use Rattle.search.proofs.AnswersCompose.{joined, behind, without, onward, same-place, same-outcome, after-step}
 use Rattle.search.proofs.AnswersCompose.{after-lent}
 use Rattle.search.proofs.AnswersCompose.{tensor-strict-items, tensor-lax-items, with-strict-items, with-lax-items, spent-items}
 use Rattle.search.proofs.ModelByConnective.{tensor-stuck, tensor-solved, with-stuck, with-solved, lend-walk, top-walk, one-walk}

@@ -36,12 +36,14 @@ use Rattle.search.specs.Inner.Entries.{scopeIn, eligibleBy, Headed}
 use Rattle.scope.specs.Inner.Sets.{items}
 use Rattle.search.specs.Inner.Values.{stateOf, reached, openedB, pastTensorB, pastWithB, lentB, deeperB, closedW, coveredW}
 use Rattle.search.specs.Inner.Values.{andThenW, besideW, behindW, withoutW}
-use Rattle.search.specs.Inner.Values.{Ready, GoalReady, ClauseReady, Kept, Walks, goalWalk, clauseWalk, useWalk, pick, choiceOf}
+use Rattle.scope.specs.Inner.Tables.{Kept}
+use Rattle.search.specs.Inner.Values.{Ready, GoalReady, ClauseReady, Walks, goalWalk, clauseWalk, useWalk, pick, choiceOf}
 use Rattle.search.specs.Inner.Values.{CanUse, IsDead, Chose, takableAt}
 use Rattle.card.proofs.SoundNodes.{goal-lower, goal-kind, goal-above, clause-lower, clause-above, clause-kind, node-here, height-low}
 use Rattle.card.proofs.SoundNodes.{height-pos, height-parts, parts-below, both-parts, either-parts, lend-parts, recipe-parts, sound-both}
 use Rattle.card.proofs.SoundNodes.{sound-either, sound-lend, sound-recipe, usable-rest, usable-recipe, name-low}
-use Rattle.search.proofs.AnswersCompose.{joined, without, behind, same-outcome, after-step, given-kept, kept-self, kept-set}
+use Rattle.scope.proofs.TablesAreScopes.{kept-self, kept-set}
+use Rattle.search.proofs.AnswersCompose.{joined, without, behind, same-outcome, after-step, given-kept}
 use Rattle.search.proofs.AnswersCompose.{spent-items}
 use Rattle.search.proofs.BranchesAreStates.{past-state}
 use Rattle.search.proofs.TablesAreScopes.{scope-usable, scope-residual, scope-linear, scope-past}

@@ -17,11 +17,11 @@ use Rattle.calculus.proofs.SetLaws.{not-true}
 use Rattle.calculus.specs.Inner.Summary.{spare, Bounded}
 use Rattle.calculus.specs.Inner.Window.{tensor-strict, tensor-lax, with-strict, with-lax}
 use Rattle.lines.specs.declared.LineSet.{LineSet}
-use Rattle.lines.specs.Inner.Set.{member, isEmptyS, emptyS, Words}
-use Rattle.lines.proofs.MemberLaws.{empty-none, none-empty}
+use Rattle.lines.specs.Inner.Set.{isEmptyS, emptyS, Words}
 use Rattle.search.specs.Inner.Walk.{State, Outcome, solved, stuck, moved, holding, vacant, walk, go, atomic, resolve, choose, Choice}
 use Rattle.search.specs.Inner.Walk.{taken, dead, after-left, after-lend}
 use Rattle.scope.specs.Inner.Sets.{items}
+use Rattle.scope.proofs.SetsAreItems.{items-none}
 use Rattle.search.proofs.WalkFindsLeast.{vacant-empty, empty-vacant}
 
 module _ (el : List ℕ → ℕ → Bool) (n : ℕ) where
@@ -95,21 +95,6 @@ atom-walk el (suc n) a es s = rw (lt-leb (suc n) 0 (omega arith)) (at (s .room) 
         let m : suc n - 1 ≡ n = omega arith in
         rw (lt-leb (suc r) 0 (omega arith), m) refl
 
--- a member and its entry
-items-at : (P i : ℕ) (s : LineSet) → items P s (P + i) ≡ member s i
-unfolding items
-items-at P i s =
-    let e : (P + i) - P ≡ i = omega arith in
-    rw (le-leb P (P + i) (omega arith), e) refl
-
-items-none : (P : ℕ) (s : LineSet) → ((i : ℕ) → member s i ≡ false) → Empty (items P s)
-unfolding items
-items-none P s h = record { vacant = λ e. rw (h (e - P)) (no-more (leb P e)) }
-  where
-    no-more : (c : Bool) → (c && false) ≡ false
-    no-more true = refl
-    no-more false = refl
-
 -- the test of 1: no strict item is left
 pub empty-test : (P : ℕ) (s : LineSet) (es : Scope) → Words s → Bounded es (items P s) → vacant (size es) (items P s) ≡ isEmptyS s
 empty-test P s es w b = at (isEmptyS s) refl (vacant (size es) (items P s)) refl
@@ -117,5 +102,5 @@ empty-test P s es w b = at (isEmptyS s) refl (vacant (size es) (items P s)) refl
     at : (x : Bool) → isEmptyS s ≡ x → (y : Bool) → vacant (size es) (items P s) ≡ y → y ≡ x
     at true e true f = refl
     at false e false f = refl
-    at true e false f = sym f ∙ empty-vacant (size es) (items-none P s (empty-none s e))
-    at false e true f = sym (none-empty w (λ i. sym (items-at P i s) ∙ vacant-empty b f .vacant (P + i))) ∙ e
+    at true e false f = sym f ∙ empty-vacant (size es) (items-none P s w .0 e)
+    at false e true f = sym (items-none P s w .1 (vacant-empty b f)) ∙ e

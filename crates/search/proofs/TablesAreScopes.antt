@@ -188,15 +188,6 @@ entered-kept {bs} {nodes} {heads} {n} nodes′ heads′ t ln lh p q =
       headed = λ e h. rw (cell-kept n nodes nodes′ p e h, cell-kept n heads heads′ q e h) at (t .headed e h);
     }
 
-pub entered-fewer : {bs nodes heads : List ℕ} {n : ℕ} (m : ℕ) → m ≤ n → Entered bs nodes heads n → Entered bs nodes heads m
-entered-fewer m k t =
-    record {
-      node-room = t .node-room;
-      head-room = t .head-room;
-      clauses = λ e h. t .clauses e (omega arith);
-      headed = λ e h. t .headed e (omega arith);
-    }
-
 pub entered-none : {bs nodes heads : List ℕ} → length nodes ≡ 256 → length heads ≡ 256 → Entered bs nodes heads 0
 entered-none ln lh =
     record { node-room = ln; head-room = lh; clauses = λ e h. absurd (omega arith); headed = λ e h. absurd (omega arith) }

@@ -1,13 +1,15 @@
 // One walk of a goal along the given steps of a tape and past their end. Nothing is ever given back: a walk that sticks says which
 // beginning of the tape is dead.
 use crate::entries;
+use card::both;
+use card::either;
 use card::format::byte;
 use card::format::kind;
 use card::format::left;
 use card::format::right;
 use lines::LineSet;
 ghost use mathlib.Core.Path.{_≡_};
-ghost use mathlib.Core.Bool.{true, not, _&&_, _||_, cond};
+ghost use mathlib.Core.Bool.{true, not, _||_, cond};
 ghost use Rattle.calculus.specs.Items.{_∪_};
 ghost use Prim.Native.Nat.{_+_, _-_, _*_, _≤_, _<_};
 ghost use Rattle.card.specs.Format.{kindAt};
@@ -250,18 +252,6 @@ impl Way {
             slack: self.slack,
         }
     }
-}
-
-fn both(a: bool, b: bool) -> bool
-    ensures { λ r. ⌜ r ≡ (a && b) ⌝ }
-{
-    if a { b } else { false }
-}
-
-fn either(a: bool, b: bool) -> bool
-    ensures { λ r. ⌜ r ≡ (a || b) ⌝ }
-{
-    if a { true } else { b }
 }
 
 // The entry is a rule or an item at hand.

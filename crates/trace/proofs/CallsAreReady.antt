@@ -23,7 +23,7 @@ use Rattle.card.proofs.SoundNodes.{height-parts, parts-below, both-parts, eithe
 use Rattle.card.proofs.SoundNodes.{sound-lend, sound-recipe, usable-name, usable-rest, usable-recipe}
 use Rattle.scope.specs.Inner.Tables.{scopeIn, Entered, Kept}
 use Rattle.scope.proofs.TablesAreScopes.{scope-size, scope-clause, scope-linear, scope-kept, lend-scope, entered-kept, entered-more}
-use Rattle.scope.proofs.TablesAreScopes.{kept-self, kept-trans, kept-set, kept-fewer}
+use Rattle.scope.proofs.TablesAreScopes.{kept-self, kept-trans, kept-again, kept-set}
 use Rattle.trace.specs.declared.walk.Branch.{Branch}
 use Rattle.trace.specs.declared.walk.Summary.{Summary}
 use Rattle.trace.specs.declared.walk.Walked.{Walked}
@@ -31,7 +31,7 @@ use Rattle.trace.specs.declared.walk.Walked.the-variants.{Ended, Astray}
 use Rattle.trace.specs.declared.walk.Step.{Step}
 use Rattle.trace.specs.declared.walk.Step.the-variants.{Taken, Nothing}
 use Rattle.trace.specs.Inner.Values.{onB, lentB, deeperB, endedW, tensorW, withW, withoutW, behindW}
-use Rattle.trace.specs.Inner.Walks.{from, EndsWith, Fits-none, Tells, Ready, GoalReady, ClauseReady, CanUse, Stepping, PartWalks}
+use Rattle.trace.specs.Inner.Walks.{from, EndsWith, FitsNone, Tells, Ready, GoalReady, ClauseReady, CanUse, Stepping, PartWalks}
 use Rattle.trace.proofs.WalksTell.{Halves, halves-⊗, halves-&, halves-recipe, from-next, from-none, ends-here, first-astray}
 use Rattle.trace.proofs.WalksTell.{second-astray, tensor-ends, with-ends, lend-ends, lend-astray, use-ends, use-astray, use-none}
 use Rattle.trace.proofs.WalksTell.{too-deep, no-step}
@@ -91,9 +91,9 @@ module _ {bs steps nodes : List ℕ} {linear : List Bool} {b : Branch} (R : Read
             → PartWalks bs steps nodes nodes₂ linear linear₂ b r Astray
         unfolding Tells
         second-lost halves X = record {
-          tells = second-astray halves ends (subst (λ s. Fits-none steps (onB b (w .at)) s q) same-scope (X .tells));
-          node-kept = kept-trans (W .node-kept) (X .node-kept);
-          linear-kept = kept-trans (W .linear-kept) (X .linear-kept);
+          tells = second-astray halves ends (subst (λ s. FitsNone steps (onB b (w .at)) s q) same-scope (X .tells));
+          node-kept = kept-again (b .count) (W .node-kept) (X .node-kept);
+          linear-kept = kept-again (b .count) (W .linear-kept) (X .linear-kept);
         }
 
         module _ {v : Summary} (X : PartWalks bs steps nodes₁ nodes₂ linear₁ linear₂ (onB b (w .at)) q (Ended v))
@@ -106,8 +106,8 @@ module _ {bs steps nodes : List ℕ} {linear : List Bool} {b : Branch} (R : Read
             unfolding Tells
             both-kept t = record {
               tells = t;
-              node-kept = kept-trans (W .node-kept) (X .node-kept);
-              linear-kept = kept-trans (W .linear-kept) (X .linear-kept);
+              node-kept = kept-again (b .count) (W .node-kept) (X .node-kept);
+              linear-kept = kept-again (b .count) (W .linear-kept) (X .linear-kept);
             }
 
             pub tensor-done : {r : Part} → Words (w .used) → Words (v .used)
@@ -289,15 +289,15 @@ module _ {bs steps nodes : List ℕ} {linear : List Bool} {b : Branch} (R : Read
               sound-lend (R .sound) node below kind ∙ ap (λ d. lolliᴳ (clauseOf bs d) (goalAt bs (rightAt bs node))) (sym ec)
 
           node-back : Kept (b .count) nodes nodes₂
-          node-back = kept-trans (kept-set (b .count) nodes c) (kept-fewer (b .count) (omega arith) (inner .node-kept))
+          node-back = kept-trans {n = b .count} {m = b .count + 1} (omega arith) (kept-set (b .count) (b .count) nodes c (omega arith)) (inner .node-kept)
 
           linear-back : Kept (b .count) linear linear₂
-          linear-back = kept-trans (kept-set (b .count) linear true) (kept-fewer (b .count) (omega arith) (inner .linear-kept))
+          linear-back = kept-trans {n = b .count} {m = b .count + 1} (omega arith) (kept-set (b .count) (b .count) linear true (omega arith)) (inner .linear-kept)
 
           pub lend-lost : x ≡ Astray → PartWalks bs steps nodes nodes₂ linear linear₂ b (goal (goalAt bs node)) x
           unfolding Tells
           lend-lost e = rw (e, as-lend) (record {
-            tells = lend-astray (subst (λ s. Fits-none steps (lentB b) s (goal (goalAt bs (rightAt bs node)))) lent-scope
+            tells = lend-astray (subst (λ s. FitsNone steps (lentB b) s (goal (goalAt bs (rightAt bs node)))) lent-scope
                 (let t = inner .tells in rw e at t));
             node-kept = node-back;
             linear-kept = linear-back;

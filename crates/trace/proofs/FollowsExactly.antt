@@ -28,7 +28,7 @@ use Rattle.trace.specs.declared.walk.Summary.{Summary}
 use Rattle.trace.specs.declared.walk.Walked.{Walked}
 use Rattle.trace.specs.declared.walk.Walked.the-variants.{Ended, Astray}
 use Rattle.trace.specs.Inner.Values.{startB}
-use Rattle.trace.specs.Inner.Walks.{from, gathered, EndsWith, Fits-none, Tells, Ready, GoalReady, GoalWalks}
+use Rattle.trace.specs.Inner.Walks.{from, gathered, EndsWith, FitsNone, Tells, Ready, GoalReady, GoalWalks}
 use Rattle.trace.specs.Inner.Listing.{Covered}
 use Rattle.trace.proofs.SummariesGather.{within-says}
 
@@ -132,8 +132,8 @@ module _ {bs steps nodes : List ℕ} {linear : List Bool} {k : ℕ} (s : Sound b
     unfolding Tells startB jobOf
     astray-unlisted e x =
         let a = accounts x in
-        let f : Fits-none steps (startB bs k) (jobOf bs .scope) (goal (jobOf bs .goal)) = rw e at told in
-        f .fits-none (a .gathered) [] (a .trace) (whole a)
+        let f : FitsNone steps (startB bs k) (jobOf bs .scope) (goal (jobOf bs .goal)) = rw e at told in
+        f .none-fits (a .gathered) [] (a .trace) (whole a)
 
     module _ (w : Summary) (e : r ≡ Ended w) where
       ended : EndsWith steps (startB bs k) (jobOf bs .scope) (goal (jobOf bs .goal)) w

@@ -16,7 +16,7 @@ use Rattle.lines.specs.Inner.Set.{Words}
 use Rattle.trace.specs.declared.walk.Branch.{Branch}
 use Rattle.trace.specs.declared.walk.Summary.{Summary}
 use Rattle.trace.specs.Inner.Values.{onB, lentB, deeperB, endedW, tensorW, withW, withoutW, behindW}
-use Rattle.trace.specs.Inner.Walks.{from, gathered, EndsWith, Fits-none}
+use Rattle.trace.specs.Inner.Walks.{from, gathered, EndsWith, FitsNone}
 use Rattle.trace.proofs.SummariesGather.{ended-gathers, tensor-gathers, with-gathers, lend-gathers, item-gathers, rule-gathers}
 
 -- The parts of a walk
@@ -103,24 +103,24 @@ module _ {steps : List ℕ} {b : Branch} {es : Scope} where
   -- Two parts
 
   module _ {p q r : Part} (halves : Halves (b .depth) es p q r) where
-    pub first-astray : Fits-none steps b es p → Fits-none steps b es r
-    first-astray f = record { fits-none = λ g t c e. go g t (halves g c) e }
+    pub first-astray : FitsNone steps b es p → FitsNone steps b es r
+    first-astray f = record { none-fits = λ g t c e. go g t (halves g c) e }
       where
         go : (g : Gathered) (t : List ℕ)
             → (x y : Gathered) × Trace (b .depth) es p x × Trace (b .depth) es q y × (g .list ≡ x .list ++ y .list)
             → g .list ++ t ≡ from steps b (b .at) → ⊥
-        go g t (x, y, c, d, l) e = f .fits-none x (y .list ++ t) c (sym (append-assoc (x .list) (y .list) t) ∙ sym (ap (_++ t) l) ∙ e)
+        go g t (x, y, c, d, l) e = f .none-fits x (y .list ++ t) c (sym (append-assoc (x .list) (y .list) t) ∙ sym (ap (_++ t) l) ∙ e)
 
-    pub second-astray : {w : Summary} → EndsWith steps b es p w → Fits-none steps (onB b (w .at)) es q → Fits-none steps b es r
+    pub second-astray : {w : Summary} → EndsWith steps b es p w → FitsNone steps (onB b (w .at)) es q → FitsNone steps b es r
     unfolding from gathered
-    second-astray {w} k f = record { fits-none = λ g t c e. go g t (halves g c) e }
+    second-astray {w} k f = record { none-fits = λ g t c e. go g t (halves g c) e }
       where
         go : (g : Gathered) (t : List ℕ)
             → (x y : Gathered) × Trace (b .depth) es p x × Trace (b .depth) es q y × (g .list ≡ x .list ++ y .list)
             → g .list ++ t ≡ from steps b (b .at) → ⊥
         go g t (x, y, c, d, l) e =
             let h = sym (append-assoc (x .list) (y .list) t) ∙ sym (ap (_++ t) l) ∙ e ∙ sym (k .along) in
-            f .fits-none y t d (trace-unique (y .list ++ t) (from steps b (w .at)) c (k .trace) h .rests)
+            f .none-fits y t d (trace-unique (y .list ++ t) (from steps b (w .at)) c (k .trace) h .rests)
 
   module _ {p q r : Part} {w v : Summary} (k : EndsWith steps b es p w) (m : EndsWith steps (onB b (w .at)) es q v) where
     both-end : (u : Summary) → u .at ≡ v .at → Trace (b .depth) es r (gathered (b .rules) u (k .list ++ m .list)) → EndsWith steps b es r u
@@ -162,10 +162,10 @@ module _ {steps : List ℕ} {b : Branch} {es : Scope} where
     trace = trace-⊸ (lend-gathers (b .rules) (b .count) h w (k .list) es q) (k .trace);
   }
 
-  pub lend-astray : {D : Clause} {G : Goal} → Fits-none steps (lentB b) (lend es D) (goal G) → Fits-none steps b es (goal (lolliᴳ D G))
+  pub lend-astray : {D : Clause} {G : Goal} → FitsNone steps (lentB b) (lend es D) (goal G) → FitsNone steps b es (goal (lolliᴳ D G))
   unfolding from
   lend-astray f =
-      record { fits-none = λ g t c e. let x = lent-inner c in f .fits-none (x .0) t (x .1) (sym (ap (_++ t) (x .2)) ∙ e) }
+      record { none-fits = λ g t c e. let x = lent-inner c in f .none-fits (x .0) t (x .1) (sym (ap (_++ t) (x .2)) ∙ e) }
 
   -- A use
 
@@ -194,26 +194,26 @@ module _ {steps : List ℕ} {b : Branch} {es : Scope} where
         by true r l = trace-item r (item-gathers (b .rules) e (l refl) w (k .list) few) (k .trace)
         by false r l = trace-rule r (rule-gathers (b .rules) e w (k .list)) (k .trace)
 
-    pub use-astray : Fits-none steps (deeperB b) es (meet a (clauseAt es e)) → Fits-none steps b es (goal (atomᴳ a))
+    pub use-astray : FitsNone steps (deeperB b) es (meet a (clauseAt es e)) → FitsNone steps b es (goal (atomᴳ a))
     unfolding from
-    use-astray f = record { fits-none = λ g t c h. go t (uses c) (same-entry t (uses c) next h) }
+    use-astray f = record { none-fits = λ g t c h. go t (uses c) (same-entry t (uses c) next h) }
       where
         go : {g : Gathered} (t : List ℕ) (u : Uses (b .depth) es a g) → (u .entry ≡ e) × (u .behind .list ++ t ≡ from steps b (b .at + 1)) → ⊥
         go t u (p, q) =
             let d : u .deeper ≡ b .depth - 1 = let o = u .deep in omega arith in
             let c = subst (λ n. Trace n es (meet a (clauseAt es (u .entry))) (u .behind)) d (u .walked) in
-            f .fits-none (u .behind) t (subst (λ x. Trace (b .depth - 1) es (meet a (clauseAt es x)) (u .behind)) p c) q
+            f .none-fits (u .behind) t (subst (λ x. Trace (b .depth - 1) es (meet a (clauseAt es x)) (u .behind)) p c) q
 
     -- an entry that cannot be used for the name
-    pub use-none : usable (es .fits) a (clauseAt es e) ≡ false → Fits-none steps b es (goal (atomᴳ a))
-    use-none n = record { fits-none = λ g t c h. go (uses c) (same-entry t (uses c) next h .0) }
+    pub use-none : usable (es .fits) a (clauseAt es e) ≡ false → FitsNone steps b es (goal (atomᴳ a))
+    use-none n = record { none-fits = λ g t c h. go (uses c) (same-entry t (uses c) next h .0) }
       where
         go : {g : Gathered} (u : Uses (b .depth) es a g) → u .entry ≡ e → ⊥
         go u p = false≢true (sym n ∙ sym (ap (λ x. usable (es .fits) a (clauseAt es x)) p) ∙ fitting (u .walked))
 
   -- with no nesting or no step left, no name is walked
-  pub too-deep : {a : ℕ} → b .depth ≡ zero → Fits-none steps b es (goal (atomᴳ a))
-  too-deep z = record { fits-none = λ g t c h. let o = uses c .deep in omega arith }
+  pub too-deep : {a : ℕ} → b .depth ≡ zero → FitsNone steps b es (goal (atomᴳ a))
+  too-deep z = record { none-fits = λ g t c h. let o = uses c .deep in omega arith }
 
-  pub no-step : {a : ℕ} → from steps b (b .at) ≡ [] → Fits-none steps b es (goal (atomᴳ a))
-  no-step z = record { fits-none = λ g t c h. nil≢cons (sym z ∙ sym h ∙ ap (_++ t) (uses c .lists)) }
+  pub no-step : {a : ℕ} → from steps b (b .at) ≡ [] → FitsNone steps b es (goal (atomᴳ a))
+  no-step z = record { none-fits = λ g t c h. nil≢cons (sym z ∙ sym h ∙ ap (_++ t) (uses c .lists)) }

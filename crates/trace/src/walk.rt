@@ -1,12 +1,14 @@
 // One pass along a given list. It goes by clauses and does not mind items: it ends, or says that the list does not fit; on the way it
 // gathers the list's summary and whether the items divided, and never breaks off because they did not.
+use card::both;
+use card::either;
 use card::format::byte;
 use card::format::kind;
 use card::format::left;
 use card::format::right;
 use lines::LineSet;
 ghost use mathlib.Core.Path.{_≡_};
-ghost use mathlib.Core.Bool.{true, _&&_, _||_};
+ghost use mathlib.Core.Bool.{true};
 ghost use Prim.Native.Nat.{_+_, _*_, _≤_, _<_};
 ghost use Rattle.card.specs.Format.{kindAt};
 ghost use Rattle.lines.specs.Inner.Set.{Words};
@@ -96,18 +98,6 @@ impl Branch {
             alive: true,
         }
     }
-}
-
-fn both(a: bool, b: bool) -> bool
-    ensures { λ r. ⌜ r ≡ (a && b) ⌝ }
-{
-    if a { b } else { false }
-}
-
-fn either(a: bool, b: bool) -> bool
-    ensures { λ r. ⌜ r ≡ (a || b) ⌝ }
-{
-    if a { true } else { b }
 }
 
 impl Summary {

@@ -16,6 +16,7 @@ use Rattle.card.specs.Fault.{Sound, goalPart, clausePart, heightAt}
 use Rattle.card.specs.Decode.{goalAt, clauseOf, scopeOf}
 use Rattle.lines.specs.declared.LineSet.{LineSet}
 use Rattle.scope.specs.Inner.Sets.{items}
+use Rattle.scope.specs.Inner.Tables.{Kept}
 use Rattle.lines.specs.Inner.Set.{isEmptyS, emptyS, addS, takeS, cutS, joinS}
 use Rattle.search.specs.declared.walk.Given.{Given}
 use Rattle.search.specs.declared.walk.Branch.{Branch}
@@ -132,11 +133,6 @@ pub record ClauseReady (bs : List ℕ) (g : Given) (name node : ℕ) (b : Branch
   pub clause : clausePart bs (nodeCount bs) node ≡ true
   pub head : usable (scopeOf bs .fits) name (clauseOf bs node) ≡ true
   pub deep : b .count + 7 + 6 * b .depth ≤ g .rules + 168
-
--- The first n of a list are kept, and its length.
-pub record Kept (n : ℕ) (xs ys : List ℕ) : Type 0 where
-  pub size : length ys ≡ length xs
-  pub same : take n ys ≡ take n xs
 
 -- What every function of the walk promises: its answer is the model's outcome; given steps and steps before the branch are kept, and
 -- so are the entries in scope. Behind the place reached the tape is free, and so are the tables behind the entries in scope: as many

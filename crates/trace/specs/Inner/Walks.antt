@@ -36,13 +36,13 @@ pub record EndsWith (steps : List ℕ) (b : Branch) (es : Scope) (p : Part) (w :
   pub trace : Trace (b .depth) es p (gathered (b .rules) w list)
 
 -- No beginning of the given steps is a walk of p.
-pub record Fits-none (steps : List ℕ) (b : Branch) (es : Scope) (p : Part) : Type 0 where
-  pub fits-none : (g : Gathered) (t : List ℕ) → Trace (b .depth) es p g → g .list ++ t ≡ from steps b (b .at) → ⊥
+pub record FitsNone (steps : List ℕ) (b : Branch) (es : Scope) (p : Part) : Type 0 where
+  pub none-fits : (g : Gathered) (t : List ℕ) → Trace (b .depth) es p g → g .list ++ t ≡ from steps b (b .at) → ⊥
 
 -- What each answer says.
 unfoldable pub Tells : List ℕ → Branch → Scope → Part → Walked → Type 0
 Tells steps b es p (Ended w) = EndsWith steps b es p w
-Tells steps b es p Astray = Fits-none steps b es p
+Tells steps b es p Astray = FitsNone steps b es p
 
 -- What every function of the walk asks: a sound card, steps and tables in order, and room.
 pub record Ready (bs steps nodes : List ℕ) (linear : List Bool) (b : Branch) : Type 0 where
@@ -77,7 +77,7 @@ pub record CanUse (bs steps nodes : List ℕ) (b : Branch) (name e : ℕ) : Type
 -- What the test of the next step answers.
 unfoldable pub Stepping : List ℕ → List ℕ → List ℕ → List Bool → Branch → ℕ → Step → Type 0
 Stepping bs steps nodes linear b name (Taken e) = CanUse bs steps nodes b name e
-Stepping bs steps nodes linear b name Nothing = Fits-none steps b (scopeIn bs nodes linear (b .count)) (goal (atomᴳ name))
+Stepping bs steps nodes linear b name Nothing = FitsNone steps b (scopeIn bs nodes linear (b .count)) (goal (atomᴳ name))
 
 -- What every function of the walk promises: what it tells of the part, and that the entries in scope are kept. Behind them the tables are
 -- free: as many places as before.
