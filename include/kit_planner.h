@@ -15,7 +15,7 @@
  *     are only read, may overlap or be the same.
  *   - Nothing else writes these bytes during a call, nor reads the sheet's during kit_plan.
  *
- * Any lengths and any bytes are allowed. A call keeps nothing, takes no memory but the stack (under 128 KB at
+ * Any lengths and any bytes are allowed. A call keeps nothing, takes no memory but the stack (under 512 KB at
  * the deepest card tried), and may run in several threads at once, each with a sheet buffer of its own.
  */
 #ifndef KIT_PLANNER_H

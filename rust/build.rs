@@ -1,4 +1,6 @@
-//! Links target/staticlib/libplanner_c.a of the repository, which `rt staticlib planner_c` writes.
+//! Links target/staticlib/libplanner_c.a of the repository, which `rt staticlib planner_c` writes. Where
+//! KIT_PLANNER_PAIR names a folder with before.a and now.a, archives whose calls are renamed by these words, the
+//! benchmarks link both and compare them.
 use std::env;
 use std::path::Path;
 
@@ -10,4 +12,15 @@ fn main() {
     println!("cargo::rerun-if-changed={}", archive.display());
     println!("cargo::rustc-link-search=native={}", folder.display());
     println!("cargo::rustc-link-lib=static=planner_c");
+
+    println!("cargo::rustc-check-cfg=cfg(pair)");
+    println!("cargo::rerun-if-env-changed=KIT_PLANNER_PAIR");
+    if let Ok(pair) = env::var("KIT_PLANNER_PAIR") {
+        for archive in ["before.a", "now.a"].map(|name| Path::new(&pair).join(name)) {
+            assert!(archive.is_file(), "{} is missing", archive.display());
+            println!("cargo::rerun-if-changed={}", archive.display());
+            println!("cargo::rustc-link-arg-benches={}", archive.display());
+        }
+        println!("cargo::rustc-cfg=pair");
+    }
 }

@@ -1,11 +1,12 @@
-//! Times of the planner beside those of other means: `cargo bench --offline --bench planner` prints four tables.
+//! Times of the planner beside those of other means: `cargo bench --offline --bench planner` prints three tables.
 #[path = "../tests/cards/mod.rs"]
 mod cards;
+#[path = "../tests/families/mod.rs"]
+mod families;
 #[path = "../tests/model/mod.rs"]
 mod model;
 
 use cards::{any_card, Draft, Random};
-use kit_planner::{Place, Refusal};
 use model::decode::{self, Card, Goal};
 use std::hint::black_box;
 use std::time::{Duration, Instant};
@@ -51,21 +52,11 @@ fn time(ns: f64) -> String {
     }
 }
 
-/// A balanced "both" of the goals.
-fn balanced(draft: &mut Draft, goals: &[usize]) -> usize {
-    if let [one] = goals {
-        return *one;
-    }
-    let (left, right) = goals.split_at(goals.len() / 2);
-    let (left, right) = (balanced(draft, left), balanced(draft, right));
-    draft.add(4, left, right)
-}
-
 mod divisions {
     use super::*;
 
     const ABOUT: &str = r#"1. The planner and a divider that tries all divisions of the items at every "both"
-   n must lines of distinct names, shuffled; goal: the balanced "both" of all; d = 1, s = n.
+   n must lines of distinct names, shuffled; goal: the balanced "both" of all.
    The planner takes the card's bytes and writes the sheet. The divider takes the goal as a tree
    and only counts lists: "first" ends at the first list; "all" tries on, as it must to know the
    smallest; "least" is how many nodes "all" takes at the least, by calculation.
@@ -109,18 +100,6 @@ mod divisions {
         }
     }
 
-    /// n must lines of distinct names, shuffled, and the balanced "both" of them all.
-    fn tray(n: usize) -> Draft {
-        let mut draft = Draft::limits(1, n as u8);
-        let names: Vec<usize> = (0..n).map(|i| draft.name(i)).collect();
-        draft.goal = balanced(&mut draft, &names);
-        let mut r = Random::new(5);
-        let mut lines = names;
-        (1..n).for_each(|i| lines.swap(i, r.below(i + 1)));
-        draft.lines = lines.into_iter().map(|l| (l, 1)).collect();
-        draft
-    }
-
     fn divider_cell(card: &Card, heads: &[u16], first: bool) -> (String, String) {
         let (mut nodes, mut found) = (0, None);
         let ns = call_time(3, || {
@@ -148,7 +127,7 @@ mod divisions {
         let head = ["n", "planner", "first: nodes", "time", "all: nodes", "time", "least"];
         print_row(&head.map(String::from));
         for n in (4..=20).step_by(2) {
-            let bytes = tray(n).bytes();
+            let bytes = families::distinct(n).bytes();
             let card = decode::card(&bytes).expect("a sound card");
             assert_eq!(kit_planner::plan(&bytes, sheet), Ok(n));
             let heads: Vec<u16> = card.lines.iter().map(|l| l.0.head.expect("a name")).collect();
@@ -223,66 +202,18 @@ mod independent {
     }
 }
 
-mod equal_parts {
-    use super::*;
-
-    const ABOUT: &str = r#"
-3. The planner on trays of equal parts
-   Equal must lines; goal: the balanced "both" of as many of their name as are wanted; d = 1, s = as
-   many as are wanted.
-"#;
-
-    /// So many equal must lines, and the balanced "both" of so many times their name.
-    pub fn tray(lines: usize, wanted: usize) -> Vec<u8> {
-        let mut draft = Draft::limits(1, wanted as u8);
-        let name = draft.name(7);
-        draft.goal = balanced(&mut draft, &vec![name; wanted]);
-        draft.lines = vec![(name, 1); lines];
-        draft.bytes()
-    }
-
-    fn cell(lines: usize, wanted: usize, sheet: &mut [u8]) -> String {
-        let card = tray(lines, wanted);
-        let none = Refusal { number: 11, place: Place::Card };
-        let wanted = if lines == wanted { Ok(wanted) } else { Err(none) };
-        assert_eq!(kit_planner::plan(&card, sheet), wanted);
-        time(planner_time(&card, sheet))
-    }
-
-    pub fn table(sheet: &mut [u8]) {
-        println!("{ABOUT}");
-        let head = ["n lines, n wanted", "n lines, n - 1 wanted", "n - 1 lines, n wanted"];
-        println!("{:>4}{:>20}{:>24}{:>24}", "n", head[0], head[1], head[2]);
-        println!("{:>4}{:>20}{:>24}{:>24}", "", "(planned)", "(refused 11)", "(refused 11)");
-        for n in [8, 16, 32, 64] {
-            let cells = [cell(n, n, sheet), cell(n, n - 1, sheet), cell(n - 1, n, sheet)];
-            println!("{n:>4}{:>20}{:>24}{:>24}", cells[0], cells[1], cells[2]);
-        }
-    }
-}
-
 mod reading {
     use super::*;
 
     const ABOUT: &str = r#"
-4. The reader on the sheets that the planner writes
-   Equal parts: table 3's trays of n lines, n wanted. Chain: a must line of name 0 and n must lines
-   "i gives i + 1"; the goal is name n; d = s = n + 1. k is the number of steps on the sheet.
+3. The reader on the sheets that the planner writes
+   Equal parts: n equal must lines, n wanted. Chain: a must line of name 0 and n must lines
+   "i gives i + 1"; the goal is name n. Biggest card: the most rules, lines, nodes and steps there
+   can be at n = 64. k is the number of steps on the sheet.
 "#;
 
-    fn chain(n: usize) -> Vec<u8> {
-        let mut draft = Draft::limits(n as u8 + 1, n as u8 + 1);
-        let names: Vec<usize> = (0..=n).map(|i| draft.name(i)).collect();
-        draft.goal = names[n];
-        draft.lines = vec![(names[0], 1)];
-        for i in 0..n {
-            let recipe = draft.add(7, names[i], names[i + 1]);
-            draft.lines.push((recipe, 1));
-        }
-        draft.bytes()
-    }
-
-    fn print_row(tray: &str, n: usize, card: &[u8], sheet: &mut [u8]) {
+    fn print_row(tray: &str, n: usize, card: Draft, sheet: &mut [u8]) {
+        let card = &card.bytes()[..];
         let k = kit_planner::plan(card, sheet).expect("the card is planned");
         let planner = planner_time(card, sheet);
         let written = sheet[..5 + k + usize::from(card[4])].to_vec();
@@ -297,16 +228,19 @@ mod reading {
         println!("{ABOUT}");
         println!("{:>14}{:>5}{:>5}{:>12}{:>12}", "", "n", "k", "planner", "reader");
         for n in [8, 16, 32, 64] {
-            print_row("equal parts", n, &equal_parts::tray(n, n), sheet);
+            print_row("equal parts", n, families::equal(n, n), sheet);
         }
         for n in [3, 7, 15] {
-            print_row("chain", n, &chain(n), sheet);
+            print_row("chain", n, families::chain(n), sheet);
+        }
+        for n in [16, 32, 64] {
+            print_row("biggest card", n, families::biggest(n), sheet);
         }
     }
 }
 
 const ABOUT: &str = "\
-Each time is the median of several runs: in tables 1, 3 and 4 of 15 runs of the planner or the reader
+Each time is the median of several runs: in tables 1 and 3 of 15 runs of the planner or the reader
 and of 3 of the divider, where a run is as many calls as take about 100 us, at least one, and the time
 is that of one call; in table 2 of 7 passes over all cards of a row. The planner's sheet buffer is
 allocated and cleared once, before all timed calls. All is built for release.
@@ -317,6 +251,5 @@ fn main() {
     let mut sheet = vec![0; ROOM];
     divisions::table(&mut sheet);
     independent::table(&mut sheet);
-    equal_parts::table(&mut sheet);
     reading::table(&mut sheet);
 }

@@ -4,31 +4,10 @@ mod met;
 mod model;
 
 use cards::{any_card, Draft, Random};
-use met::Met;
+use met::{compare_plan, Met};
 use model::decode;
 
 const BUDGET: usize = 20_000;
-
-/// Plans into a buffer of random bytes: the answer and every byte are as the model says.
-fn compare_plan(r: &mut Random, met: &mut Met, card: &[u8], size: usize) {
-    let Some(wanted) = model::plan(card, size, BUDGET) else {
-        met.skipped += 1;
-        return;
-    };
-    let old = r.bytes(size);
-    let mut buffer = old.clone();
-    let answer = kit_planner::plan(card, &mut buffer);
-    let mut after = old;
-    if let Ok(sheet) = &wanted {
-        after[..sheet.len()].copy_from_slice(sheet);
-    }
-    assert_eq!(answer, wanted.clone().map(|s| usize::from(s[3])), "card {card:02x?}, buffer of {size}");
-    assert_eq!(buffer, after, "card {card:02x?}, buffer of {size}");
-    met.count(&answer);
-    if let (Ok(k), Ok(sheet)) = (answer, wanted) {
-        assert_eq!(kit_planner::read(card, &sheet), Ok(k), "card {card:02x?}");
-    }
-}
 
 /// 5 + s + T, as far as the bytes go.
 fn room(card: &[u8]) -> usize {
@@ -57,8 +36,8 @@ fn plans_agree() {
     let mut met = Met::default();
     for _ in 0..120_000 {
         let card = any_card(&mut r);
-        let size = room(&card) + r.below(8);
-        compare_plan(&mut r, &mut met, &card, size - 3);
+        let size = room(&card) + r.below(8) - 3;
+        compare_plan(&mut r, &mut met, &card, size, model::plan(&card, size, BUDGET));
     }
     println!("plans: {met:?}");
     met.all(&[1, 2, 3, 4, 5, 6, 7, 8, 9, 10, 11]);
@@ -72,7 +51,7 @@ fn buffers_of_every_size_agree() {
     for _ in 0..500 {
         let card = Draft::sound(&mut r, 3, 4).bytes();
         for size in 0..=room(&card) + 3 {
-            compare_plan(&mut r, &mut met, &card, size);
+            compare_plan(&mut r, &mut met, &card, size, model::plan(&card, size, BUDGET));
         }
     }
     println!("buffers: {met:?}");
@@ -103,6 +82,26 @@ fn models_agree() {
     met.all(&[11]);
     met.enough(1_700);
     assert!(found > 5_000);
+}
+
+/// The model's counting finds the first of all lists.
+#[test]
+fn counting_agrees() {
+    let mut r = Random::new(7);
+    let mut met = Met::default();
+    for _ in 0..30_000 {
+        let bytes = Draft::sound(&mut r, 5, 7).bytes();
+        let card = decode::card(&bytes).expect("a sound card");
+        let lists = model::lists(&card, BUDGET);
+        met.count_lists(lists.as_ref());
+        if let Some(lists) = lists {
+            let first = model::count::first(&card, 20 * BUDGET).expect("enough for a small card");
+            assert_eq!(first.as_ref(), lists.first(), "card {bytes:02x?}");
+        }
+    }
+    println!("counting: {met:?}");
+    met.all(&[11]);
+    met.enough(9_000);
 }
 
 mod reading {

@@ -1,10 +1,9 @@
-//! Any bytes, in buffers with no access before and behind them; and the deepest calls on a small stack.
+//! Any bytes, in buffers with no access before and behind them.
 mod cards;
 mod met;
 mod model;
 
-use cards::{any_card, Draft, Random};
-use kit_planner::Refusal;
+use cards::{any_card, Random};
 use met::Met;
 use std::ffi::c_void;
 use std::slice::from_raw_parts_mut;
@@ -117,79 +116,4 @@ fn nothing_outside_is_touched() {
     }
     println!("guarded: {met:?}");
     met.enough(420);
-}
-
-/// Plans on a stack of 1 MB.
-fn plan_on_small_stack(card: Draft) -> (Result<usize, Refusal>, Vec<u8>) {
-    let run = move || {
-        let mut sheet = vec![0; 324];
-        let answer = kit_planner::plan(&card.bytes(), &mut sheet);
-        if let Ok(k) = answer {
-            let size = 5 + k + card.lines.len();
-            assert_eq!(kit_planner::read(&card.bytes(), &sheet[..size]), Ok(k));
-        }
-        (answer, sheet)
-    };
-    let thread = std::thread::Builder::new().stack_size(1 << 20).spawn(run);
-    thread.expect("a thread").join().expect("it ends")
-}
-
-/// Rule 0 leads to itself, 16 uses deep at most, so that rule 1 ends it.
-fn check_deepest(c: Draft) {
-    let (answer, sheet) = plan_on_small_stack(c);
-    assert_eq!(answer, Ok(16));
-    assert_eq!(sheet[5..21], [0, 0, 0, 0, 0, 0, 0, 0, 0, 0, 0, 0, 0, 0, 0, 1]);
-}
-
-/// Goals of height 8 at each of 16 nested uses. By lends that is seven clauses lent by the card's goal and six
-/// by each use: 103 in scope at the innermost rest.
-#[test]
-fn deepest_nesting() {
-    for kind in [4, 5, 6] {
-        let mut c = Draft::limits(16, 255);
-        let (a, x, rest, done) = (c.name(1), c.name(2), c.add(2, 0, 0), c.add(3, 0, 0));
-        let left = [done, rest, x][usize::from(kind) - 4];
-        let chain = |c: &mut Draft, end, n| (0..n).fold(end, |g, _| c.add(kind, left, g));
-        c.goal = chain(&mut c, a, 7);
-        let (again, ends) = (chain(&mut c, a, 6), chain(&mut c, rest, 6));
-        c.rules = vec![c.add(7, again, a), c.add(7, ends, a)];
-        check_deepest(c);
-    }
-}
-
-/// Seven conditions at each of 16 nested uses.
-#[test]
-fn deepest_conditions() {
-    let mut c = Draft::limits(16, 255);
-    let (a, rest, done) = (c.name(1), c.add(2, 0, 0), c.add(3, 0, 0));
-    let mut rule = |first| (0..6).fold(c.add(7, first, a), |g, _| c.add(7, done, g));
-    let rules = vec![rule(a), rule(rest)];
-    c.goal = a;
-    c.rules = rules;
-    check_deepest(c);
-}
-
-/// 128 needs of two steps each, but for the last, which the step limit leaves one: 255 steps.
-#[test]
-fn longest_list() {
-    let mut c = Draft::limits(16, 255);
-    let (a, b) = (c.name(1), c.name(2));
-    c.goal = (0..7).fold(a, |g, _| c.add(4, g, g));
-    c.rules = vec![c.add(7, b, a), b, a];
-    let (answer, sheet) = plan_on_small_stack(c);
-    assert_eq!(answer, Ok(255));
-    assert!(sheet[5..259].chunks(2).all(|two| two == [0, 1]));
-    assert_eq!(sheet[259], 2);
-}
-
-/// 64 equal must lines, each used once.
-#[test]
-fn fullest_tray() {
-    let mut c = Draft::limits(16, 255);
-    let a = c.name(1);
-    c.goal = (0..6).fold(a, |g, _| c.add(4, g, g));
-    c.lines = vec![(a, 1); 64];
-    let (answer, sheet) = plan_on_small_stack(c);
-    assert_eq!(answer, Ok(64));
-    assert!((0..64).all(|i| sheet[5 + i] == i as u8 && sheet[69 + i] == 1));
 }

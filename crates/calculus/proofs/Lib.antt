@@ -3,6 +3,7 @@ pub mod FigureOneByHand
 pub mod SetLaws
 pub mod SummaryExact
 pub mod WindowExact
+pub mod EnumerationExact
 pub mod TraceExact
 pub mod ListsNameWays
 pub mod RenamingKeeps

@@ -10,13 +10,13 @@ use native.Mathlib.Omega.{arith}
 use lib.Dec.{T, eqb, eqb→eq, eqb-refl}
 use lib.ListN.{length, length-map, List·getD-append, List·getD-eq-default}
 use lib.Seq.{getD-append-seam}
-use Rattle.calculus.specs.Formula.{Goal, Clause, Fits, atomᴳ, oneᴳ, zeroᴳ, tensor, with, atomᴰ, topᴰ, lolliᴰ, matched, residual, usable}
+use Rattle.calculus.specs.Formula.{Goal, Clause, Fits, atomᴳ, zeroᴳ, tensor, with, atomᴰ, topᴰ, lolliᴰ, matched, residual, usable}
 use Rattle.calculus.specs.Items.{Items, _∪_, _∖_, only, Empty, Splits, Within}
 use Rattle.calculus.specs.Derivation.{Scope, Entry, noEntry, size, entryAt, clauseAt, linearAt, residualAt, extend, lend, Derives, res-1, res-⊤}
 use Rattle.calculus.specs.Derivation.{res-⊗, res-&, res-⊸, res-atm-int, res-atm-lin}
 use Rattle.calculus.specs.Steps.{steps, nesting}
 use Rattle.calculus.specs.Job.{Job, Derivation, Limited, Listed}
-use Rattle.calculus.specs.Inner.Renaming.{Renaming, Image, over, Renamed, JobRenaming, swap, EqualLines}
+use Rattle.calculus.specs.Inner.Renaming.{Renaming, Image, over, Renamed, JobRenaming, swap}
 use Rattle.calculus.proofs.SummaryExact.{lend-size}
 
 -- An entry that is used
@@ -387,29 +387,3 @@ swap-keeps h x y q = swap-cases (λ e k. h k ≡ h e) x y (sym q) q (λ e n k. r
 
 pub swap-within : (n x y : ℕ) → x < n → y < n → (e : ℕ) → e < n → swap x y e < n
 swap-within n x y h k = swap-cases (λ e i. e < n → i < n) x y (λ _. k) (λ _. h) (λ e _ _ i. i)
-
-pub swapping : (j : Job) (x y : ℕ) → EqualLines j x y → JobRenaming j j (swap x y) (swap x y)
-unfolding _∪_
-swapping j x y q =
-    record {
-      entries =
-          record {
-            within = swap-within (size (j .scope)) x y (q .x-within) (q .y-within);
-            clause = λ e h. swap-keeps (clauseAt (j .scope)) x y (q .same-clause) e;
-            linear = λ e h. swap-keeps (linearAt (j .scope)) x y (q .same-linear) e;
-            fit = λ b a h. h;
-            undone = swap-swap x y;
-            beyond = λ k. swap-other x y (size (j .scope) + k) (omega (arith, q .x-within)) (omega (arith, q .y-within));
-          };
-      strict-from = λ i h. (swap-swap x y i, swap-keeps (j .strict) x y (q .same-strict) i ∙ h);
-      lines-to = λ i h. swap-keeps (j .strict ∪ j .lax) x y (ap₂ _||_ (q .same-strict) (q .same-lax)) i ∙ h;
-      same-goal = refl;
-      no-shallower = omega arith;
-      no-shorter = omega arith;
-    }
-
--- THEOREM. Equal lines may be swapped in a list.
-pub swap-lines : (j : Job) (x y : ℕ) → EqualLines j x y → (l : List ℕ) → Listed j l → Listed j (map (swap x y) l)
-swap-lines j x y q l m =
-    subst (Listed j) (over-steps (swap x y) (m .derivation .tree) ∙ ap (map (swap x y)) (m .list))
-    (rename-listed (swapping j x y q) (m .derivation) (m .limited))

@@ -4,3 +4,4 @@ pub mod Window
 pub mod Trace
 pub mod Renaming
 pub mod Height
+pub mod Enumeration

@@ -1,12 +1,11 @@
--- Theorems about the walk.
-pub mod WalkFindsLeast
-pub mod LoopKeepsAndEnds
-pub mod TwinsLoseNothing
-pub mod TablesAreScopes
-pub mod BranchesAreStates
-pub mod AnswersCompose
-pub mod ModelByConnective
-pub mod CallsAreReady
-pub mod CodeIsModel
-pub mod SeekFindsLeast
-pub mod LoopFindsFirstOfCard
+-- Theorems about the engine.
+pub mod PlacesMove
+pub mod NumbersFall
+pub mod AgendasUnwind
+pub mod NamesTell
+pub mod StartFindsFirst
+pub mod RaisesEnd
+pub mod TurnsRaise
+pub mod PartsTell
+pub mod BehindTells
+pub mod EitherTells

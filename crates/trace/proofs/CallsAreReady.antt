@@ -18,8 +18,10 @@ use Rattle.card.specs.Fault.{Sound, goalPart, clausePart, heightAt}
 use Rattle.card.specs.Decode.{goalAt, clauseOf, scopeOf}
 use Rattle.card.proofs.CardChecked.{sound-front}
 use Rattle.card.proofs.NodesDecoded.{reads-name, reads-rest, reads-done}
-use Rattle.card.proofs.SoundNodes.{goal-lower, goal-kind, goal-above, clause-lower, clause-above, clause-kind, node-here, height-low, height-pos}
-use Rattle.card.proofs.SoundNodes.{height-parts, parts-below, both-parts, either-parts, lend-parts, recipe-parts, sound-both, sound-either}
+use Rattle.card.proofs.SoundNodes.{goal-lower, goal-kind, goal-above, clause-lower, clause-above, clause-kind, node-here, height-low}
+use Rattle.card.proofs.SoundNodes.{height-pos}
+use Rattle.card.proofs.SoundNodes.{height-parts, parts-below, both-parts, either-parts, lend-parts, recipe-parts, sound-both}
+use Rattle.card.proofs.SoundNodes.{sound-either}
 use Rattle.card.proofs.SoundNodes.{sound-lend, sound-recipe, usable-name, usable-rest, usable-recipe}
 use Rattle.scope.specs.Inner.Tables.{scopeIn, Entered, Kept}
 use Rattle.scope.proofs.TablesAreScopes.{scope-size, scope-clause, scope-linear, scope-kept, lend-scope, entered-kept, entered-more}

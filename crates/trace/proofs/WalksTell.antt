@@ -9,7 +9,8 @@ use lib.ListN.{length, getD, take, drop, drop-of-length-le}
 use lib.Seq.{drop-cons, getD-take, length-take-le}
 use Rattle.calculus.specs.Formula.{Goal, Clause, atomᴳ, topᴳ, oneᴳ, tensor, with, lolliᴳ, atomᴰ, topᴰ, lolliᴰ, usable}
 use Rattle.calculus.specs.Derivation.{Scope, size, clauseAt, linearAt, lend}
-use Rattle.calculus.specs.Inner.Trace.{Part, goal, meet, Gathered, Ends, Tensors, Withs, Trace, trace-1, trace-⊤, trace-⊗, trace-&, trace-⊸}
+use Rattle.calculus.specs.Inner.Trace.{Part, goal, meet, Gathered, Ends, Tensors, Withs, Trace, trace-1, trace-⊤, trace-⊗, trace-&}
+use Rattle.calculus.specs.Inner.Trace.{trace-⊸}
 use Rattle.calculus.specs.Inner.Trace.{trace-rule, trace-item, trace-head, trace-recipe}
 use Rattle.calculus.proofs.TraceExact.{trace-unique}
 use Rattle.lines.specs.Inner.Set.{Words}

@@ -33,6 +33,10 @@ impl Random {
     pub fn bytes(&mut self, n: usize) -> Vec<u8> {
         (0..n).map(|_| self.next() as u8).collect()
     }
+
+    pub fn shuffle<T>(&mut self, these: &mut [T]) {
+        (1..these.len()).for_each(|i| these.swap(i, self.below(i + 1)));
+    }
 }
 
 /// A card on the way, with what each node reads as and its height.
@@ -76,6 +80,35 @@ impl Draft {
 
     pub fn name(&mut self, name: usize) -> usize {
         self.add(1, name, 0)
+    }
+
+    /// The balanced "both" of the goals.
+    pub fn both(&mut self, goals: &[usize]) -> usize {
+        if let [one] = goals {
+            return *one;
+        }
+        let (left, right) = goals.split_at(goals.len() / 2);
+        let (left, right) = (self.both(left), self.both(right));
+        self.add(4, left, right)
+    }
+
+    /// The recipe with these conditions, the nearest to the head first.
+    pub fn gives(&mut self, conditions: &[usize], head: usize) -> usize {
+        conditions.iter().fold(head, |clause, &g| self.add(7, g, clause))
+    }
+
+    /// The same as a rule of the card.
+    pub fn rule(&mut self, conditions: &[usize], head: usize) {
+        let rule = self.gives(conditions, head);
+        self.rules.push(rule);
+    }
+
+    pub fn must(&mut self, clauses: &[usize]) {
+        self.lines.extend(clauses.iter().map(|&c| (c, 1)));
+    }
+
+    pub fn may(&mut self, clauses: &[usize]) {
+        self.lines.extend(clauses.iter().map(|&c| (c, 0)));
     }
 
     pub fn bytes(&self) -> Vec<u8> {

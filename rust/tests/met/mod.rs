@@ -1,7 +1,36 @@
-//! How often each answer was met in a comparison with the model, and how often there was none.
+//! Comparisons with the model: how often each answer was met, and how often the model had none.
 #![allow(dead_code)]
 
+use crate::cards::Random;
 use kit_planner::Refusal;
+
+/// Plans into a buffer of random bytes: the answer and every byte are as wanted, and the sheet is accepted.
+pub fn compare_plan(
+    r: &mut Random,
+    met: &mut Met,
+    card: &[u8],
+    size: usize,
+    wanted: Option<Result<Vec<u8>, Refusal>>,
+) {
+    let Some(wanted) = wanted else {
+        met.skipped += 1;
+        return;
+    };
+    let old = r.bytes(size);
+    let mut buffer = old.clone();
+    let answer = kit_planner::plan(card, &mut buffer);
+    let mut after = old;
+    if let Ok(sheet) = &wanted {
+        after[..sheet.len()].copy_from_slice(sheet);
+    }
+    assert_eq!(answer, wanted.clone().map(|s| usize::from(s[3])), "card {card:02x?}, buffer of {size}");
+    assert_eq!(buffer, after, "card {card:02x?}, buffer of {size}");
+    met.count(&answer);
+    if let (Ok(k), Ok(sheet)) = (answer, wanted) {
+        assert_eq!(kit_planner::read(card, &sheet), Ok(k), "card {card:02x?}");
+        met.longest = met.longest.max(k);
+    }
+}
 
 /// How often each refusal was met, and 0: planned or accepted; and how many cards were skipped, the model's
 /// budget being spent.
@@ -9,6 +38,8 @@ use kit_planner::Refusal;
 pub struct Met {
     numbers: [usize; 15],
     pub skipped: usize,
+    /// The most steps of a sheet.
+    pub longest: usize,
 }
 
 impl Met {
@@ -38,5 +69,12 @@ impl Met {
         assert!(self.numbers[0] >= least, "fewer than {least}: {self:?}");
         let searched = self.numbers[0] + self.numbers[11] + self.skipped;
         assert!(self.skipped * 50 < searched, "too many skipped: {self:?}");
+    }
+
+    /// At least so many were planned, refused with 11, and steps of the longest sheet.
+    pub fn at_least(&self, planned: usize, refused: usize, longest: usize) {
+        self.enough(planned);
+        assert!(self.numbers[11] >= refused, "fewer than {refused} refused: {self:?}");
+        assert!(self.longest >= longest, "no sheet of {longest} steps: {self:?}");
     }
 }

@@ -3,7 +3,7 @@ use super::{Entry, Items, Scope};
 use kit_planner::{Place, Refusal};
 use std::rc::Rc;
 
-#[derive(Debug)]
+#[derive(Debug, PartialEq, Eq)]
 pub enum Goal {
     Name(u16),
     Rest,
@@ -14,7 +14,7 @@ pub enum Goal {
 }
 
 /// A clause by its head, if it has one, and its conditions, the nearest to the head first.
-#[derive(Debug, Clone)]
+#[derive(Debug, Clone, PartialEq, Eq)]
 pub struct Clause {
     pub head: Option<u16>,
     pub conditions: Vec<Rc<Goal>>,

@@ -1,6 +1,8 @@
 //! The rules for cards and sheets once more, in plain Rust and by other means than the planner's: formulas as
-//! trees, all lists of a goal at once with what each needs of the items, and a reader by a walk of its own.
+//! trees, all lists of a goal at once with what each needs of the items, and a reader by a walk of its own. For
+//! bigger cards the first list by counting.
 #![allow(dead_code)]
+pub mod count;
 pub mod decode;
 pub mod divide;
 
@@ -9,7 +11,7 @@ use kit_planner::{Place, Refusal};
 use std::rc::Rc;
 
 /// A set of entries by their numbers.
-#[derive(Clone, Copy, PartialEq, Eq, Debug, Default)]
+#[derive(Clone, Copy, PartialEq, Eq, Hash, Debug, Default)]
 pub struct Items([u128; 2]);
 
 impl Items {
@@ -193,8 +195,21 @@ pub fn sheet(card: &Card, list: &[u8]) -> Vec<u8> {
 }
 
 /// What planning a card into a buffer of so many bytes answers: the sheet or a refusal; none where the budget
-/// is spent.
+/// is spent. From all lists of the card.
 pub fn plan(bytes: &[u8], size: usize, budget: usize) -> Option<Result<Vec<u8>, Refusal>> {
+    planned(bytes, size, |card| Some(lists(card, budget)?.into_iter().next()))
+}
+
+/// The same by counting, for bigger cards.
+pub fn plan_by_count(bytes: &[u8], size: usize, budget: usize) -> Option<Result<Vec<u8>, Refusal>> {
+    planned(bytes, size, |card| count::first(card, budget))
+}
+
+fn planned(
+    bytes: &[u8],
+    size: usize,
+    first: impl Fn(&Card) -> Option<Option<Vec<u8>>>,
+) -> Option<Result<Vec<u8>, Refusal>> {
     let card = match decode::card(bytes) {
         Ok(card) => card,
         Err(refusal) => return Some(Err(refusal)),
@@ -202,9 +217,8 @@ pub fn plan(bytes: &[u8], size: usize, budget: usize) -> Option<Result<Vec<u8>, 
     if size < 5 + card.s + card.lines.len() {
         return Some(refused(10, Place::Sheet));
     }
-    let lists = lists(&card, budget)?;
-    Some(match lists.first() {
-        Some(list) => Ok(sheet(&card, list)),
+    Some(match first(&card)? {
+        Some(list) => Ok(sheet(&card, &list)),
         None => refused(11, Place::Card),
     })
 }

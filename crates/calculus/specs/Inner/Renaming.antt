@@ -55,12 +55,3 @@ pub record JobRenaming (j k : Job) (f g : ℕ → ℕ) : Type 0 where
 -- x for y, y for x, any other number for itself
 unfoldable pub swap : ℕ → ℕ → ℕ → ℕ
 swap x y e = ite (ℕ-discrete e x) y (ite (ℕ-discrete e y) x e)
-
--- x and y are entries of the scope with the same clause, linearity and status.
-pub record EqualLines (j : Job) (x y : ℕ) : Type 0 where
-  pub x-within : x < size (j .scope)
-  pub y-within : y < size (j .scope)
-  pub same-clause : clauseAt (j .scope) x ≡ clauseAt (j .scope) y
-  pub same-linear : linearAt (j .scope) x ≡ linearAt (j .scope) y
-  pub same-strict : j .strict x ≡ j .strict y
-  pub same-lax : j .lax x ≡ j .lax y

@@ -12,7 +12,8 @@ use Rattle.calculus.specs.Formula.{Fits, usable}
 use Rattle.card.specs.Format.{nodeCount, kindAt, rightAt}
 use Rattle.card.specs.Fault.{Sound, clausePart}
 use Rattle.card.specs.Decode.{clauseOf, scopeOf}
-use Rattle.card.proofs.SoundNodes.{clause-lower, clause-kind, clause-above, node-here, parts-below, recipe-parts, usable-recipe, usable-name}
+use Rattle.card.proofs.SoundNodes.{clause-lower, clause-kind, clause-above, node-here, parts-below, recipe-parts, usable-recipe}
+use Rattle.card.proofs.SoundNodes.{usable-name}
 use Rattle.card.proofs.SoundNodes.{usable-rest}
 use Rattle.scope.proofs.usable.Statement.{statement}
 use Rattle.scope.proofs.usable.Tie as tie

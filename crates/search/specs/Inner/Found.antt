@@ -1,13 +1,14 @@
 -- What the search finds, in terms of derivations; and the branch it starts from.
 use Prim.Native.Nat.{ℕ, _+_, _≤_}
+use mathlib.Core.Bool.{false}
 use mathlib.Core.List.{List}
 use lib.ListN.{take}
 use Rattle.calculus.specs.Job.{Listed, First}
-use Rattle.card.specs.Format.{ruleCount, lineCount, depthLimit}
+use Rattle.card.specs.Format.{ruleCount, lineCount, stepLimit}
 use Rattle.card.specs.Decode.{jobOf}
-use Rattle.lines.specs.Inner.Set.{fullS, cutS}
+use Rattle.lines.specs.Inner.Set.{emptyS, fullS, cutS}
 use Rattle.scope.specs.Inner.Sets.{strictOf}
-use Rattle.search.specs.declared.walk.Branch.{Branch}
+use Rattle.segment.specs.declared.branch.Branch.{Branch}
 use Rattle.search.specs.declared.Found.{Found}
 use Rattle.search.specs.declared.Found.the-variants.{List as ListOf, Nothing}
 
@@ -27,7 +28,11 @@ startB bs =
     record {
       at = 0;
       count = ruleCount bs + lineCount bs;
-      depth = depthLimit bs;
+      len = 1;
+      limit = stepLimit bs;
       strict = strictOf bs;
       lax = cutS (fullS (lineCount bs)) (strictOf bs);
+      used = emptyS;
+      seen = emptyS;
+      slack = false;
     }

@@ -1,0 +1,150 @@
+-- Laws of counting: parts, one item, and what a set within another says.
+use Prim.Native.Nat.{ℕ, zero, suc, _+_, _≤_, _<_}
+use native.Mathlib.Nat.{add-zero, add-suc, eq-or-lt-of-le}
+use native.Mathlib.Omega.{arith}
+use native.Mathlib.Decide.{decLt}
+use native.Mathlib.Numerals.{add-one}
+use mathlib.Core.Path.{_≡_, refl, sym, ap, ap₂, _∙_}
+use mathlib.Core.Logic.{⊎-elim}
+use mathlib.Core.Bool.{Bool, true, false, not, _&&_, _||_, false≢true}
+use Rattle.calculus.specs.Formula.{Clause}
+use Rattle.calculus.specs.Items.{Items, only, Empty, Splits, Within}
+use Rattle.calculus.specs.Derivation.{Scope, Entry, size, entryAt, clauseAt, linearAt, lend}
+use Rattle.calculus.specs.Inner.Summary.{Without, Plus}
+use Rattle.calculus.proofs.SetLaws.{table, _≐_, _⟹_, _⊑_, only-self, only-eq, only-at, not-true}
+use Rattle.calculus.proofs.SummaryExact.{lend-size}
+use Rattle.calculus.proofs.RenamingKeeps.{entry-past, entry-before, entry-lent}
+use Rattle.bounds.specs.Inner.Count.{bit, number, Class, ofClass, count}
+
+pub bit-one : (b : Bool) → bit b ≤ 1
+unfolding bit
+bit-one true = omega arith
+bit-one false = omega arith
+
+bit-mono : (a b : Bool) → (a ≡ true → b ≡ true) → bit a ≤ bit b
+unfolding bit
+bit-mono true b h = rw (h refl) (omega arith)
+bit-mono false b h = omega arith
+
+bit-split : (a b c : Bool) → a ≡ (b || c) → (b && c) ≡ false → bit a ≡ bit b + bit c
+unfolding bit
+bit-split a true true p q = absurd (false≢true (sym q))
+bit-split a true false p q = rw p refl
+bit-split a false true p q = rw p refl
+bit-split a false false p q = rw p refl
+
+pub number-mono : (I J : Items) (n : ℕ) → ((i : ℕ) → i < n → I i ≡ true → J i ≡ true) → number I n ≤ number J n
+unfolding number
+number-mono I J zero h = omega arith
+number-mono I J (suc n) h =
+    let a = number-mono I J n (λ i k. h i (omega arith)) in
+    let b = bit-mono (I n) (J n) (h n (omega arith)) in
+    omega arith
+
+pub number-same : (I J : Items) (n : ℕ) → ((i : ℕ) → i < n → I i ≡ J i) → number I n ≡ number J n
+unfolding number
+number-same I J zero h = refl
+number-same I J (suc n) h = ap₂ _+_ (number-same I J n (λ i k. h i (omega arith))) (ap bit (h n (omega arith)))
+
+pub number-split : (I J K : Items) (n : ℕ) → ((i : ℕ) → I i ≡ (J i || K i)) → ((i : ℕ) → (J i && K i) ≡ false)
+    → number I n ≡ number J n + number K n
+unfolding number
+number-split I J K zero p q = refl
+number-split I J K (suc n) p q =
+    let a = number-split I J K n p q in
+    let b = bit-split (I n) (J n) (K n) (p n) (q n) in
+    omega arith
+
+pub number-none : (I : Items) (n : ℕ) → ((i : ℕ) → i < n → I i ≡ false) → number I n ≡ 0
+unfolding number bit
+number-none I zero h = refl
+number-none I (suc n) h =
+    let a = number-none I n (λ i k. h i (omega arith)) in
+    let b : bit (I n) ≡ 0 = ap bit (h n (omega arith)) in
+    omega arith
+
+-- one item, and no other
+pub number-one : (I : Items) (e n : ℕ) → e < n → ((i : ℕ) → (i ≡ e → ⊥) → I i ≡ false) → number I n ≡ bit (I e)
+unfolding number bit
+number-one I e zero h p = absurd (omega arith)
+number-one I e (suc n) h p =
+    ⊎-elim
+    (λ (q : e ≡ n).
+    let a = number-none I n (λ i k. p i (λ r. omega arith)) in
+    let b : bit (I e) ≡ bit (I n) = ap (λ x. bit (I x)) q in
+    omega arith)
+    (λ (q : e < n). let a = number-one I e n q p in let b : bit (I n) ≡ 0 = ap bit (p n (λ r. omega arith)) in omega arith)
+    (eq-or-lt-of-le {n = e} {m = n} (omega arith))
+
+-- up to a, and from a on
+pub number-add : (I : Items) (a n : ℕ) → number I (a + n) ≡ number I a + number (λ k. I (a + k)) n
+unfolding number
+number-add I a zero =
+    let e : number I (a + 0) ≡ number I a = ap (number I) (add-zero a) in
+    omega arith
+number-add I a (suc n) =
+    let h = number-add I a n in
+    let e : number I (a + suc n) ≡ number I (a + n) + bit (I (a + n)) = ap (number I) (add-suc a n) in
+    omega arith
+
+-- A linear entry is in scope.
+pub linear-in : (es : Scope) (e : ℕ) → linearAt es e ≡ true → e < size es
+unfolding linearAt
+linear-in es e h = go (decLt e (size es))
+  where
+    go : Dec (e < size es) → e < size es
+    go (yes k) = k
+    go (no n) = absurd (false≢true (sym (ap (λ (x : Entry). x .linear) (entry-past es e (omega arith))) ∙ h))
+
+-- Items of a class
+
+module _ (es : Scope) (K : Class) where
+  pub count-none : {U : Items} → Empty U → count es K U ≡ 0
+  unfolding count ofClass
+  count-none {U} n = number-none (ofClass es K U) (size es) (λ i k. ap (λ b. b && K (clauseAt es i)) (n .vacant i))
+
+  pub count-within : {U W : Items} → Within U W → count es K U ≤ count es K W
+  unfolding count ofClass
+  count-within {U} {W} h =
+      number-mono (ofClass es K U) (ofClass es K W) (size es)
+      (λ i k. table 3 (λ u w c. u ⊑ w ⟹ u && c ⊑ w && c) refl (U i) (W i) (K (clauseAt es i)) (h .kept i))
+
+  pub count-split : {U X W : Items} → Splits U X W → count es K U ≡ count es K X + count es K W
+  unfolding count ofClass
+  count-split {U} {X} {W} s =
+      number-split (ofClass es K U) (ofClass es K X) (ofClass es K W) (size es)
+      (λ i. table 4 (λ u v w c. u ≐ (v || w) ⟹ (u && c) ≐ ((v && c) || (w && c))) refl (U i) (X i) (W i) (K (clauseAt es i)) (s .whole i))
+      (λ i. table 3 (λ v w c. (v && w) ≐ false ⟹ ((v && c) && (w && c)) ≐ false) refl (X i) (W i) (K (clauseAt es i)) (s .apart i))
+
+  -- an item more
+  pub count-plus : {U W : Items} {e : ℕ} → e < size es → W e ≡ false → Plus U W e → count es K U ≡ count es K W + bit (K (clauseAt es e))
+  unfolding count ofClass
+  count-plus {U} {W} {e} h n s =
+      number-split (ofClass es K U) (ofClass es K W) (ofClass es K (only e)) (size es)
+      (λ i. table 4 (λ u w o c. u ≐ (w || o) ⟹ (u && c) ≐ ((w && c) || (o && c))) refl
+      (U i) (W i) (only e i) (K (clauseAt es i)) (s .plus i))
+      (λ i. table 3 (λ w o c. (o ≐ true ⟹ w ≐ false) ⟹ ((w && c) && (o && c)) ≐ false) refl
+      (W i) (only e i) (K (clauseAt es i)) (only-at W e n i))
+      ∙ ap (λ x. count es K W + x) alone
+    where
+      alone : number (ofClass es K (only e)) (size es) ≡ bit (K (clauseAt es e))
+      alone =
+          number-one (ofClass es K (only e)) e (size es) h
+          (λ i d. ap (λ b. b && K (clauseAt es i)) (not-true (only e i) (λ p. d (only-eq e i p))))
+          ∙ ap (λ b. bit (b && K (clauseAt es e))) (only-self e)
+
+  -- a clause is lent: W is counted with it, U without
+  pub count-lend : (D : Clause) {U W : Items} → Without U W (size es)
+      → count (lend es D) K W ≡ count es K U + bit (W (size es) && K D)
+  unfolding count ofClass clauseAt number
+  count-lend D {U} {W} s =
+      ap (number (ofClass (lend es D) K W)) (lend-size es D ∙ add-one (size es))
+      ∙ ap₂ _+_ (number-same (ofClass (lend es D) K W) (ofClass es K U) (size es) old)
+      (ap (λ (x : Entry). bit (W (size es) && K (x .clause))) (entry-lent es D (size es) refl))
+    where
+      old : (i : ℕ) → i < size es → (W i && K (entryAt (lend es D) i .clause)) ≡ (U i && K (entryAt es i .clause))
+      old i h =
+          ap (λ (x : Entry). W i && K (x .clause)) (entry-before es D i h)
+          ∙ ap (λ b. b && K (entryAt es i .clause))
+          (table 3 (λ u w o. u ≐ (w && not o) ⟹ o ≐ false ⟹ w ≐ u) refl (U i) (W i) (only (size es) i) (s .without i)
+          (not-true (only (size es) i) (λ p. omega (arith, only-eq (size es) i p))))

@@ -1,0 +1,12 @@
+-- Theorems about the definitions of specs/ that belong to no one function.
+pub mod CountLaws
+pub mod GoalsBounded
+pub mod AgendasBounded
+pub mod NodesBounded
+pub mod StockCounted
+pub mod StockKept
+pub mod DoomedHasNone
+pub mod StepsByKind
+pub mod WordCounted
+pub mod CellsKept
+pub mod CodesRowed

@@ -1,0 +1,344 @@
+-- THEOREM. A settled table's bounds at a node are bounds of the goal there, or of a recipe's conditions, from the bounds of the names; and
+-- these allow every use of a clause of the card.
+use Prim.Native.Nat.{ℕ, zero, suc, max, min, _+_, _-_, _≤_, _<_}
+use native.Mathlib.Omega.{arith}
+use native.Mathlib.Decide.{decLe}
+use mathlib.Core.Path.{_≡_, refl, sym, ap, _∙_, subst}
+use mathlib.Core.Logic.{⊎-elim}
+use mathlib.Core.Bool.{Bool, true, false, cond, _&&_, false≢true}
+use mathlib.Core.List.{List}
+use lib.Dec.{eqb, leb}
+use borrow.Author.Tests.{eqb-true, ne-eqb, leb-true}
+use Rattle.calculus.specs.Formula.{Goal, Clause, atomᴳ, topᴳ, oneᴳ, tensor, with, lolliᴳ, atomᴰ, topᴰ, lolliᴰ, usable}
+use Rattle.card.specs.Format.{nodeCount, kindAt, leftAt, rightAt}
+use Rattle.card.specs.Fault.{Sound, goalPart, clausePart}
+use Rattle.card.specs.Decode.{goalAt, clauseOf}
+use Rattle.card.proofs.NodesDecoded.{reads-name, reads-rest, reads-done}
+use Rattle.card.proofs.SoundNodes.{goal-lower, goal-kind, clause-lower, clause-kind, goal-above, clause-above, name-low, both-parts}
+use Rattle.card.proofs.SoundNodes.{either-parts}
+use Rattle.card.proofs.SoundNodes.{lend-parts, recipe-parts, sound-both, sound-either, sound-lend, sound-recipe, usable-name, usable-rest}
+use Rattle.card.proofs.SoundNodes.{usable-recipe}
+use Rattle.bounds.specs.Inner.Count.{bit}
+use Rattle.bounds.specs.Inner.Bound.{off, leastG, lowG, highG, leastD, lowD, highD, Settles, LendsG, LendsD, Closed}
+use Rattle.bounds.specs.Inner.Table.{headOf, headAt, rowOf, classAt, classes, lowAt, highAt, leastAt, byKind, ifRecipe, inClass}
+use Rattle.bounds.specs.Inner.Table.{headStep}
+use Rattle.bounds.specs.Inner.Table.{leastStep, lowStep, highStep, leastUse, lowUse, highUse, NodeFits, NodeSettled}
+use Rattle.bounds.specs.Inner.Table.{Origin, lent, OfCard, Settled, namesOf, classOf}
+use Rattle.bounds.proofs.GoalsBounded.{off-below}
+
+-- what is shown of a node: bounds of a goal or of conditions
+pub record Under (least low high least′ low′ high′ : ℕ) : Type 0 where
+  pub long : least ≤ least′
+  pub some : low ≤ low′
+  pub few : high < 255 → high′ ≤ high
+
+-- a greatest number less an item that is taken for sure grows with it
+off-mono : (h g : ℕ) (b : Bool) → (h < 255 → g ≤ h) → off h b < 255 → off g b ≤ off h b
+unfolding off
+off-mono h g b p k =
+    let o = off-below h b k in
+    let q = p (o .0) in
+    at (leb 255 g) refl (o .1)
+  where
+    at : (c : Bool) → leb 255 g ≡ c → off h b ≡ h - bit b → cond c g (g - bit b) ≤ off h b
+    at true e d = absurd (omega (arith, leb-true 255 g e, off-below h b k .0, p (off-below h b k .0)))
+    at false e d = omega (arith, p (off-below h b k .0))
+
+as-recipe : (bs : List ℕ) (i : ℕ) → kindAt bs i ≡ 7 → (v : ℕ) → ifRecipe bs i v ≡ v
+unfolding ifRecipe
+as-recipe bs i k v = rw k refl
+
+no-recipe : (bs : List ℕ) (i : ℕ) → (kindAt bs i ≡ 7 → ⊥) → (v : ℕ) → ifRecipe bs i v ≡ 0
+unfolding ifRecipe
+no-recipe bs i k v = rw (ne-eqb (kindAt bs i) 7 k) refl
+
+-- a kind of goals
+six : (k : ℕ) (A : Type 0) → 1 ≤ k → k ≤ 6 → (k ≡ 1 → A) → (k ≡ 2 → A) → (k ≡ 3 → A) → (k ≡ 4 → A) → (k ≡ 5 → A) → (k ≡ 6 → A) → A
+six zero A l h a b c d e f = absurd (omega arith)
+six (suc zero) A l h a b c d e f = a refl
+six (suc (suc zero)) A l h a b c d e f = b refl
+six (suc (suc (suc zero))) A l h a b c d e f = c refl
+six (suc (suc (suc (suc zero)))) A l h a b c d e f = d refl
+six (suc (suc (suc (suc (suc zero))))) A l h a b c d e f = e refl
+six (suc (suc (suc (suc (suc (suc zero)))))) A l h a b c d e f = f refl
+six (suc (suc (suc (suc (suc (suc (suc k))))))) A l h a b c d e f = absurd (omega arith)
+
+-- a clause that can be used for a name has it for its head
+usable-head : (a : ℕ) (D : Clause) → usable eqb a D ≡ true → headOf D ≡ a
+unfolding usable headOf
+usable-head a (atomᴰ b) h = eqb-true b a h
+usable-head a topᴰ h = absurd (false≢true h)
+usable-head a (lolliᴰ G D) h = usable-head a D h
+
+-- the bounds at the node are bounds of the goal, of the clause's conditions
+abbrev pub GoalUnder : List ℕ → List ℕ → ℕ → ℕ → Goal → Type 0
+GoalUnder names t c j G =
+    let K = classOf names c in
+    let T = namesOf names t c in
+    Under (leastAt t j) (lowAt t j c) (highAt t j c) (leastG K T G) (lowG K T G) (highG K T G)
+
+abbrev ClauseUnder : List ℕ → List ℕ → List ℕ → ℕ → ℕ → Clause → Type 0
+ClauseUnder bs names t c j D =
+    let K = classOf names c in
+    let T = namesOf names t c in
+    Under (ifRecipe bs j (leastAt t j)) (ifRecipe bs j (lowAt t j c)) (ifRecipe bs j (highAt t j c))
+    (leastD K T D) (lowD K T D) (highD K T D)
+
+-- One node, from its parts
+module _ (bs names t : List ℕ) (c i : ℕ) (w : NodeSettled bs names t i) (f : NodeFits bs names t i c) where
+  name-under : kindAt bs i ≡ 1 → GoalUnder names t c i (atomᴳ (leftAt bs i))
+  unfolding leastStep lowStep highStep byKind leastG lowG highG namesOf
+  name-under k =
+      let a : leastStep bs names t i ≡ leastAt t (rowOf names (leftAt bs i)) = rw k refl in
+      let b : lowStep bs names t i c ≡ lowAt t (rowOf names (leftAt bs i)) c = rw k refl in
+      let d : highStep bs names t i c ≡ highAt t (rowOf names (leftAt bs i)) c = rw k refl in
+      record { long = omega (arith, w .least); some = omega (arith, f .low); few = λ h. omega (arith, f .high h) }
+
+  rest-under : kindAt bs i ≡ 2 → GoalUnder names t c i topᴳ
+  unfolding leastStep lowStep highStep byKind leastG lowG highG
+  rest-under k =
+      let a : leastStep bs names t i ≡ 0 = rw k refl in
+      let b : lowStep bs names t i c ≡ 0 = rw k refl in
+      let d : highStep bs names t i c ≡ 255 = rw k refl in
+      record { long = omega (arith, w .least); some = omega (arith, f .low); few = λ h. omega (arith, f .high h) }
+
+  done-under : kindAt bs i ≡ 3 → GoalUnder names t c i oneᴳ
+  unfolding leastStep lowStep highStep byKind leastG lowG highG
+  done-under k =
+      let a : leastStep bs names t i ≡ 0 = rw k refl in
+      let b : lowStep bs names t i c ≡ 0 = rw k refl in
+      record { long = omega (arith, w .least); some = omega (arith, f .low); few = λ h. omega arith }
+
+  module _ (G H : Goal) (x : GoalUnder names t c (leftAt bs i) G) (y : GoalUnder names t c (rightAt bs i) H) where
+    both-under : kindAt bs i ≡ 4 → GoalUnder names t c i (tensor G H)
+    unfolding leastStep lowStep highStep byKind leastG lowG highG
+    both-under k =
+        let a : leastStep bs names t i ≡ leastAt t (leftAt bs i) + leastAt t (rightAt bs i) = rw k refl in
+        let b : lowStep bs names t i c ≡ lowAt t (leftAt bs i) c + lowAt t (rightAt bs i) c = rw k refl in
+        let d : highStep bs names t i c ≡ highAt t (leftAt bs i) c + highAt t (rightAt bs i) c = rw k refl in
+        record {
+          long = omega (arith, w .least, x .long, y .long);
+          some = omega (arith, f .low, x .some, y .some);
+          few = λ h. let g = f .high h in omega (arith, x .few (omega arith), y .few (omega arith));
+        }
+
+    either-under : kindAt bs i ≡ 5 → GoalUnder names t c i (with G H)
+    unfolding leastStep lowStep highStep byKind leastG lowG highG
+    either-under k =
+        let a : leastStep bs names t i ≡ leastAt t (leftAt bs i) + leastAt t (rightAt bs i) = rw k refl in
+        let b : lowStep bs names t i c ≡ max (lowAt t (leftAt bs i) c) (lowAt t (rightAt bs i) c) = rw k refl in
+        let d : highStep bs names t i c ≡ min (highAt t (leftAt bs i) c) (highAt t (rightAt bs i) c) = rw k refl in
+        record {
+          long = omega (arith, w .least, x .long, y .long);
+          some = omega (arith, f .low, x .some, y .some);
+          few = λ h. let g = f .high h in at h (decLe (highAt t (leftAt bs i) c) (highAt t (rightAt bs i) c)) (omega arith);
+        }
+      where
+        at : highAt t i c < 255 → Dec (highAt t (leftAt bs i) c ≤ highAt t (rightAt bs i) c)
+            → min (highAt t (leftAt bs i) c) (highAt t (rightAt bs i) c) ≤ highAt t i c
+            → min (highG (classOf names c) (namesOf names t c) G) (highG (classOf names c) (namesOf names t c) H) ≤ highAt t i c
+        at h (yes q) g = omega (arith, x .few (omega arith))
+        at h (no q) g = omega (arith, y .few (omega arith))
+
+  module _ (D : Clause) (G : Goal) (e : headAt names (leftAt bs i) ≡ headOf D) (y : GoalUnder names t c (rightAt bs i) G) where
+    lend-under : kindAt bs i ≡ 6 → GoalUnder names t c i (lolliᴳ D G)
+    unfolding leastStep lowStep highStep byKind leastG lowG highG inClass classOf
+    lend-under k =
+        let j : Bool = eqb (headOf D) (classAt names c) in
+        let a : leastStep bs names t i ≡ leastAt t (rightAt bs i) = rw k refl in
+        let b : lowStep bs names t i c ≡ lowAt t (rightAt bs i) c - bit j = rw (k, e) refl in
+        let d : highStep bs names t i c ≡ off (highAt t (rightAt bs i) c) j = rw (k, e) refl in
+        record {
+          long = omega (arith, w .least, y .long);
+          some = omega (arith, f .low, y .some);
+          few = λ h.
+              let g = f .high h in
+              omega (arith, off-mono (highAt t (rightAt bs i) c) (highG (classOf names c) (namesOf names t c) G) j (y .few) (omega arith));
+        }
+
+  module _ (G : Goal) (D : Clause) (x : GoalUnder names t c (leftAt bs i) G) (y : ClauseUnder bs names t c (rightAt bs i) D) where
+    recipe-under : kindAt bs i ≡ 7 → ClauseUnder bs names t c i (lolliᴰ G D)
+    unfolding leastStep lowStep highStep byKind leastD lowD highD
+    recipe-under k =
+        let a : leastStep bs names t i ≡ leastAt t (leftAt bs i) + ifRecipe bs (rightAt bs i) (leastAt t (rightAt bs i)) = rw k refl in
+        let b : lowStep bs names t i c ≡ lowAt t (leftAt bs i) c + ifRecipe bs (rightAt bs i) (lowAt t (rightAt bs i) c) = rw k refl in
+        let d : highStep bs names t i c ≡ highAt t (leftAt bs i) c + ifRecipe bs (rightAt bs i) (highAt t (rightAt bs i) c) = rw k refl in
+        let own = as-recipe bs i k in
+        record {
+          long = omega (arith, w .least, x .long, y .long, own (leastAt t i));
+          some = omega (arith, f .low, x .some, y .some, own (lowAt t i c));
+          few = λ h.
+              let o = own (highAt t i c) in
+              let g = f .high (omega arith) in
+              omega (arith, x .few (omega arith), y .few (omega arith));
+        }
+
+module _ {bs names t masks : List ℕ} (s : Sound bs) (z : Settled bs names t masks) where
+  abbrev N : ℕ
+  N = nodeCount bs
+
+  -- heads
+  head-at : (n i : ℕ) → i < n → clausePart bs N i ≡ true → headAt names i ≡ headOf (clauseOf bs i)
+  unfolding headStep byKind headOf
+  head-at zero i h p = absurd (omega arith)
+  head-at (suc n) i h p =
+      ⊎-elim
+      (λ k. z .nodes i low .head ∙ (rw k refl) ∙ sym (ap headOf (reads-name bs i k .1)))
+      (⊎-elim
+      (λ k. z .nodes i low .head ∙ (rw k refl) ∙ sym (ap headOf (reads-rest bs i k .1)))
+      (λ k. z .nodes i low .head ∙ (rw k refl)
+      ∙ head-at n (rightAt bs i) (omega (arith, clause-lower bs i (rightAt bs i) (recipe-parts s i low k .1)))
+      (clause-above bs i (rightAt bs i) N (omega (arith, low)) (recipe-parts s i low k .1))
+      ∙ sym (ap headOf (sound-recipe s i low k))))
+      (clause-kind bs N i p)
+    where
+      low : i < N
+      low = clause-lower bs N i p
+
+  module _ (c : ℕ) (q : c < classes names) where
+    pub goal-under : (n i : ℕ) → i < n → goalPart bs N i ≡ true → GoalUnder names t c i (goalAt bs i)
+    goal-under zero i h p = absurd (omega arith)
+    goal-under (suc n) i h p =
+        let low : i < N = goal-lower bs N i p in
+        let w = z .nodes i low in
+        let f = w .class c q in
+        let part : (j : ℕ) → goalPart bs i j ≡ true → GoalUnder names t c j (goalAt bs j) =
+        λ j g. goal-under n j (omega (arith, goal-lower bs i j g)) (goal-above bs i j N (omega (arith, low)) g) in
+        six (kindAt bs i) (GoalUnder names t c i (goalAt bs i)) (goal-kind bs N i p .0) (goal-kind bs N i p .1)
+        (λ k. rw (reads-name bs i k .0) (name-under bs names t c i w f k))
+        (λ k. rw (reads-rest bs i k .0) (rest-under bs names t c i w f k))
+        (λ k. rw (reads-done bs i k) (done-under bs names t c i w f k))
+        (λ k.
+        let g = both-parts s i low k in
+        rw (sound-both s i low k) (both-under bs names t c i w f _ _ (part (leftAt bs i) (g .0)) (part (rightAt bs i) (g .1)) k))
+        (λ k.
+        let g = either-parts s i low k in
+        rw (sound-either s i low k) (either-under bs names t c i w f _ _ (part (leftAt bs i) (g .0)) (part (rightAt bs i) (g .1)) k))
+        (λ k.
+        let g = lend-parts s i low k in
+        let l = clause-lower bs i (leftAt bs i) (g .0) in
+        rw (sound-lend s i low k)
+        (lend-under bs names t c i w f _ _
+        (head-at (suc (leftAt bs i)) (leftAt bs i) (omega arith) (clause-above bs i (leftAt bs i) N (omega (arith, low)) (g .0)))
+        (part (rightAt bs i) (g .1)) k))
+
+    clause-under : (n i : ℕ) → i < n → clausePart bs N i ≡ true → ClauseUnder bs names t c i (clauseOf bs i)
+    unfolding leastD lowD highD
+    clause-under zero i h p = absurd (omega arith)
+    clause-under (suc n) i h p =
+        let low : i < N = clause-lower bs N i p in
+        let w = z .nodes i low in
+        let f = w .class c q in
+        ⊎-elim
+        (λ k. rw (reads-name bs i k .1) (plain i (λ m. omega arith)))
+        (⊎-elim
+        (λ k. rw (reads-rest bs i k .1) (plain i (λ m. omega arith)))
+        (λ k.
+        let g = recipe-parts s i low k in
+        let r = clause-lower bs i (rightAt bs i) (g .1) in
+        rw (sound-recipe s i low k)
+        (recipe-under bs names t c i w f (goalAt bs (leftAt bs i)) (clauseOf bs (rightAt bs i))
+        (goal-under (suc (leftAt bs i)) (leftAt bs i) (omega arith) (goal-above bs i (leftAt bs i) N (omega (arith, low)) (g .0)))
+        (clause-under n (rightAt bs i) (omega arith) (clause-above bs i (rightAt bs i) N (omega (arith, low)) (g .1))) k)))
+        (clause-kind bs N i p)
+      where
+        plain : (i : ℕ) → (kindAt bs i ≡ 7 → ⊥)
+            → Under (ifRecipe bs i (leastAt t i)) (ifRecipe bs i (lowAt t i c)) (ifRecipe bs i (highAt t i c)) 0 0 0
+        plain i m = record {
+          long = omega (arith, no-recipe bs i m (leastAt t i));
+          some = omega (arith, no-recipe bs i m (lowAt t i c));
+          few = λ h. omega arith;
+        }
+
+  -- what goals and conditions of the card lend is of the card
+  pub goal-lends : (n i : ℕ) → i < n → goalPart bs N i ≡ true → LendsG (OfCard bs) (goalAt bs i)
+  unfolding LendsG
+  goal-lends zero i h p = absurd (omega arith)
+  goal-lends (suc n) i h p =
+      let low : i < N = goal-lower bs N i p in
+      let part : (j : ℕ) → goalPart bs i j ≡ true → LendsG (OfCard bs) (goalAt bs j) =
+      λ j g. goal-lends n j (omega (arith, goal-lower bs i j g)) (goal-above bs i j N (omega (arith, low)) g) in
+      six (kindAt bs i) (LendsG (OfCard bs) (goalAt bs i)) (goal-kind bs N i p .0) (goal-kind bs N i p .1)
+      (λ k. rw (reads-name bs i k .0) tt)
+      (λ k. rw (reads-rest bs i k .0) tt)
+      (λ k. rw (reads-done bs i k) tt)
+      (λ k. let g = both-parts s i low k in rw (sound-both s i low k) (part (leftAt bs i) (g .0), part (rightAt bs i) (g .1)))
+      (λ k. let g = either-parts s i low k in rw (sound-either s i low k) (part (leftAt bs i) (g .0), part (rightAt bs i) (g .1)))
+      (λ k.
+      let g = lend-parts s i low k in
+      rw (sound-lend s i low k) (
+        record {
+          node = leftAt bs i;
+          here = clause-above bs i (leftAt bs i) N (omega (arith, low)) (g .0);
+          reads = refl;
+          origin = lent i (leftAt bs i) low k refl;
+        },
+        part (rightAt bs i) (g .1),
+      ))
+
+  clause-lends : (n i : ℕ) → i < n → clausePart bs N i ≡ true → LendsD (OfCard bs) (clauseOf bs i)
+  unfolding LendsD
+  clause-lends zero i h p = absurd (omega arith)
+  clause-lends (suc n) i h p =
+      let low : i < N = clause-lower bs N i p in
+      ⊎-elim
+      (λ k. rw (reads-name bs i k .1) tt)
+      (⊎-elim
+      (λ k. rw (reads-rest bs i k .1) tt)
+      (λ k.
+      let g = recipe-parts s i low k in
+      let r = clause-lower bs i (rightAt bs i) (g .1) in
+      rw (sound-recipe s i low k) (
+        clause-lends n (rightAt bs i) (omega arith) (clause-above bs i (rightAt bs i) N (omega (arith, low)) (g .1)),
+        goal-lends (suc (leftAt bs i)) (leftAt bs i) (omega arith) (goal-above bs i (leftAt bs i) N (omega (arith, low)) (g .0)),
+      )))
+      (clause-kind bs N i p)
+
+  -- heads of the clauses of the card
+  pub head-is : (i : ℕ) → clausePart bs N i ≡ true → headAt names i ≡ headOf (clauseOf bs i)
+  head-is i p = head-at (suc i) i (omega arith) p
+
+  -- a clause of the card can be used but for a name
+  usable-low : (n i : ℕ) → i < n → clausePart bs N i ≡ true → (a : ℕ) → usable eqb a (clauseOf bs i) ≡ true → a < 1000
+  usable-low zero i h p a u = absurd (omega arith)
+  usable-low (suc n) i h p a u =
+      let low : i < N = clause-lower bs N i p in
+      ⊎-elim
+      (λ k. omega (arith, eqb-true (leftAt bs i) a (sym (usable-name bs i k eqb a) ∙ u), name-low s i low k))
+      (⊎-elim
+      (λ k. absurd (false≢true (sym (usable-rest bs i k eqb a) ∙ u)))
+      (λ k.
+      let g = recipe-parts s i low k in
+      let r = clause-lower bs i (rightAt bs i) (g .1) in
+      usable-low n (rightAt bs i) (omega arith) (clause-above bs i (rightAt bs i) N (omega (arith, low)) (g .1)) a
+      (sym (usable-recipe s i low k eqb a) ∙ u)))
+      (clause-kind bs N i p)
+
+  use-settles : (c : ℕ) → c < classes names → (i : ℕ) (b : Bool) → clausePart bs N i ≡ true → Origin bs i b → (a : ℕ)
+      → usable eqb a (clauseOf bs i) ≡ true → Settles (classOf names c) (namesOf names t c) a (clauseOf bs i) b
+  unfolding namesOf classOf leastUse lowUse highUse inClass
+  use-settles c q i b p o a u =
+      let e : headAt names i ≡ a = head-is i p ∙ usable-head a (clauseOf bs i) u in
+      let l : headAt names i < 1000 = omega (arith, usable-low (suc i) i (omega arith) p a u) in
+      let x = z .uses i b o in
+      let f = x .class l c q in
+      let y = clause-under c q (suc i) i (omega arith) p in
+      let m : bit (b && eqb (headAt names i) (classAt names c)) ≡ bit (b && eqb (headOf (clauseOf bs i)) (classAt names c)) =
+      ap (λ d. bit (b && eqb d (classAt names c))) (head-is i p) in
+      let lo : lowAt t (rowOf names (headAt names i)) c ≡ lowAt t (rowOf names a) c = ap (λ d. lowAt t (rowOf names d) c) e in
+      let hi : highAt t (rowOf names (headAt names i)) c ≡ highAt t (rowOf names a) c = ap (λ d. highAt t (rowOf names d) c) e in
+      let le : leastAt t (rowOf names (headAt names i)) ≡ leastAt t (rowOf names a) = ap (λ d. leastAt t (rowOf names d)) e in
+      record {
+        least = omega (arith, x .least l, y .long);
+        low = omega (arith, f .low, y .some);
+        high = λ h. let g = f .high (omega arith) in omega (arith, y .few (omega arith));
+      }
+
+  -- THEOREM. The bounds of names allow every use of a clause of the card.
+  pub closed : (c : ℕ) → c < classes names → Closed (OfCard bs) eqb (classOf names c) (namesOf names t c)
+  closed c q = record {
+    settles = λ D b o a u.
+        subst (λ (E : Clause). Settles (classOf names c) (namesOf names t c) a E b) (o .reads)
+        (use-settles c q (o .node) b (o .here) (o .origin) a (subst (λ (E : Clause). usable eqb a E ≡ true) (sym (o .reads)) u));
+    lends = λ D b o. subst (LendsD (OfCard bs)) (o .reads) (clause-lends (suc (o .node)) (o .node) (omega arith) (o .here));
+  }

@@ -1,0 +1,131 @@
+-- Bounds of goals, for one class of items: least steps, least and greatest number of items. They are given by name; those of a goal are
+-- folded from its names. A greatest number of 255 or more is none.
+use Prim.Native.Nat.{ℕ, suc, max, min, _+_, _-_, _≤_, _<_}
+use mathlib.Core.Path.{_≡_}
+use mathlib.Core.Bool.{Bool, true, false, cond, _&&_}
+use mathlib.Core.List.{List, [], _∷_}
+use lib.ListN.{length}
+use lib.Dec.{leb}
+use Rattle.calculus.specs.Formula.{Fits, Goal, Clause, atomᴳ, topᴳ, oneᴳ, zeroᴳ, tensor, with, lolliᴳ, atomᴰ, topᴰ, lolliᴰ, usable}
+use Rattle.calculus.specs.Items.{Items, _∪_}
+use Rattle.calculus.specs.Derivation.{Scope, size, clauseAt, linearAt}
+use Rattle.agenda.specs.Inner.Agenda.{Agenda}
+use Rattle.bounds.specs.Inner.Count.{Class, bit, count}
+
+-- the bounds of each name
+pub record Names : Type 0 where
+  pub least : ℕ → ℕ
+  pub low : ℕ → ℕ
+  pub high : ℕ → ℕ
+
+-- a greatest number less an item that is taken for sure; none stays none
+unfoldable pub off : ℕ → Bool → ℕ
+off h b = cond (leb 255 h) h (h - bit b)
+
+module _ (K : Class) (t : Names) where
+  unfoldable pub leastG : Goal → ℕ
+  leastG (atomᴳ a) = t .least a
+  leastG topᴳ = 0
+  leastG oneᴳ = 0
+  leastG zeroᴳ = 0
+  leastG (tensor G H) = leastG G + leastG H
+  leastG (with G H) = leastG G + leastG H
+  leastG (lolliᴳ D G) = leastG G
+
+  unfoldable pub lowG : Goal → ℕ
+  lowG (atomᴳ a) = t .low a
+  lowG topᴳ = 0
+  lowG oneᴳ = 0
+  lowG zeroᴳ = 0
+  lowG (tensor G H) = lowG G + lowG H
+  lowG (with G H) = max (lowG G) (lowG H)
+  lowG (lolliᴳ D G) = lowG G - bit (K D)
+
+  unfoldable pub highG : Goal → ℕ
+  highG (atomᴳ a) = t .high a
+  highG topᴳ = 255
+  highG oneᴳ = 0
+  highG zeroᴳ = 0
+  highG (tensor G H) = highG G + highG H
+  highG (with G H) = min (highG G) (highG H)
+  highG (lolliᴳ D G) = off (highG G) (K D)
+
+  -- of all conditions of a clause
+  unfoldable pub leastD : Clause → ℕ
+  leastD (atomᴰ b) = 0
+  leastD topᴰ = 0
+  leastD (lolliᴰ G D) = leastD D + leastG G
+
+  unfoldable pub lowD : Clause → ℕ
+  lowD (atomᴰ b) = 0
+  lowD topᴰ = 0
+  lowD (lolliᴰ G D) = lowD D + lowG G
+
+  unfoldable pub highD : Clause → ℕ
+  highD (atomᴰ b) = 0
+  highD topᴰ = 0
+  highD (lolliᴰ G D) = highD D + highG G
+
+  -- of all tasks of an agenda
+  unfoldable pub leastA : Agenda → ℕ
+  leastA [] = 0
+  leastA (x ∷ A) = leastG (x .goal) + leastA A
+
+  unfoldable pub lowA : Agenda → ℕ
+  lowA [] = 0
+  lowA (x ∷ A) = lowG (x .goal) + lowA A
+
+  unfoldable pub highA : Agenda → ℕ
+  highA [] = 0
+  highA (x ∷ A) = highG (x .goal) + highA A
+
+  -- The bounds of the name a allow the use of a clause for it: one step, and one item of the class if the clause is linear and of it.
+  pub record Settles (a : ℕ) (D : Clause) (linear : Bool) : Type 0 where
+    pub least : t .least a ≤ suc (leastD D)
+    pub low : t .low a ≤ bit (linear && K D) + lowD D
+    pub high : t .high a < 255 → bit (linear && K D) + highD D ≤ t .high a
+
+-- A family of clauses, each with whether it is linear. What a goal lends is of the family; so are the clauses that conditions lend.
+abbrev pub Kin : Type 1
+Kin = Clause → Bool → Type 0
+
+module _ (P : Kin) where
+  unfoldable pub LendsG : Goal → Type 0
+  LendsG (atomᴳ a) = Unit {0}
+  LendsG topᴳ = Unit {0}
+  LendsG oneᴳ = Unit {0}
+  LendsG zeroᴳ = Unit {0}
+  LendsG (tensor G H) = LendsG G × LendsG H
+  LendsG (with G H) = LendsG G × LendsG H
+  LendsG (lolliᴳ D G) = P D true × LendsG G
+
+  unfoldable pub LendsD : Clause → Type 0
+  LendsD (atomᴰ b) = Unit {0}
+  LendsD topᴰ = Unit {0}
+  LendsD (lolliᴰ G D) = LendsD D × LendsG G
+
+  unfoldable pub LendsA : Agenda → Type 0
+  LendsA [] = Unit {0}
+  LendsA (x ∷ A) = LendsG (x .goal) × LendsA A
+
+  -- every entry in scope is of the family
+  pub record Scoped (fits : Fits) (es : Scope) : Type 0 where
+    pub same-fits : es .fits ≡ fits
+    pub kin : (e : ℕ) → e < size es → P (clauseAt es e) (linearAt es e)
+
+  -- the bounds allow every use of a clause of the family, and its conditions lend but clauses of the family
+  pub record Closed (fits : Fits) (K : Class) (t : Names) : Type 0 where
+    pub settles : (D : Clause) (b : Bool) → P D b → (a : ℕ) → usable fits a D ≡ true → Settles K t a D b
+    pub lends : (D : Clause) (b : Bool) → P D b → LendsD D
+
+-- A list of a goal that takes U, with slack v, keeps to the goal's bounds; no slack where there is a greatest number.
+pub record Keeps (K : Class) (es : Scope) (least low high : ℕ) (l : List ℕ) (U : Items) (v : Bool) : Type 0 where
+  pub long : least ≤ length l
+  pub some : low ≤ count es K U
+  pub few : high < 255 → (v ≡ false) × (count es K U ≤ high)
+
+-- No list of the agenda is in the window (S, L) and within the room.
+pub data Hopeless (K : Class) (t : Names) (es : Scope) (A : Agenda) (S L : Items) (room : ℕ) : Type 0 where
+  too-long : room < leastA K t A → Hopeless K t es A S L room
+  too-few : count es K (S ∪ L) < lowA K t A → Hopeless K t es A S L room
+  too-many : highA K t A < 255 → highA K t A < count es K S → Hopeless K t es A S L room

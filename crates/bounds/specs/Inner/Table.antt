@@ -1,0 +1,166 @@
+-- The table of a card. A class holds the clauses with one head; there are at most 64 of them. For each node and class the table has a
+-- least and a greatest number of items, and for each node least steps; a node of a recipe has those of all its conditions together. The
+-- bounds of a name stand at a row of the table: that of one node of the name, or 512 for a name of no node. How the table is filled in
+-- does not matter: it is settled if each node's bounds follow from its parts, and each name's from every clause of a rule, a line or a
+-- lend with that head. 255 is the greatest number that stands for none; least numbers and steps stop there.
+use Prim.Native.Nat.{ℕ, suc, max, min, _+_, _-_, _*_, _≤_, _<_}
+use mathlib.Core.Path.{_≡_}
+use mathlib.Core.Bool.{Bool, true, false, cond, _&&_}
+use mathlib.Core.List.{List, [], _∷_}
+use lib.ListN.{length, getD}
+use lib.Dec.{eqb, ltb}
+use Rattle.calculus.specs.Formula.{Clause, atomᴰ, topᴰ, lolliᴰ}
+use Rattle.lines.specs.Inner.Set.{bitAt}
+use Rattle.card.specs.Format.{ruleCount, lineCount, nodeCount, kindAt, leftAt, rightAt, ruleNode, lineNode}
+use Rattle.card.specs.Fault.{Sound, clausePart}
+use Rattle.card.specs.Decode.{clauseOf}
+use Rattle.bounds.specs.Inner.Count.{Class, bit}
+use Rattle.bounds.specs.Inner.Bound.{Names, off}
+
+-- the two arrays that hold a table, as every array of their types is
+pub record NameCells (names : List ℕ) : Type 0 where
+  pub room : length names ≡ 1577
+  pub word : (i : ℕ) → getD names i 0 < 65536
+
+pub record TableCells (t : List ℕ) : Type 0 where
+  pub room : length t ≡ 66177
+  pub byte : (i : ℕ) → getD t i 0 < 256
+
+-- what the functions over the table are handed
+pub record Held (bs names t : List ℕ) : Type 0 where
+  pub sound : Sound bs
+  pub names-held : NameCells names
+  pub table-held : TableCells t
+
+-- i is a node of the card
+pub record Node (bs : List ℕ) (i : ℕ) : Type 0 where
+  pub here : i < nodeCount bs
+  pub few : i < 512
+
+-- a clause's head; 1000, which is no name, where there is none
+unfoldable pub headOf : Clause → ℕ
+headOf (atomᴰ b) = b
+headOf topᴰ = 1000
+headOf (lolliᴰ G D) = headOf D
+
+-- Names: the head of each clause node, the row of each name, the head of each class, and how many classes there are.
+unfoldable pub headAt : List ℕ → ℕ → ℕ
+headAt names i = getD names i 0
+
+unfoldable pub rowOf : List ℕ → ℕ → ℕ
+rowOf names a = min (getD names (512 + a) 0) 512
+
+unfoldable pub classAt : List ℕ → ℕ → ℕ
+classAt names c = getD names (1512 + c) 0
+
+unfoldable pub classes : List ℕ → ℕ
+classes names = min (getD names 1576 0) 64
+
+-- Bounds: the least numbers, the greatest numbers and the least steps of each row.
+unfoldable pub lowAt : List ℕ → ℕ → ℕ → ℕ
+lowAt t i c = getD t (i * 64 + c) 0
+
+unfoldable pub highAt : List ℕ → ℕ → ℕ → ℕ
+highAt t i c = getD t (32832 + (i * 64 + c)) 0
+
+unfoldable pub leastAt : List ℕ → ℕ → ℕ
+leastAt t i = getD t (65664 + i) 0
+
+-- what stands for the kind: name, rest, done, both, either way, lend, recipe; what stands for an unknown one does not matter
+unfoldable pub byKind : ℕ → ℕ → ℕ → ℕ → ℕ → ℕ → ℕ → ℕ → ℕ
+byKind k name rest done both either lend recipe = getD (done ∷ name ∷ rest ∷ done ∷ both ∷ either ∷ lend ∷ recipe ∷ []) k both
+
+-- the value of a recipe, 0 of any other clause: it has no conditions
+unfoldable pub ifRecipe : List ℕ → ℕ → ℕ → ℕ
+ifRecipe bs i v = cond (eqb (kindAt bs i) 7) v 0
+
+-- the clause at the node is of the class
+unfoldable pub inClass : List ℕ → ℕ → ℕ → Bool
+inClass names i c = eqb (headAt names i) (classAt names c)
+
+unfoldable pub headStep : List ℕ → List ℕ → ℕ → ℕ
+headStep bs names i = byKind (kindAt bs i) (leftAt bs i) 1000 1000 1000 1000 1000 (headAt names (rightAt bs i))
+
+module _ (bs names t : List ℕ) where
+  unfoldable pub leastStep : ℕ → ℕ
+  leastStep i =
+      let l = leastAt t (leftAt bs i) in
+      let r = leastAt t (rightAt bs i) in
+      byKind (kindAt bs i) (leastAt t (rowOf names (leftAt bs i))) 0 0 (l + r) (l + r) r (l + ifRecipe bs (rightAt bs i) r)
+
+  unfoldable pub lowStep : ℕ → ℕ → ℕ
+  lowStep i c =
+      let l = lowAt t (leftAt bs i) c in
+      let r = lowAt t (rightAt bs i) c in
+      byKind (kindAt bs i) (lowAt t (rowOf names (leftAt bs i)) c) 0 0 (l + r) (max l r) (r - bit (inClass names (leftAt bs i) c))
+      (l + ifRecipe bs (rightAt bs i) r)
+
+  unfoldable pub highStep : ℕ → ℕ → ℕ
+  highStep i c =
+      let l = highAt t (leftAt bs i) c in
+      let r = highAt t (rightAt bs i) c in
+      byKind (kindAt bs i) (highAt t (rowOf names (leftAt bs i)) c) 255 0 (l + r) (min l r) (off r (inClass names (leftAt bs i) c))
+      (l + ifRecipe bs (rightAt bs i) r)
+
+  -- of a use of the clause at the node: one step, one item if it is linear and of the class, and its conditions
+  unfoldable pub leastUse : ℕ → ℕ
+  leastUse i = suc (ifRecipe bs i (leastAt t i))
+
+  unfoldable pub lowUse : ℕ → Bool → ℕ → ℕ
+  lowUse i b c = bit (b && inClass names i c) + ifRecipe bs i (lowAt t i c)
+
+  unfoldable pub highUse : ℕ → Bool → ℕ → ℕ
+  highUse i b c = bit (b && inClass names i c) + ifRecipe bs i (highAt t i c)
+
+  -- one class, at a node and at a use
+  pub record NodeFits (i c : ℕ) : Type 0 where
+    pub low : lowAt t i c ≤ lowStep i c
+    pub high : highAt t i c < 255 → highStep i c ≤ highAt t i c
+
+  pub record UseFits (i : ℕ) (b : Bool) (c : ℕ) : Type 0 where
+    pub low : lowAt t (rowOf names (headAt names i)) c ≤ lowUse i b c
+    pub high : highAt t (rowOf names (headAt names i)) c < 255 → highUse i b c ≤ highAt t (rowOf names (headAt names i)) c
+
+  pub record NodeSettled (i : ℕ) : Type 0 where
+    pub head : headAt names i ≡ headStep bs names i
+    pub least : leastAt t i ≤ leastStep i
+    pub class : (c : ℕ) → c < classes names → NodeFits i c
+
+  -- a clause without a head is never used
+  pub record UseSettled (i : ℕ) (b : Bool) : Type 0 where
+    pub least : headAt names i < 1000 → leastAt t (rowOf names (headAt names i)) ≤ leastUse i
+    pub class : headAt names i < 1000 → (c : ℕ) → c < classes names → UseFits i b c
+
+-- The clauses that may come into scope, by node, and whether they are linear: those of rules, of lines, and of lends.
+pub data Origin (bs : List ℕ) : ℕ → Bool → Type 0 where
+  rule : (k i : ℕ) → k < ruleCount bs → i ≡ ruleNode bs k → Origin bs i false
+  line : (k i : ℕ) → k < lineCount bs → i ≡ lineNode bs k → Origin bs i true
+  lent : (j i : ℕ) → j < nodeCount bs → kindAt bs j ≡ 6 → i ≡ leftAt bs j → Origin bs i true
+
+-- the family of a card
+pub record OfCard (bs : List ℕ) (D : Clause) (b : Bool) : Type 0 where
+  pub node : ℕ
+  pub here : clausePart bs (nodeCount bs) node ≡ true
+  pub reads : clauseOf bs node ≡ D
+  pub origin : Origin bs node b
+
+-- a class's lines as a word: bit i says whether i is a line of the class
+pub record Masked (bs names masks : List ℕ) (c : ℕ) : Type 0 where
+  pub mask : (i : ℕ) → i < 64 → bitAt (getD masks c 0) i ≡ (ltb i (lineCount bs) && inClass names (lineNode bs i) c)
+
+pub record Settled (bs names t masks : List ℕ) : Type 0 where
+  pub some : 0 < classes names
+  pub nodes : (i : ℕ) → i < nodeCount bs → NodeSettled bs names t i
+  pub uses : (i : ℕ) (b : Bool) → Origin bs i b → UseSettled bs names t i b
+  pub masked : (c : ℕ) → c < classes names → Masked bs names masks c
+
+-- the bounds of names that the table has for a class, and the class
+unfoldable pub namesOf : List ℕ → List ℕ → ℕ → Names
+namesOf names t c = record {
+  least = λ a. leastAt t (rowOf names a);
+  low = λ a. lowAt t (rowOf names a) c;
+  high = λ a. highAt t (rowOf names a) c;
+}
+
+unfoldable pub classOf : List ℕ → ℕ → Class
+classOf names c D = eqb (headOf D) (classAt names c)

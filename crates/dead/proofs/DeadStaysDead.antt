@@ -1,0 +1,213 @@
+-- Where nothing is readable nothing is for other steps with the same lines, with less room and from any floor on; so a row tells it of
+-- every branch with its key, and a memory that is told of it stays honest.
+use Prim.Native.Nat.{ℕ, zero, suc, _+_, _-_, _*_, _≤_, _<_}
+use native.Mathlib.Decide.{ℕ-discrete, decLt}
+use native.Mathlib.Omega.{arith}
+use mathlib.Core.Path.{_≡_, refl, sym, _∙_, ap, ap₂}
+use mathlib.Core.Logic.{_⊎_, inl, inr}
+use mathlib.Core.List.{List, [], _∷_}
+use lib.ListN.{length, getD, drop, replicate, length-replicate, getD-replicate}
+use lib.Seq.{getD-drop}
+use Rattle.calculus.specs.Items.{Items}
+use Rattle.calculus.specs.Derivation.{Scope}
+use Rattle.card.specs.Format.{ruleCount}
+use Rattle.lines.specs.declared.LineSet.{LineSet}
+use Rattle.scope.specs.Inner.Sets.{items}
+use Rattle.agenda.specs.Inner.Agenda.{Agenda}
+use Rattle.agenda.specs.Inner.Sought.{Place, None}
+use Rattle.agenda.proofs.SearchTells.{dead-none}
+use Rattle.entries.specs.Inner.Twins.{eligible}
+use Rattle.entries.specs.Inner.Masks.{maskSet, Seen}
+use Rattle.segment.specs.declared.branch.Branch.{Branch}
+use Rattle.segment.specs.Inner.Tasks.{taskOf, agendaOf}
+use Rattle.dead.specs.Inner.Rows.{wordAt, rowStrict, rowLax, rowSeen, rowLen, rowRoom, rowAgenda, keyWords, Same, Put}
+use Rattle.dead.specs.Inner.Barren.{openPlace, Barren, BarrenIn, BarrenRow, Honest, Dead, Remembers}
+use Rattle.dead.proofs.LinesDecide.{seen-lines, chosen-same, seen-word}
+
+-- Barren agendas
+
+-- THEOREM. Where the agenda is barren nothing is sought, from any floor on.
+pub barren-none : {bs : List ℕ} {es : Scope} {A : Agenda} {S L : Items} {seen : LineSet} {r : ℕ} → Barren bs es A S L seen r
+    → (p : Place) → Seen bs seen (p .done) → p .strict ≡ S → p .lax ≡ L → p .room ≤ r → None (eligible bs) es A p
+barren-none {bs} {S} {L} {r} b p s e f h =
+    dead-none (eligible bs) (openPlace (p .done) S L r) p (b .barren (p .done) s) e f h (λ m c. c)
+
+-- THEOREM. Where nothing is sought from no floor on the agenda is barren: what goes on eligibly goes by the lines seen.
+pub none-barren : {bs : List ℕ} {es : Scope} {A : Agenda} {seen : LineSet} (p : Place) → None (eligible bs) es A p → p .given ≡ []
+    → p .from ≡ 0 → Seen bs seen (p .done) → Barren bs es A (p .strict) (p .lax) seen (p .room)
+none-barren {bs} {es} {A} {seen} p h g f s = record {
+  barren = λ done t.
+      dead-none (eligible bs) p (openPlace done (p .strict) (p .lax) (p .room)) (rw g at (rw f at h)) refl refl (omega arith)
+      (λ m c. chosen-same (seen-lines t s) c);
+}
+
+-- the same key, and no more room
+barren-at : {bs : List ℕ} {es : Scope} {A A′ : Agenda} {S S′ L L′ : Items} {seen seen′ : LineSet} {r r′ : ℕ}
+    → Barren bs es A S L seen r → A′ ≡ A → S′ ≡ S → L′ ≡ L → seen′ .low ≡ seen .low → r′ ≤ r → Barren bs es A′ S′ L′ seen′ r′
+barren-at {bs} {es} {A} {A′} {S} {S′} {L} {L′} {seen} {seen′} {r} {r′} b a s l w h = record {
+  barren = λ done t. rw a (barren-none b (openPlace done S′ L′ r′) (seen-word w t) s l h);
+}
+
+-- Rows
+
+-- the row's codes are the agenda's
+row-agenda : (bs codes agenda : List ℕ) (at n : ℕ) → Same codes at agenda n → agendaOf bs agenda n ≡ agendaOf bs (drop at codes) n
+unfolding agendaOf
+row-agenda bs codes agenda at zero s = refl
+row-agenda bs codes agenda at (suc n) s =
+    ap₂ (λ c A. taskOf bs c ∷ A) (sym (s .same n (omega arith)) ∙ sym (getD-drop at codes n 0))
+    (row-agenda bs codes agenda at n (record { same = λ i h. s .same i (omega arith) }))
+
+module _ {words : List ℕ} (row : ℕ) (b : Branch) (s : Same words (row * 9) (keyWords b) 8) where
+  row-strict : b .strict ≡ rowStrict words row
+  unfolding rowStrict wordAt
+  row-strict = rw (s .same 0 (omega arith), s .same 1 (omega arith), s .same 2 (omega arith)) refl
+
+  row-lax : b .lax ≡ rowLax words row
+  unfolding rowLax wordAt
+  row-lax = rw (s .same 3 (omega arith), s .same 4 (omega arith), s .same 5 (omega arith)) refl
+
+  row-seen : b .seen .low ≡ rowSeen words row .low
+  unfolding rowSeen wordAt maskSet
+  row-seen = sym (s .same 6 (omega arith))
+
+  row-len : b .len ≡ rowLen words row
+  unfolding rowLen wordAt
+  row-len = sym (s .same 7 (omega arith))
+
+module _ (bs : List ℕ) {codes words agenda : List ℕ} (row : ℕ) (b : Branch) (s : Same words (row * 9) (keyWords b) 8)
+    (t : Same codes (row * 32) agenda (b .len)) where
+  agenda-is : agendaOf bs agenda (b .len) ≡ rowAgenda bs codes words row
+  unfolding rowAgenda
+  agenda-is = row-agenda bs codes agenda (row * 32) (b .len) t ∙ ap (agendaOf bs (drop (row * 32) codes)) (row-len row b s)
+
+  -- a row with the branch's key and as much room
+  row-barren : {es : Scope} → BarrenRow bs es codes words row → b .limit - b .at ≤ rowRoom words row → BarrenIn bs es agenda b
+  row-barren h r =
+      barren-at h agenda-is (ap (items (ruleCount bs)) (row-strict row b s)) (ap (items (ruleCount bs)) (row-lax row b s))
+      (row-seen row b s) r
+
+  barren-row : {es : Scope} → BarrenIn bs es agenda b → rowRoom words row ≡ b .limit - b .at → BarrenRow bs es codes words row
+  barren-row h r =
+      barren-at h (sym agenda-is) (ap (items (ruleCount bs)) (sym (row-strict row b s))) (ap (items (ruleCount bs)) (sym (row-lax row b s)))
+      (sym (row-seen row b s)) (omega arith)
+
+-- THEOREM. A row with the branch's key and as much room tells that its agenda is barren.
+pub row-dead : {codes words agenda : List ℕ} (row : ℕ) (b : Branch) → row < 128 → 1 ≤ b .len → Same words (row * 9) (keyWords b) 8
+    → Same codes (row * 32) agenda (b .len) → b .limit - b .at ≤ getD words (row * 9 + 8) 0 → Dead codes words agenda b
+unfolding rowRoom wordAt
+row-dead row b h n s t r = record {
+  dead = λ bs es honest. row-barren bs row b s t (honest .rows row h (let e = row-len row b s in omega arith)) r;
+}
+
+-- A row whose places are as they were says what it said.
+module _ (words words′ : List ℕ) (row : ℕ) (s : (j : ℕ) → j < 9 → wordAt words′ row j ≡ wordAt words row j) where
+  kept-len : rowLen words′ row ≡ rowLen words row
+  unfolding rowLen
+  kept-len = s 7 (omega arith)
+
+  kept-strict : rowStrict words′ row ≡ rowStrict words row
+  unfolding rowStrict
+  kept-strict = rw (s 0 (omega arith), s 1 (omega arith), s 2 (omega arith)) refl
+
+  kept-lax : rowLax words′ row ≡ rowLax words row
+  unfolding rowLax
+  kept-lax = rw (s 3 (omega arith), s 4 (omega arith), s 5 (omega arith)) refl
+
+  kept-seen : rowSeen words′ row .low ≡ rowSeen words row .low
+  unfolding rowSeen maskSet
+  kept-seen = s 6 (omega arith)
+
+  kept-room : rowRoom words′ row ≡ rowRoom words row
+  unfolding rowRoom
+  kept-room = s 8 (omega arith)
+
+  module _ (bs codes codes′ : List ℕ) (t : Same codes (row * 32) (drop (row * 32) codes′) 32) (h : rowLen words row ≤ 32) where
+    kept-agenda : rowAgenda bs codes′ words′ row ≡ rowAgenda bs codes words row
+    unfolding rowAgenda
+    kept-agenda =
+        ap (agendaOf bs (drop (row * 32) codes′)) kept-len
+        ∙ row-agenda bs codes (drop (row * 32) codes′) (row * 32) (rowLen words row) (record { same = λ i l. t .same i (omega arith) })
+
+    kept-row : {es : Scope} → BarrenRow bs es codes words row → BarrenRow bs es codes′ words′ row
+    kept-row b =
+        barren-at b kept-agenda (ap (items (ruleCount bs)) kept-strict) (ap (items (ruleCount bs)) kept-lax) kept-seen
+        (omega (arith, kept-room))
+
+-- A row is told, and the others are as they were.
+module _ {codes codes′ words words′ agenda : List ℕ} (row : ℕ) (b : Branch) (short : b .len ≤ 32)
+    (p : Put codes codes′ (row * 32) agenda (b .len)) (q : Put words words′ (row * 9) (keyWords b) 9) where
+  other-words : (k : ℕ) → (k ≡ row → ⊥) → (j : ℕ) → j < 9 → wordAt words′ k j ≡ wordAt words k j
+  unfolding wordAt
+  other-words k d j h = q .others (k * 9 + j) (go (decLt k row))
+    where
+      go : Dec (k < row) → (k * 9 + j < row * 9) ⊎ (row * 9 + 9 ≤ k * 9 + j)
+      go (yes l) = inl (omega arith)
+      go (no l) = inr (omega arith)
+
+  other-codes : (k : ℕ) → (k ≡ row → ⊥) → Same codes (k * 32) (drop (k * 32) codes′) 32
+  other-codes k d = record {
+    same = λ i h. sym (getD-drop (k * 32) codes′ i 0 ∙ p .others (k * 32 + i) (go i h (decLt k row)));
+  }
+    where
+      go : (i : ℕ) → i < 32 → Dec (k < row) → (k * 32 + i < row * 32) ⊎ (row * 32 + b .len ≤ k * 32 + i)
+      go i h (yes l) = inl (omega arith)
+      go i h (no l) = inr (omega arith)
+
+  told-len : rowLen words′ row ≡ b .len
+  unfolding rowLen wordAt
+  told-len = q .here .same 7 (omega arith)
+
+  told-room : rowRoom words′ row ≡ b .limit - b .at
+  unfolding rowRoom wordAt
+  told-room = q .here .same 8 (omega arith)
+
+  told-row : {bs : List ℕ} {es : Scope} → BarrenIn bs es agenda b → BarrenRow bs es codes′ words′ row
+  told-row {bs} h = barren-row bs row b (record { same = λ i l. q .here .same i (omega arith) }) (p .here) h told-room
+
+  told-short : {bs : List ℕ} {es : Scope} → Honest bs es codes words → (k : ℕ) → k < 128 → rowLen words′ k ≤ 32
+  told-short {bs} honest k l = go (ℕ-discrete k row)
+    where
+      go : Dec (k ≡ row) → rowLen words′ k ≤ 32
+      go (yes e) = rw e (omega (arith, told-len))
+      go (no d) = omega (arith, kept-len words words′ k (other-words k d), honest .short k l)
+
+  told-rows : {bs : List ℕ} {es : Scope} → Honest bs es codes words → BarrenIn bs es agenda b → (k : ℕ) → k < 128
+      → 1 ≤ rowLen words′ k → BarrenRow bs es codes′ words′ k
+  told-rows {bs} {es} honest h k l n = go (ℕ-discrete k row)
+    where
+      go : Dec (k ≡ row) → BarrenRow bs es codes′ words′ k
+      go (yes e) = rw e (told-row h)
+      go (no d) =
+          let same = kept-len words words′ k (other-words k d) in
+          kept-row words words′ k (other-words k d) bs codes codes′ (other-codes k d) (honest .short k l) (honest .rows k l (omega arith))
+
+  -- THEOREM. A memory that is told of a barren agenda stays honest.
+  pub row-told : length codes ≡ 4096 → length words ≡ 1152 → Remembers codes words codes′ words′ agenda b
+  row-told c w = record {
+    code-room = p .room ∙ c;
+    word-room = q .room ∙ w;
+    honest = λ bs es honest h. record {
+      code-room = p .room ∙ c;
+      word-room = q .room ∙ w;
+      short = told-short honest;
+      rows = told-rows honest h;
+    };
+  }
+
+-- THEOREM. A memory of zeros is honest.
+pub honest-none : {bs codes words : List ℕ} {es : Scope} → length codes ≡ 4096 → length words ≡ 1152
+    → ((i : ℕ) → i < 1152 → getD words i 0 ≡ 0) → Honest bs es codes words
+unfolding rowLen wordAt
+honest-none {words} c w z =
+    let free : (row : ℕ) → row < 128 → getD words (row * 9 + 7) 0 ≡ 0 = λ row h. z (row * 9 + 7) (omega arith) in
+    record {
+      code-room = c;
+      word-room = w;
+      short = λ row h. omega (arith, free row h);
+      rows = λ row h n. absurd (omega (arith, free row h));
+    }
+
+-- as it is made
+pub honest-new : {bs : List ℕ} {es : Scope} → Honest bs es (replicate 4096 0) (replicate 1152 0)
+honest-new = honest-none (length-replicate {A = ℕ} 4096 0) (length-replicate {A = ℕ} 1152 0) (λ i h. getD-replicate {A = ℕ} 1152 i 0 0 h)

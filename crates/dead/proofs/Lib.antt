@@ -1,0 +1,4 @@
+-- Laws of the memory of dead states.
+pub mod LinesDecide
+pub mod RowsKept
+pub mod DeadStaysDead

@@ -1,0 +1,77 @@
+-- A row with the key and as much room.
+use mathlib.Core.Bool.{false≢true}
+use borrow.Author.Tests.{not-false}
+use borrow.Author.Needs.{needs}
+use Rattle.dead.proofs.DeadStaysDead.{row-dead}
+use Rattle.dead.proofs.known.Statement.{statement}
+use Rattle.dead.proofs.known.Tie as tie
+
+returns : tie.Need-returns
+returns c = λ p. absurd (false≢true p)
+
+row-of-requires : tie.Need-row-of-requires
+row-of-requires c κs = search needs
+
+mul-at : tie.Need-mul-at
+mul-at c = search needs
+
+add-kept : tie.Need-add-kept
+add-kept c = search needs
+
+mul-kept : tie.Need-mul-kept
+mul-kept c = search needs
+
+element-copy-out-kept : tie.Need-element-copy-out-kept
+element-copy-out-kept c = search needs
+
+sub-room : tie.Need-sub-room
+sub-room c = search needs
+
+returns-2 : tie.Need-returns-2
+returns-2 c = λ p. absurd (false≢true p)
+
+words-of-requires : tie.Need-words-of-requires
+words-of-requires c κs = search needs
+
+same-words-requires : tie.Need-same-words-requires
+same-words-requires c κs = search needs
+
+returns-3 : tie.Need-returns-3
+returns-3 c = λ p. absurd (false≢true p)
+
+mul-same-codes : tie.Need-mul-same-codes
+mul-same-codes c = search needs
+
+same-codes-requires : tie.Need-same-codes-requires
+same-codes-requires c κs = search needs
+
+returns-4 : tie.Need-returns-4
+returns-4 c =
+    let at-if3 = c .before in
+    let at-same-words = at-if3 .before in
+    let at-words-of = at-same-words .before .before in
+    let at-if2 = at-words-of .before in
+    let at-row-of = at-if2 .before .before .before in
+    let start = at-row-of .before .before .before in
+    let alike = at-same-words .same-words .ensures (not-false _ (at-if3 .if3 .left)) in
+    λ p. row-dead (at-row-of .row-of .result) (start .args .b) (at-row-of .row-of .ensures) (start .pre .some)
+    (rw (at-words-of .words-of .ensures) at alike) (c .same-codes .ensures p) (at-if2 .if2 .left)
+
+pub known-spec : {M : Type 1} → statement M
+known-spec =
+    tie.close
+    (tie.spec
+    returns
+    row-of-requires
+    mul-at
+    add-kept
+    mul-kept
+    element-copy-out-kept
+    sub-room
+    returns-2
+    words-of-requires
+    same-words-requires
+    returns-3
+    mul-same-codes
+    same-codes-requires
+    returns-4)

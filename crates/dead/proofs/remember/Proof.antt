@@ -1,0 +1,49 @@
+-- The row is told of the agenda.
+use borrow.Author.Needs.{needs}
+use Rattle.dead.proofs.DeadStaysDead.{row-told}
+use Rattle.dead.proofs.remember.Statement.{statement}
+use Rattle.dead.proofs.remember.Tie as tie
+
+returns : tie.Need-returns
+returns c = search needs
+
+row-of-requires : tie.Need-row-of-requires
+row-of-requires c κs = search needs
+
+words-of-requires : tie.Need-words-of-requires
+words-of-requires c κs = search needs
+
+mul-put-codes : tie.Need-mul-put-codes
+mul-put-codes c = search needs
+
+put-codes-requires : tie.Need-put-codes-requires
+put-codes-requires c κs = search needs
+
+mul-put-words : tie.Need-mul-put-words
+mul-put-words c = search needs
+
+put-words-requires : tie.Need-put-words-requires
+put-words-requires c κs = search needs
+
+returns-2 : tie.Need-returns-2
+returns-2 c =
+    let at-put-codes = c .before .before .before in
+    let at-words-of = at-put-codes .before .before in
+    let at-row-of = at-words-of .before in
+    let at-if1 = at-row-of .before in
+    let start = at-if1 .before .before in
+    row-told (at-row-of .row-of .result) (start .args .b) (at-if1 .if1 .left) (at-put-codes .put-codes .ensures)
+    (rw (at-words-of .words-of .ensures) at (c .put-words .ensures)) (start .pre .code-room) (start .pre .word-room)
+
+pub remember-spec : {M : Type 1} → statement M
+remember-spec =
+    tie.close
+    (tie.spec
+    returns
+    row-of-requires
+    words-of-requires
+    mul-put-codes
+    put-codes-requires
+    mul-put-words
+    put-words-requires
+    returns-2)

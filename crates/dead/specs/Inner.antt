@@ -1,0 +1,3 @@
+-- The terms of the contracts: the rows of the memory, and what they say.
+pub mod Rows
+pub mod Barren

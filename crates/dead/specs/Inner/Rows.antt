@@ -1,0 +1,58 @@
+-- The rows of the memory: 32 codes and 9 words each. How a row is read back, compared and written.
+use Prim.Native.Nat.{ℕ, _+_, _-_, _*_, _≤_, _<_}
+use mathlib.Core.Path.{_≡_}
+use mathlib.Core.Logic.{_⊎_}
+use mathlib.Core.List.{List, [], _∷_}
+use lib.ListN.{length, getD, drop}
+use Rattle.lines.specs.declared.LineSet.{LineSet}
+use Rattle.segment.specs.declared.branch.Branch.{Branch}
+use Rattle.entries.specs.Inner.Masks.{maskSet}
+use Rattle.agenda.specs.Inner.Agenda.{Agenda}
+use Rattle.segment.specs.Inner.Tasks.{agendaOf}
+
+-- word j of a row
+unfoldable pub wordAt : List ℕ → ℕ → ℕ → ℕ
+wordAt words row j = getD words (row * 9 + j) 0
+
+-- The key and the room of a row.
+unfoldable pub rowStrict : List ℕ → ℕ → LineSet
+rowStrict words row = record { low = wordAt words row 0; mid = wordAt words row 1; high = wordAt words row 2 }
+
+unfoldable pub rowLax : List ℕ → ℕ → LineSet
+rowLax words row = record { low = wordAt words row 3; mid = wordAt words row 4; high = wordAt words row 5 }
+
+-- lines have their places in a set's first word
+unfoldable pub rowSeen : List ℕ → ℕ → LineSet
+rowSeen words row = maskSet (wordAt words row 6)
+
+unfoldable pub rowLen : List ℕ → ℕ → ℕ
+rowLen words row = wordAt words row 7
+
+unfoldable pub rowRoom : List ℕ → ℕ → ℕ
+rowRoom words row = wordAt words row 8
+
+unfoldable pub rowAgenda : List ℕ → List ℕ → List ℕ → ℕ → Agenda
+rowAgenda bs codes words row = agendaOf bs (drop (row * 32) codes) (rowLen words row)
+
+-- the words of a branch's row: its key and, last, its room
+abbrev pub keyWords : Branch → List ℕ
+keyWords b =
+    b .strict .low ∷ b .strict .mid ∷ b .strict .high ∷ b .lax .low ∷ b .lax .mid ∷ b .lax .high ∷ b .seen .low ∷ b .len
+    ∷ (b .limit - b .at) ∷ []
+
+-- There are n places from `at` on in xs, which has so many in all, and n in ys.
+pub record Places (xs : List ℕ) (at all : ℕ) (ys : List ℕ) (n most : ℕ) : Type 0 where
+  pub room : length xs ≡ all
+  pub from-room : length ys ≡ most
+  pub inside : at + n ≤ all
+  pub from-inside : n ≤ most
+
+-- from `at` on xs has the first n of ys
+pub record Same (xs : List ℕ) (at : ℕ) (ys : List ℕ) (n : ℕ) : Type 0 where
+  pub same : (i : ℕ) → i < n → getD xs (at + i) 0 ≡ getD ys i 0
+
+-- from `at` on the first n of ys are put into xs; all else is as it was
+pub record Put (xs xs′ : List ℕ) (at : ℕ) (ys : List ℕ) (n : ℕ) : Type 0 where
+  pub room : length xs′ ≡ length xs
+  pub here : Same xs′ at ys n
+  pub others : (k : ℕ) → (k < at) ⊎ (at + n ≤ k) → getD xs′ k 0 ≡ getD xs k 0

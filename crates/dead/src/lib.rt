@@ -1,0 +1,164 @@
+// Dead states: what the search remembers of agendas for which nothing is readable. A row is a key and a room: the tasks, how many they
+// are, the free items, strict and lax apart, the lines seen; and within how many steps there is nothing. The scope is no part of the key:
+// one memory is for one scope. A row is overwritten by the next key that falls on it. A row without tasks is free.
+use segment::branch::Branch;
+ghost use mathlib.Core.Path.{_≡_};
+ghost use mathlib.Core.Bool.{true};
+ghost use Prim.Native.Nat.{_+_, _≤_, _<_};
+ghost use lib.ListN.{length};
+ghost use Rattle.dead.specs.Inner.Rows.{Same, Put, Places, keyWords};
+ghost use Rattle.dead.specs.Inner.Barren.{Asking, Dead, Remembers};
+
+// Codes and words of a row; there are 128 rows. An agenda that is longer is not remembered.
+const WIDTH: usize = 32;
+
+const WORDS: usize = 9;
+
+// One more number in the sum that picks a row.
+fn mixed(sum: u64, x: u64) -> u64 {
+    let p = ((sum ^ x ^ (x >> 32)) & 0xffff_ffff) * 2_654_435_769;
+    p ^ (p >> 32)
+}
+
+// The code at place i.
+fn code(codes: &[u16], i: usize) -> u64
+    requires { ⌜ i < length (now codes) ⌝ }
+{
+    codes[i] as u64
+}
+
+// The row where a key is kept: any of them would do.
+fn row_of(agenda: &[u16; 104], b: Branch) -> usize
+    requires { ⌜ (length (now agenda) ≡ 104) × (b .len ≤ 32) ⌝ }
+    ensures { λ r. ⌜ r < 128 ⌝ }
+{
+    let strict = b.strict;
+    let lax = b.lax;
+    let seen = b.seen;
+    let mut sum = mixed(mixed(mixed(0, strict.low), lax.low), seen.low);
+    let mut i = 0;
+    while i < b.len {
+        sum = mixed(sum, code(agenda, i));
+        i += 1;
+    }
+    (sum & 127) as usize
+}
+
+// The words of a row: the key and, last, the room.
+fn words_of(b: Branch) -> [u64; 9]
+    requires { ⌜ b .at ≤ b .limit ⌝ }
+    ensures { λ r. ⌜ r ≡ keyWords b ⌝ }
+{
+    let strict = b.strict;
+    let lax = b.lax;
+    let seen = b.seen;
+    let len = b.len as u64;
+    let room = (b.limit - b.at) as u64;
+    [
+        strict.low,
+        strict.mid,
+        strict.high,
+        lax.low,
+        lax.mid,
+        lax.high,
+        seen.low,
+        len,
+        room,
+    ]
+}
+
+// The first n words from a place on are those given.
+fn same_words(words: &[u64; 1152], at: usize, key: &[u64; 9], n: usize) -> bool
+    requires { ⌜ Places (now words) at 1152 (now key) n 9 ⌝ }
+    ensures { λ r. ⌜ (r ≡ true → Same (now (words .entry)) at (now (key .entry)) n) ⌝ }
+{
+    let mut i = 0;
+    while i < n {
+        let x = words[at + i];
+        let y = key[i];
+        if x != y {
+            return false;
+        }
+        i += 1;
+    }
+    true
+}
+
+// The first n codes from a place on are those of the agenda.
+fn same_codes(codes: &[u16; 4096], at: usize, agenda: &[u16; 104], n: usize) -> bool
+    requires { ⌜ Places (now codes) at 4096 (now agenda) n 104 ⌝ }
+    ensures { λ r. ⌜ (r ≡ true → Same (now (codes .entry)) at (now (agenda .entry)) n) ⌝ }
+{
+    let mut i = 0;
+    while i < n {
+        let x = codes[at + i];
+        let y = agenda[i];
+        if x != y {
+            return false;
+        }
+        i += 1;
+    }
+    true
+}
+
+// The words, put from a place on.
+fn put_words(words: &mut [u64; 1152], at: usize, key: &[u64; 9], n: usize)
+    requires { ⌜ Places (now words) at 1152 (now key) n 9 ⌝ }
+    ensures { λ _. ⌜ Put (now (words .entry)) (now (words .exit)) at (now (key .entry)) n ⌝ }
+{
+    let mut i = 0;
+    while i < n {
+        words[at + i] = key[i];
+        i += 1;
+    }
+}
+
+// The first n codes of the agenda, put from a place on.
+fn put_codes(codes: &mut [u16; 4096], at: usize, agenda: &[u16; 104], n: usize)
+    requires { ⌜ Places (now codes) at 4096 (now agenda) n 104 ⌝ }
+    ensures { λ _. ⌜ Put (now (codes .entry)) (now (codes .exit)) at (now (agenda .entry)) n ⌝ }
+{
+    let mut i = 0;
+    while i < n {
+        codes[at + i] = agenda[i];
+        i += 1;
+    }
+}
+
+// Nothing is readable for the agenda in this branch: so it was remembered, with as much room.
+pub fn known(codes: &[u16; 4096], words: &[u64; 1152], agenda: &[u16; 104], b: Branch) -> bool
+    requires { ⌜ Asking (now codes) (now words) (now agenda) b ⌝ }
+    ensures { λ r. ⌜ (r ≡ true → Dead (now (codes .entry)) (now (words .entry)) (now (agenda .entry)) b) ⌝ }
+{
+    if WIDTH < b.len {
+        return false;
+    }
+    let row = row_of(agenda, b);
+    let at = row * WORDS;
+    let kept = words[at + 8];
+    let room = (b.limit - b.at) as u64;
+    if kept < room {
+        return false;
+    }
+    let key = words_of(b);
+    let alike = same_words(words, at, &key, 8);
+    if !alike {
+        return false;
+    }
+    same_codes(codes, row * WIDTH, agenda, b.len)
+}
+
+// Nothing is readable for the agenda in this branch: that is remembered. An agenda that is too long is not.
+pub fn remember(codes: &mut [u16; 4096], words: &mut [u64; 1152], agenda: &[u16; 104], b: Branch)
+    requires { ⌜ Asking (now codes) (now words) (now agenda) b ⌝ }
+    ensures { λ _. ⌜ Remembers (now (codes .entry)) (now (words .entry)) (now (codes .exit)) (now (words .exit))
+        (now (agenda .entry)) b ⌝ }
+{
+    if WIDTH < b.len {
+        return;
+    }
+    let row = row_of(agenda, b);
+    let key = words_of(b);
+    put_codes(codes, row * WIDTH, agenda, b.len);
+    put_words(words, row * WORDS, &key, 9);
+}

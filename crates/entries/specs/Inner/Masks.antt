@@ -1,0 +1,64 @@
+-- Masks of lines, one word each: the lines that a line waits for, and the lines seen.
+use Prim.Native.Nat.{ℕ, zero, suc, _+_, _-_, _^_, _≤_, _<_}
+use mathlib.Core.Path.{_≡_}
+use mathlib.Core.Bool.{Bool, true, false, _&&_}
+use mathlib.Core.List.{List}
+use lib.ListN.{length, getD}
+use lib.Dec.{leb, ltb, eqb}
+use lib.Bits.{bitAnd, bitOr}
+use Rattle.calculus.specs.Steps.{stands}
+use Rattle.card.specs.Format.{ruleCount, lineCount, lineNode, lineByte}
+use Rattle.lines.specs.declared.LineSet.{LineSet}
+use Rattle.lines.specs.Inner.Set.{member, addS}
+use Rattle.entries.specs.Inner.Twins.{waits, isLine}
+
+-- the line set of a mask
+unfoldable pub maskSet : ℕ → LineSet
+maskSet w = record { low = w; mid = 0; high = 0 }
+
+-- the mask with line i, where the test holds
+unfoldable pub withLine : Bool → ℕ → ℕ → ℕ
+withLine true mask i = bitOr mask (2 ^ i)
+withLine false mask i = mask
+
+-- the mask of the lines below n that pass
+unfoldable pub passing : (ℕ → Bool) → ℕ → ℕ
+passing p zero = 0
+passing p (suc n) = withLine (p n) (passing p n) n
+
+-- line x has this node
+unfoldable pub hasNode : List ℕ → ℕ → ℕ → Bool
+hasNode bs node x = eqb (lineNode bs x) node
+
+-- line x has this node and is must
+unfoldable pub mustNode : List ℕ → ℕ → ℕ → Bool
+mustNode bs node x = eqb (lineNode bs x) node && eqb (lineByte bs x) 1
+
+-- of a must line the must lines, of a may line all
+unfoldable pub wider : Bool → ℕ → ℕ → ℕ
+wider true musts all = musts
+wider false musts all = all
+
+-- The masks of the lines that each line of the card waits for.
+pub record Waiting (bs masks : List ℕ) : Type 0 where
+  pub room : length masks ≡ 64
+  pub words : (i : ℕ) → i < lineCount bs → getD masks i 0 < 2 ^ 64
+  pub bits : (i : ℕ) → i < lineCount bs → (x : ℕ) → member (maskSet (getD masks i 0)) x ≡ waits bs i x
+
+-- every line of the mask is one of those seen
+unfoldable pub within : ℕ → LineSet → Bool
+within mask seen = eqb (bitAnd mask (seen .low)) mask
+
+-- Every line that the entry e waits for, by its mask, is seen; an entry that is no line waits for none.
+unfoldable pub readyBy : ℕ → ℕ → List ℕ → LineSet → ℕ → Bool
+readyBy rules lines masks seen e =
+    elim (leb rules e && ltb e (rules + lines)) [ true ↦ within (getD masks (e - rules) 0) seen | false ↦ true ]
+
+-- Of the card's lines, which have their places in the set's first word, exactly those in the set stand among the steps so far.
+pub record Seen (bs : List ℕ) (seen : LineSet) (done : List ℕ) : Type 0 where
+  pub few : lineCount bs ≤ 64
+  pub line : (x : ℕ) → x < lineCount bs → member seen x ≡ stands (ruleCount bs + x) done
+
+-- the lines seen past one step more
+unfoldable pub seenPast : List ℕ → LineSet → ℕ → LineSet
+seenPast bs seen e = elim (isLine bs e) [ true ↦ addS seen (e - ruleCount bs) | false ↦ seen ]

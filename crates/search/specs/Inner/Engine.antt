@@ -1,0 +1,205 @@
+-- What each function of the engine asks and tells.
+use Prim.Native.Nat.{ℕ, _+_, _-_, _*_, _≤_, _<_}
+use mathlib.Core.Path.{_≡_}
+use mathlib.Core.Bool.{Bool, true, false, not, cond, _&&_, _||_}
+use mathlib.Core.List.{List, [], _∷_}
+use lib.ListN.{length, getD, take, drop, set}
+use lib.Seq.{slice}
+use lib.Dec.{leb, ltb, eqb}
+use Rattle.calculus.specs.Items.{Items, _∪_}
+use Rattle.calculus.specs.Derivation.{Scope}
+use Rattle.calculus.specs.Inner.Summary.{Bounded}
+use Rattle.card.specs.Format.{ruleCount, lineCount, nodeCount, kindAt, leftAt, byteAt}
+use Rattle.card.specs.Fault.{Sound, goalPart, heightAt}
+use Rattle.card.specs.Decode.{goalAt, clauseOf}
+use Rattle.lines.specs.Inner.Set.{emptyS}
+use Rattle.scope.specs.Inner.Sets.{items}
+use Rattle.scope.specs.Inner.Tables.{Kept}
+use Rattle.entries.specs.Inner.Entries.{scopeIn, Entered}
+use Rattle.entries.specs.Inner.Twins.{eligible}
+use Rattle.entries.specs.Inner.Masks.{Waiting, Seen, readyBy}
+use Rattle.agenda.specs.Inner.Agenda.{Agenda, task, pushed}
+use Rattle.agenda.specs.Inner.Order.{Next}
+use Rattle.agenda.specs.Inner.Sought.{Place, None, Least}
+use Rattle.segment.specs.declared.branch.Branch.{Branch}
+use Rattle.segment.specs.declared.branch.Way.{Way}
+use Rattle.segment.specs.declared.branch.Floor.{Floor}
+use Rattle.segment.specs.declared.branch.Answer.{Answer}
+use Rattle.segment.specs.declared.branch.Answer.the-variants.{Solved, Stuck}
+use Rattle.segment.specs.Inner.Values.{usingB, pastF}
+use Rattle.segment.specs.Inner.Tasks.{nodeOf, nestOf, agendaOf, Laid}
+use Rattle.search.specs.declared.engine.Sought.{Sought}
+use Rattle.search.specs.declared.engine.Sought.the-variants.{At, Nothing}
+
+-- the entry is a rule or an item at hand
+unfoldable pub atHandBy : ℕ → ℕ → Branch → Bool
+atHandBy P e b = not (leb P e) || (items P (b .strict) ∪ items P (b .lax)) e
+
+-- the entry can be used for the name: it is in scope, its head is the name, it is a rule or an item at hand, and the lines that it waits
+-- for are seen
+unfoldable pub takableBy : List ℕ → List ℕ → List ℕ → Branch → ℕ → ℕ → Bool
+takableBy bs waits heads b name e =
+    ltb e (b .count)
+    && (eqb (getD heads e 0) name && (atHandBy (ruleCount bs) e b && readyBy (ruleCount bs) (lineCount bs) waits (b .seen) e))
+
+-- What the test of an entry asks.
+pub record Testing (bs waits heads : List ℕ) (b : Branch) : Type 0 where
+  pub sound : Sound bs
+  pub wait-room : length waits ≡ 64
+  pub head-room : length heads ≡ 256
+  pub few : b .count ≤ 256
+  pub heads-low : (e : ℕ) → e < b .count → getD heads e 0 ≤ 1000
+
+-- What the least usable entry from the given one on is.
+pub record SeeksAt (bs waits heads : List ℕ) (b : Branch) (name from e : ℕ) : Type 0 where
+  pub onward : from ≤ e
+  pub inside : e < b .count
+  pub takable : takableBy bs waits heads b name e ≡ true
+  pub passed : (x : ℕ) → from ≤ x → x < e → takableBy bs waits heads b name x ≡ false
+
+unfoldable pub Seeks : List ℕ → List ℕ → List ℕ → Branch → ℕ → ℕ → Sought → Type 0
+Seeks bs waits heads b name from (At e) = SeeksAt bs waits heads b name from e
+Seeks bs waits heads b name from Nothing = (x : ℕ) → from ≤ x → x < b .count → takableBy bs waits heads b name x ≡ false
+
+-- The floor at a place of the tape, and the one behind so many steps, the last of which is to be passed.
+unfoldable pub givenAt : Floor → ℕ → List ℕ → List ℕ
+givenAt f at tape = drop at (take (f .fixed) tape)
+
+unfoldable pub fromAt : Floor → ℕ → ℕ
+fromAt f at = cond (leb at (f .fixed)) (f .from) 0
+
+unfoldable pub raisedF : List ℕ → ℕ → Floor
+raisedF tape at = record { fixed = at - 1; from = byteAt tape (at - 1) + 1 }
+
+-- Where a branch stands.
+unfoldable pub placeOf : ℕ → Floor → Branch → List ℕ → Place
+placeOf P f b tape =
+    record {
+      done = take (b .at) tape;
+      given = givenAt f (b .at) tape;
+      from = fromAt f (b .at);
+      strict = items P (b .strict);
+      lax = items P (b .lax);
+      room = b .limit - b .at;
+    }
+
+-- What every function of the engine asks: a sound card, tables and tape in order, and room.
+pub record Ready (bs waits tape nodes heads : List ℕ) (f : Floor) (b : Branch) : Type 0 where
+  pub sound : Sound bs
+  pub waiting : Waiting bs waits
+  pub tape-room : length tape ≡ 255
+  pub entered : Entered bs nodes heads (b .count)
+  pub scoped : ruleCount bs + lineCount bs ≤ b .count
+  pub few : b .count ≤ ruleCount bs + 168
+  pub at : b .at ≤ b .limit
+  pub limit : b .limit ≤ 255
+  pub fixed : f .fixed ≤ 255
+  pub from : f .from ≤ 256
+  pub bounded : Bounded (scopeIn bs nodes (b .count)) (items (ruleCount bs) (b .strict) ∪ items (ruleCount bs) (b .lax))
+  pub seen : Seen bs (b .seen) (take (b .at) tape)
+
+-- the node of the next task's goal, and the nesting left to it
+abbrev pub topNode : List ℕ → Branch → ℕ
+topNode codes b = nodeOf (getD codes (b .len - 1) 0)
+
+abbrev pub topNest : List ℕ → Branch → ℕ
+topNest codes b = nestOf (getD codes (b .len - 1) 0)
+
+-- the next task is a name
+pub record NameNext (bs codes : List ℕ) (b : Branch) : Type 0 where
+  pub laid : Laid bs codes (b .len) (b .count)
+  pub some : 1 ≤ b .len
+  pub kind : kindAt bs (topNode codes b) ≡ 1
+
+-- and a step may be taken for it
+pub record NameOpen (bs codes : List ℕ) (b : Branch) : Type 0 where
+  pub next : NameNext bs codes b
+  pub deep : 1 ≤ topNest codes b
+  pub room : b .at < b .limit
+
+-- and the entry can be used for it
+pub record CanUse (bs waits heads codes : List ℕ) (b : Branch) (e : ℕ) : Type 0 where
+  pub step : NameOpen bs codes b
+  pub inside : e < b .count
+  pub takable : takableBy bs waits heads b (leftAt bs (topNode codes b)) e ≡ true
+
+-- the next task is & or ⊸
+pub record PartNext (bs codes : List ℕ) (b : Branch) : Type 0 where
+  pub laid : Laid bs codes (b .len) (b .count)
+  pub some : 1 ≤ b .len
+  pub kind : 4 < kindAt bs (topNode codes b)
+
+-- The node is a goal of the card, & or ⊸, with room for what it may grow to.
+pub record GoalReady (bs : List ℕ) (goal n : ℕ) (b : Branch) : Type 0 where
+  pub goal-node : goalPart bs (nodeCount bs) goal ≡ true
+  pub kind : 4 < kindAt bs goal
+  pub nested : n < 32
+  pub stacked : heightAt bs goal + 6 * n ≤ 104
+  pub deep : b .count + heightAt bs goal + 6 * n ≤ ruleCount bs + 168
+
+-- a segment of one task that has used nothing yet
+pub record Fresh (b : Branch) : Type 0 where
+  pub len : b .len ≡ 1
+  pub used : b .used ≡ emptyS
+  pub slack : b .slack ≡ false
+
+-- the list on the tape from the branch's place up to a way's
+abbrev pub found : Branch → Way → List ℕ → List ℕ
+found b w tape = slice (b .at) (w .at) tape
+
+-- A way found: the list on the tape is the least; items, slack and lines seen are its own and those before; and whether it keeps to the
+-- given steps.
+pub record Solves (bs : List ℕ) (es : Scope) (A : Agenda) (f : Floor) (b : Branch) (tape tape′ : List ℕ) (w : Way) : Type 0 where
+  pub onward : b .at ≤ w .at
+  pub bounded : w .at ≤ b .limit
+  pub items-used : Items
+  pub slack-left : Bool
+  pub least : Least (eligible bs) es A (placeOf (ruleCount bs) f b tape) (found b w tape′) items-used slack-left
+  pub used : items (ruleCount bs) (w .used) ≡ items (ruleCount bs) (b .used) ∪ items-used
+  pub slack : w .slack ≡ (b .slack || slack-left)
+  pub seen : Seen bs (w .seen) (take (w .at) tape′)
+  pub past : Next (found b w tape′) (givenAt f (b .at) tape) (fromAt f (b .at)) (givenAt (pastF f (w .kept)) (w .at) tape′)
+      (fromAt (pastF f (w .kept)) (w .at))
+
+-- What each answer says.
+unfoldable pub Told : List ℕ → Scope → Agenda → Floor → Branch → List ℕ → List ℕ → Answer → Type 0
+Told bs es A f b tape tape′ (Solved w) = Solves bs es A f b tape tape′ w
+Told bs es A f b tape tape′ Stuck = None (eligible bs) es A (placeOf (ruleCount bs) f b tape)
+
+-- What every function of the engine promises: what it tells of an agenda; the steps before the branch and the entries in scope are kept.
+-- Behind them tape and tables are free: as many places as before.
+pub record Searches (bs : List ℕ) (A : Agenda) (f : Floor) (b : Branch) (tape tape′ nodes nodes′ heads heads′ : List ℕ) (r : Answer)
+    : Type 0 where
+  pub told : Told bs (scopeIn bs nodes (b .count)) A f b tape tape′ r
+  pub tape-kept : Kept (b .at) tape tape′
+  pub node-kept : Kept (b .count) nodes nodes′
+  pub head-kept : Kept (b .count) heads heads′
+
+-- of the agenda in an array; of a goal alone
+abbrev pub Solving : List ℕ → List ℕ → Floor → Branch → List ℕ → List ℕ → List ℕ → List ℕ → List ℕ → List ℕ → Answer → Type 0
+Solving bs codes f b tape tape′ nodes nodes′ heads heads′ r =
+    Searches bs (agendaOf bs codes (b .len)) f b tape tape′ nodes nodes′ heads heads′ r
+
+abbrev pub Alone : List ℕ → ℕ → ℕ → Floor → Branch → List ℕ → List ℕ → List ℕ → List ℕ → List ℕ → List ℕ → Answer → Type 0
+Alone bs goal n f b tape tape′ nodes nodes′ heads heads′ r =
+    Searches bs (task (goalAt bs goal) n ∷ []) f b tape tape′ nodes nodes′ heads heads′ r
+
+-- of what is left once the entry e is used: its conditions before the rest
+pub record Using (bs codes : List ℕ) (e : ℕ) (f : Floor) (b : Branch) (tape tape′ nodes nodes′ heads heads′ : List ℕ) (r : Answer)
+    : Type 0 where
+  pub len : ℕ
+  pub searched : Searches bs (pushed (topNest codes b - 1) (clauseOf bs (getD nodes e 0)) (agendaOf bs codes (b .len - 1))) f
+      (usingB b (ruleCount bs) (lineCount bs) e len) (set tape (b .at) e) tape′ nodes nodes′ heads heads′ r
+
+-- the entries from the given one on
+abbrev pub openF : Branch → ℕ → Floor
+openF b first = record { fixed = b .at; from = first }
+
+-- and that a list found does not keep to given steps
+unfoldable pub Departs : Answer → Type 0
+Departs (Solved w) = w .kept ≡ false
+Departs Stuck = Unit {0}
+
+pub record Above (bs codes : List ℕ) (first : ℕ) (b : Branch) (tape tape′ nodes nodes′ heads heads′ : List ℕ) (r : Answer) : Type 0 where
+  pub searched : Solving bs codes (openF b first) b tape tape′ nodes nodes′ heads heads′ r
+  pub departs : Departs r

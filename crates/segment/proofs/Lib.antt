@@ -1,0 +1,4 @@
+-- Laws of segments.
+pub mod WeightsFall
+pub mod TasksAreAgendas
+pub mod TurnsTell

@@ -1,0 +1,110 @@
+-- Weights of goals: at least 1, at most 255 on a sound card, and less for a goal's parts than for the goal.
+use Prim.Native.Nat.{ℕ, zero, suc, _+_, _*_, _≤_, _<_}
+use native.Mathlib.Nat.{add-mul, mul-lt-mul-of-pos-right}
+use native.Mathlib.Omega.{arith}
+use mathlib.Core.Path.{_≡_, refl, ap}
+use mathlib.Core.Bool.{true}
+use mathlib.Core.List.{List}
+use Rattle.calculus.specs.Formula.{Goal, atomᴳ, topᴳ, oneᴳ, zeroᴳ, tensor, with, lolliᴳ}
+use Rattle.card.specs.Format.{nodeCount, kindAt, leftAt, rightAt}
+use Rattle.card.specs.Fault.{Sound, goalPart, heightAt}
+use Rattle.card.specs.Decode.{goalAt}
+use Rattle.card.proofs.NodesDecoded.{reads-name, reads-rest, reads-done}
+use Rattle.card.proofs.SoundNodes.{goal-lower, goal-kind, goal-above, height-pos, height-low, height-parts, both-parts, either-parts}
+use Rattle.card.proofs.SoundNodes.{lend-parts, sound-both, sound-either, sound-lend}
+use Rattle.segment.specs.Inner.Tasks.{weight}
+
+pub weight-pos : (G : Goal) → 1 ≤ weight G
+unfolding weight
+weight-pos (atomᴳ a) = omega arith
+weight-pos topᴳ = omega arith
+weight-pos oneᴳ = omega arith
+weight-pos zeroᴳ = omega arith
+weight-pos (tensor G H) = omega arith
+weight-pos (with G H) = omega arith
+weight-pos (lolliᴳ D G) = omega arith
+
+-- with the nesting left as a factor
+pub weight-times : (G H : Goal) (n : ℕ) → weight G < weight H → weight G * (n + 1) < weight H * (n + 1)
+weight-times G H n h = mul-lt-mul-of-pos-right h (omega arith)
+
+pub weights-times : (F G H : Goal) (n : ℕ) → weight F + weight G < weight H
+    → weight F * (n + 1) + weight G * (n + 1) < weight H * (n + 1)
+weights-times F G H n h =
+    let e = add-mul (weight F) (weight G) (n + 1) in
+    let l : (weight F + weight G) * (n + 1) < weight H * (n + 1) = mul-lt-mul-of-pos-right h (omega arith) in
+    omega arith
+
+-- the parts of a node
+module _ {bs : List ℕ} (s : Sound bs) (i : ℕ) (h : i < nodeCount bs) where
+  weigh : {G : Goal} → goalAt bs i ≡ G → weight (goalAt bs i) ≡ weight G
+  weigh e = ap weight e
+
+  pub both-weight : kindAt bs i ≡ 4 → weight (goalAt bs (leftAt bs i)) + weight (goalAt bs (rightAt bs i)) < weight (goalAt bs i)
+  unfolding weight
+  both-weight k = let e = weigh (sound-both s i h k) in omega arith
+
+  pub either-weight : kindAt bs i ≡ 5 → weight (goalAt bs (leftAt bs i)) + weight (goalAt bs (rightAt bs i)) < weight (goalAt bs i)
+  unfolding weight
+  either-weight k = let e = weigh (sound-either s i h k) in omega arith
+
+  pub lend-weight : kindAt bs i ≡ 6 → weight (goalAt bs (rightAt bs i)) < weight (goalAt bs i)
+  unfolding weight
+  lend-weight k = let e = weigh (sound-lend s i h k) in omega arith
+
+-- a goal of height h
+unfoldable cap : ℕ → ℕ
+cap zero = 0
+cap (suc h) = 1 + cap h + cap h
+
+kinds : {C : Type 0} (k : ℕ) → 1 ≤ k → k ≤ 6 → (k ≡ 1 → C) → (k ≡ 2 → C) → (k ≡ 3 → C) → (k ≡ 4 → C) → (k ≡ 5 → C) → (k ≡ 6 → C) → C
+kinds zero l h a b c d e f = absurd (omega arith)
+kinds (suc zero) l h a b c d e f = a refl
+kinds (suc (suc zero)) l h a b c d e f = b refl
+kinds (suc (suc (suc zero))) l h a b c d e f = c refl
+kinds (suc (suc (suc (suc zero)))) l h a b c d e f = d refl
+kinds (suc (suc (suc (suc (suc zero))))) l h a b c d e f = e refl
+kinds (suc (suc (suc (suc (suc (suc zero)))))) l h a b c d e f = f refl
+kinds (suc (suc (suc (suc (suc (suc (suc k))))))) l h a b c d e f = absurd (omega arith)
+
+module _ {bs : List ℕ} (s : Sound bs) where
+  weight-step : (h i : ℕ) → goalPart bs (nodeCount bs) i ≡ true → heightAt bs i ≤ suc h
+      → ((j : ℕ) → goalPart bs i j ≡ true → heightAt bs j < heightAt bs i → weight (goalAt bs j) ≤ cap h)
+      → weight (goalAt bs i) ≤ cap (suc h)
+  unfolding weight cap
+  weight-step h i g l part =
+      let k = goal-kind bs (nodeCount bs) i g in
+      kinds (kindAt bs i) (k .0) (k .1)
+      (λ q. let e = ap weight (reads-name bs i q .0) in omega arith)
+      (λ q. let e = ap weight (reads-rest bs i q .0) in omega arith)
+      (λ q. let e = ap weight (reads-done bs i q) in omega arith)
+      (λ q.
+      let e = ap weight (sound-both s i below q) in
+      let p = both-parts s i below q in
+      let t = height-parts s i below (omega arith) in
+      let x = part (leftAt bs i) (p .0) (t .0) in
+      let y = part (rightAt bs i) (p .1) (t .1) in omega arith)
+      (λ q.
+      let e = ap weight (sound-either s i below q) in
+      let p = either-parts s i below q in
+      let t = height-parts s i below (omega arith) in
+      let x = part (leftAt bs i) (p .0) (t .0) in
+      let y = part (rightAt bs i) (p .1) (t .1) in omega arith)
+      (λ q.
+      let e = ap weight (sound-lend s i below q) in
+      let p = lend-parts s i below q in
+      let t = height-parts s i below (omega arith) in
+      let y = part (rightAt bs i) (p .1) (t .1) in omega arith)
+    where
+      below : i < nodeCount bs
+      below = goal-lower bs (nodeCount bs) i g
+
+  weight-cap : (h i : ℕ) → goalPart bs (nodeCount bs) i ≡ true → heightAt bs i ≤ h → weight (goalAt bs i) ≤ cap h
+  weight-cap zero i g l = let p = height-pos bs i in absurd (omega arith)
+  weight-cap (suc h) i g l =
+      let below = goal-lower bs (nodeCount bs) i g in
+      weight-step h i g l (λ j q t. weight-cap h j (goal-above bs i j (nodeCount bs) (omega (arith, below)) q) (omega arith))
+
+  pub weight-low : (i : ℕ) → goalPart bs (nodeCount bs) i ≡ true → weight (goalAt bs i) ≤ 255
+  unfolding cap
+  weight-low i g = weight-cap 8 i g (height-low s i (goal-lower bs (nodeCount bs) i g))

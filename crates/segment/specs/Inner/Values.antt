@@ -1,0 +1,152 @@
+-- What each change of a branch, of a way and of a floor is.
+use Prim.Native.Nat.{ℕ, _+_, _-_}
+use mathlib.Core.Bool.{Bool, true, false, cond, _&&_, _||_}
+use lib.Dec.{ltb}
+use Rattle.lines.specs.Inner.Set.{isEmptyS, emptyS, addS, takeS, cutS, joinS}
+use Rattle.segment.specs.declared.branch.Branch.{Branch}
+use Rattle.segment.specs.declared.branch.Way.{Way}
+use Rattle.segment.specs.declared.branch.Floor.{Floor}
+use Rattle.segment.specs.declared.branch.Answer.{Answer}
+use Rattle.segment.specs.declared.branch.Answer.the-variants.{Solved, Stuck}
+
+unfoldable pub pastF : Floor → Bool → Floor
+pastF f kept = cond kept f (record { fixed = 0; from = 0 })
+
+abbrev pub droppedB : Branch → Branch
+droppedB b = record {
+  at = b .at;
+  count = b .count;
+  len = b .len - 1;
+  limit = b .limit;
+  strict = b .strict;
+  lax = b .lax;
+  used = b .used;
+  seen = b .seen;
+  slack = b .slack;
+}
+
+abbrev pub longerB : Branch → Branch
+longerB b = record {
+  at = b .at;
+  count = b .count;
+  len = b .len + 1;
+  limit = b .limit;
+  strict = b .strict;
+  lax = b .lax;
+  used = b .used;
+  seen = b .seen;
+  slack = b .slack;
+}
+
+abbrev pub easedB : Branch → Branch
+easedB b = record {
+  at = b .at;
+  count = b .count;
+  len = b .len - 1;
+  limit = b .limit;
+  strict = emptyS;
+  lax = joinS (b .strict) (b .lax);
+  used = b .used;
+  seen = b .seen;
+  slack = true;
+}
+
+abbrev pub leadB : Branch → Branch
+leadB b = record {
+  at = b .at;
+  count = b .count;
+  len = 1;
+  limit = b .limit;
+  strict = emptyS;
+  lax = joinS (b .strict) (b .lax);
+  used = emptyS;
+  seen = b .seen;
+  slack = false;
+}
+
+abbrev pub ownB : Branch → Branch
+ownB b = record {
+  at = b .at;
+  count = b .count;
+  len = 1;
+  limit = b .limit;
+  strict = b .strict;
+  lax = b .lax;
+  used = emptyS;
+  seen = b .seen;
+  slack = false;
+}
+
+unfoldable pub pastTensorB : Branch → Way → Branch
+pastTensorB b w = record {
+  at = w .at;
+  count = b .count;
+  len = b .len - 1;
+  limit = b .limit;
+  strict = cond (w .slack) emptyS (cutS (b .strict) (w .used));
+  lax = cond (w .slack) (cutS (joinS (b .strict) (b .lax)) (w .used)) (cutS (b .lax) (w .used));
+  used = joinS (b .used) (w .used);
+  seen = w .seen;
+  slack = b .slack || w .slack;
+}
+
+unfoldable pub pastWithB : Branch → Way → Branch
+pastWithB b w = record {
+  at = w .at;
+  count = b .count;
+  len = 1;
+  limit = b .limit;
+  strict = cond (w .slack) (joinS (b .strict) (w .used)) (w .used);
+  lax = cond (w .slack) (cutS (b .lax) (w .used)) emptyS;
+  used = emptyS;
+  seen = w .seen;
+  slack = false;
+}
+
+abbrev pub lentB : Branch → ℕ → Branch
+lentB b item = record {
+  at = b .at;
+  count = b .count + 1;
+  len = 1;
+  limit = b .limit;
+  strict = addS (b .strict) item;
+  lax = b .lax;
+  used = b .used;
+  seen = b .seen;
+  slack = b .slack;
+}
+
+unfoldable pub usingB : Branch → ℕ → ℕ → ℕ → ℕ → Branch
+usingB b P T e len = record {
+  at = b .at + 1;
+  count = b .count;
+  len = len;
+  limit = b .limit;
+  strict = cond (ltb e P) (b .strict) (takeS (b .strict) (e - P));
+  lax = cond (ltb e P) (b .lax) (takeS (b .lax) (e - P));
+  used = cond (ltb e P) (b .used) (addS (b .used) (e - P));
+  seen = cond (ltb e P) (b .seen) (cond (ltb (e - P) T) (addS (b .seen) (e - P)) (b .seen));
+  slack = b .slack;
+}
+
+unfoldable pub closedA : Branch → Answer
+closedA b = cond (isEmptyS (b .strict))
+    (Solved (record { at = b .at; used = b .used; seen = b .seen; slack = b .slack; kept = true })) Stuck
+
+abbrev pub joinedW : Branch → Way → Way
+joinedW b w = record {
+  at = w .at;
+  used = joinS (b .used) (w .used);
+  seen = w .seen;
+  slack = b .slack || w .slack;
+  kept = w .kept;
+}
+
+abbrev pub besideW : Way → Way → Way
+besideW w v = record { at = v .at; used = joinS (w .used) (v .used); seen = v .seen; slack = w .slack && v .slack; kept = v .kept }
+
+abbrev pub withoutW : Way → ℕ → Way
+withoutW w item = record { at = w .at; used = takeS (w .used) item; seen = w .seen; slack = w .slack; kept = w .kept }
+
+abbrev pub followingW : Way → Bool → Way
+followingW w kept = record { at = w .at; used = w .used; seen = w .seen; slack = w .slack; kept = w .kept && kept }

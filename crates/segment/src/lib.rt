@@ -1,0 +1,3 @@
+// A segment of the search: all parts of ⊗ and all conditions that share one window and one scope.
+pub mod branch;
+pub mod tasks;
