@@ -15,10 +15,10 @@ use Rattle.scope.specs.Inner.Sets.{items}
 use Rattle.scope.specs.Inner.Tables.{scopeIn, Entered}
 use Rattle.scope.proofs.SetsAreItems.{items-join}
 use Rattle.agenda.specs.Inner.Sought.{Place, None, Spares}
+use Rattle.segment.specs.Inner.Tasks.{nodeOf, taskOf, agendaOf}
 use Rattle.bounds.specs.Inner.Bound.{leastA, lowA, highA, LendsA, too-long, too-few, too-many}
 use Rattle.bounds.specs.Inner.Table.{classes, OfCard, Settled, namesOf, classOf}
-use Rattle.bounds.specs.Inner.Doom.{taskOf, agendaOf, Coded, Stocked, leastSum, lowSum, highSum, Short, few, many, Doomed, long}
-use Rattle.bounds.specs.Inner.Doom.{short}
+use Rattle.bounds.specs.Inner.Doom.{Coded, Stocked, leastSum, lowSum, highSum, Short, few, many, Doomed, long, short}
 use Rattle.bounds.proofs.NodesBounded.{goal-under, goal-lends, closed}
 use Rattle.bounds.proofs.AgendasBounded.{hopeless-none, least-spares}
 use Rattle.bounds.proofs.StockCounted.{stock-scoped, stock-counts}
@@ -28,14 +28,14 @@ coded-less g = record { goals = λ k h. g .goals k (omega arith) }
 
 module _ {bs names t masks : List ℕ} (s : Sound bs) (z : Settled bs names t masks) (codes : List ℕ) where
   agenda-lends : (n : ℕ) → Coded bs codes n → LendsA (OfCard bs) (agendaOf bs codes n)
-  unfolding LendsA agendaOf taskOf
+  unfolding LendsA agendaOf taskOf nodeOf
   agenda-lends zero g = tt
   agenda-lends (suc n) g =
       let i = getD codes n 0 / 32 in (goal-lends s z (suc i) i (omega arith) (g .goals n (omega arith)), agenda-lends n (coded-less g))
 
   module _ (c : ℕ) (q : c < classes names) where
     least-under : (n : ℕ) → Coded bs codes n → leastSum t codes n ≤ leastA (classOf names c) (namesOf names t c) (agendaOf bs codes n)
-    unfolding leastSum leastA agendaOf taskOf
+    unfolding leastSum leastA agendaOf taskOf nodeOf
     least-under zero g = omega arith
     least-under (suc n) g =
         let i = getD codes n 0 / 32 in
@@ -44,7 +44,7 @@ module _ {bs names t masks : List ℕ} (s : Sound bs) (z : Settled bs names t ma
         omega arith
 
     low-under : (n : ℕ) → Coded bs codes n → lowSum t codes c n ≤ lowA (classOf names c) (namesOf names t c) (agendaOf bs codes n)
-    unfolding lowSum lowA agendaOf taskOf
+    unfolding lowSum lowA agendaOf taskOf nodeOf
     low-under zero g = omega arith
     low-under (suc n) g =
         let i = getD codes n 0 / 32 in
@@ -54,7 +54,7 @@ module _ {bs names t masks : List ℕ} (s : Sound bs) (z : Settled bs names t ma
 
     high-under : (n : ℕ) → Coded bs codes n → highSum t codes c n < 255
         → highA (classOf names c) (namesOf names t c) (agendaOf bs codes n) ≤ highSum t codes c n
-    unfolding highSum highA agendaOf taskOf
+    unfolding highSum highA agendaOf taskOf nodeOf
     high-under zero g h = omega arith
     high-under (suc n) g h =
         let i = getD codes n 0 / 32 in

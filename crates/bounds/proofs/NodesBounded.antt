@@ -20,8 +20,8 @@ use Rattle.card.proofs.SoundNodes.{lend-parts, recipe-parts, sound-both, sound-
 use Rattle.card.proofs.SoundNodes.{usable-recipe}
 use Rattle.bounds.specs.Inner.Count.{bit}
 use Rattle.bounds.specs.Inner.Bound.{off, leastG, lowG, highG, leastD, lowD, highD, Settles, LendsG, LendsD, Closed}
-use Rattle.bounds.specs.Inner.Table.{headOf, headAt, rowOf, classAt, classes, lowAt, highAt, leastAt, byKind, ifRecipe, inClass}
-use Rattle.bounds.specs.Inner.Table.{headStep}
+use Rattle.bounds.specs.Inner.Table.{headOf, takesIn, headAt, rowOf, classAt, classes, lowAt, highAt, leastAt, byKind, ifRecipe}
+use Rattle.bounds.specs.Inner.Table.{inClass, headStep}
 use Rattle.bounds.specs.Inner.Table.{leastStep, lowStep, highStep, leastUse, lowUse, highUse, NodeFits, NodeSettled}
 use Rattle.bounds.specs.Inner.Table.{Origin, lent, OfCard, Settled, namesOf, classOf}
 use Rattle.bounds.proofs.GoalsBounded.{off-below}
@@ -144,7 +144,7 @@ module _ (bs names t : List ℕ) (c i : ℕ) (w : NodeSettled bs names t i) (f :
     lend-under : kindAt bs i ≡ 6 → GoalUnder names t c i (lolliᴳ D G)
     unfolding leastStep lowStep highStep byKind leastG lowG highG inClass classOf
     lend-under k =
-        let j : Bool = eqb (headOf D) (classAt names c) in
+        let j : Bool = takesIn (classAt names c) (headOf D) in
         let a : leastStep bs names t i ≡ leastAt t (rightAt bs i) = rw k refl in
         let b : lowStep bs names t i c ≡ lowAt t (rightAt bs i) c - bit j = rw (k, e) refl in
         let d : highStep bs names t i c ≡ off (highAt t (rightAt bs i) c) j = rw (k, e) refl in
@@ -323,8 +323,9 @@ module _ {bs names t masks : List ℕ} (s : Sound bs) (z : Settled bs names t ma
       let x = z .uses i b o in
       let f = x .class l c q in
       let y = clause-under c q (suc i) i (omega arith) p in
-      let m : bit (b && eqb (headAt names i) (classAt names c)) ≡ bit (b && eqb (headOf (clauseOf bs i)) (classAt names c)) =
-      ap (λ d. bit (b && eqb d (classAt names c))) (head-is i p) in
+      let k = classAt names c in
+      let m : bit (b && takesIn k (headAt names i)) ≡ bit (b && takesIn k (headOf (clauseOf bs i))) =
+      ap (λ d. bit (b && takesIn k d)) (head-is i p) in
       let lo : lowAt t (rowOf names (headAt names i)) c ≡ lowAt t (rowOf names a) c = ap (λ d. lowAt t (rowOf names d) c) e in
       let hi : highAt t (rowOf names (headAt names i)) c ≡ highAt t (rowOf names a) c = ap (λ d. highAt t (rowOf names d) c) e in
       let le : leastAt t (rowOf names (headAt names i)) ≡ leastAt t (rowOf names a) = ap (λ d. leastAt t (rowOf names d)) e in

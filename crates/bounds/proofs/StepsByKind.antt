@@ -153,3 +153,38 @@ off-less h r b p q = at (leb 255 h) refl
     at : (c : Bool) → leb 255 h ≡ c → r ≡ cond c h (h - bit b)
     at true e = q (leb-true 255 h e)
     at false e = p (leb-false 255 h e)
+
+-- What stays below 512. Stated here, since omega is slow among all the facts at a place of the code.
+pub byte-small : (a : ℕ) → a < 256 → a < 512
+byte-small a h = omega arith
+
+pub under-small : (a b : ℕ) → a ≤ b → b < 256 → a < 512
+under-small a b l h = omega arith
+
+pub less-small : (a b : ℕ) → a < 256 → a - b < 512
+less-small a b h = omega arith
+
+pub sum-small : (a b : ℕ) → a < 256 → b < 256 → a + b < 512
+sum-small a b h l = omega arith
+
+pub part-small : (a b d : ℕ) → a < 256 → b ≤ d → d < 256 → a + b < 512
+part-small a b d h l m = omega arith
+
+pub min-small : (a b : ℕ) → a < 256 → min a b < 512
+min-small a b h = omega arith
+
+pub max-small : (a b : ℕ) → a < 256 → b < 256 → max a b < 512
+max-small a b h l = omega arith
+
+pub zero-small : 0 < 512
+zero-small = omega arith
+
+pub top-small : 255 < 512
+top-small = omega arith
+
+-- equal numbers are below the same numbers
+pub same-low : (a b n : ℕ) → a ≡ b → a < n → b < n
+same-low a b n e h = omega arith
+
+pub same-high : (a b n : ℕ) → a ≡ b → n ≤ a → b < n → ⊥
+same-high a b n e h l = omega arith

@@ -22,7 +22,7 @@ use Rattle.scope.proofs.SetsAreItems.{items-at}
 use Rattle.scope.proofs.TablesAreScopes.{scope-size, scope-clause, scope-linear}
 use Rattle.bounds.specs.Inner.Count.{number, ofClass, count}
 use Rattle.bounds.specs.Inner.Bound.{Scoped}
-use Rattle.bounds.specs.Inner.Table.{classAt, classes, inClass, OfCard, Settled, classOf}
+use Rattle.bounds.specs.Inner.Table.{takesIn, classAt, classes, inClass, OfCard, Settled, classOf}
 use Rattle.bounds.specs.Inner.Doom.{Stocked, lineStock, lentStock, stock}
 use Rattle.bounds.proofs.CountLaws.{number-same, number-none, number-add}
 use Rattle.bounds.proofs.NodesBounded.{head-is}
@@ -62,7 +62,7 @@ module _ {bs names t masks nodes : List ℕ} {linear : List Bool} {n : ℕ} (s :
 
   clause-of : (i : ℕ) → clausePart bs (nodeCount bs) i ≡ true → classOf names c (clauseOf bs i) ≡ inClass names i c
   unfolding classOf inClass
-  clause-of i p = ap (λ h. eqb h (classAt names c)) (sym (head-is s z i p))
+  clause-of i p = ap (takesIn (classAt names c)) (sym (head-is s z i p))
 
   at-line : (i : ℕ) → i < T → I (P + i) ≡ (member set i && bitAt (getD masks c 0) i)
   unfolding ofClass

@@ -18,6 +18,7 @@ use crate::table::head;
 use crate::table::high;
 use crate::table::least;
 use crate::table::low;
+use crate::table::of_head;
 use crate::table::row;
 use card::format::byte;
 ghost use mathlib.Core.Path.{_≡_};
@@ -124,14 +125,15 @@ fn add_class(names: &mut [u16; 1577], i: usize)
     put_name(names, 1576, n + 1);
 }
 
-// Lines without a head, then the heads of lines.
+// All items; lines without a head; then the heads of lines.
 fn line_classes(card: &[u8], names: &mut [u16; 1577])
     requires { ⌜ Sound (now card) ⌝ }
     requires { ⌜ NameCells (now names) ⌝ }
     ensures { λ _. ⌜ NameCells (now (names .exit)) ⌝ }
 {
-    put_name(names, 1512, 1000);
-    put_name(names, 1576, 1);
+    put_name(names, 1512, 1001);
+    put_name(names, 1513, 1000);
+    put_name(names, 1576, 2);
     let n = byte(card, 4);
     let mut i = 0;
     while i < n {
@@ -175,7 +177,7 @@ fn mask(card: &[u8], names: &[u16; 1577], c: usize) -> u64
     let mut m: u64 = 0;
     let mut i: usize = 0;
     while i < n {
-        if head(names, line_at(card, i)) == class(names, c) {
+        if of_head(class(names, c), head(names, line_at(card, i))) {
             m = m | (1u64 << (i % 64));
         }
         i += 1;
@@ -225,7 +227,19 @@ fn start(card: &[u8], names: &[u16; 1577], table: &mut [u8; 66177])
     }
 }
 
-// The bounds of node i from its parts.
+// Class c at node i, from its parts.
+fn fill_class(card: &[u8], names: &[u16; 1577], table: &mut [u8; 66177], i: usize, c: usize)
+    requires { ⌜ Held (now card) (now names) (now table) ⌝ }
+    requires { ⌜ Node (now card) i × (c < 64) ⌝ }
+    ensures { λ _. ⌜ TableCells (now (table .exit)) ⌝ }
+{
+    let l = low_step(card, names, table, i, c);
+    put(table, i * 64 + c, l);
+    let h = high_step(card, names, table, i, c);
+    put(table, 32832 + (i * 64 + c), h);
+}
+
+// The least steps at node i, and every class.
 fn fill_node(card: &[u8], names: &[u16; 1577], table: &mut [u8; 66177], i: usize)
     requires { ⌜ Held (now card) (now names) (now table) ⌝ }
     requires { ⌜ Node (now card) i ⌝ }
@@ -236,10 +250,7 @@ fn fill_node(card: &[u8], names: &[u16; 1577], table: &mut [u8; 66177], i: usize
     let n = classes(names);
     let mut c = 0;
     while c < n {
-        let l = low_step(card, names, table, i, c);
-        put(table, i * 64 + c, l);
-        let h = high_step(card, names, table, i, c);
-        put(table, 32832 + (i * 64 + c), h);
+        fill_class(card, names, table, i, c);
         c += 1;
     }
 }

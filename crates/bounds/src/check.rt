@@ -17,6 +17,7 @@ use crate::table::head;
 use crate::table::high;
 use crate::table::least;
 use crate::table::low;
+use crate::table::of_head;
 use crate::table::row;
 use card::format::byte;
 ghost use mathlib.Core.Path.{_≡_};
@@ -219,7 +220,7 @@ fn of_class(card: &[u8], names: &[u16; 1577], c: usize, i: usize) -> bool
     if byte(card, 4) <= i {
         return false;
     }
-    head(names, line_at(card, i)) == class(names, c)
+    of_head(class(names, c), head(names, line_at(card, i)))
 }
 
 fn same(a: bool, b: bool) -> bool

@@ -5,6 +5,7 @@ use crate::table::head;
 use crate::table::high;
 use crate::table::least;
 use crate::table::low;
+use crate::table::of_head;
 use card::format::byte;
 use lines::LineSet;
 ghost use mathlib.Core.Path.{_≡_};
@@ -74,7 +75,7 @@ fn held(names: &[u16], s: LineSet, item: usize, node: usize, c: usize) -> bool
     if !s.has(item) {
         return false;
     }
-    head(names, node) == class(names, c)
+    of_head(class(names, c), head(names, node))
 }
 
 // The first n lent clauses that are of class c and in the set.
@@ -171,11 +172,15 @@ fn too_many(
         (now (agenda .entry)) c len in
         (h < 255) × (h < stock bs (now (names .entry)) (now (masks .entry)) (now (nodes .entry)) count strict c))) ⌝ }
 {
+    let items = in_stock(card, names, masks, nodes, count, strict, c);
+    if items == 0 {
+        return false;
+    }
     let highest = high_sum(table, agenda, len, c);
     if 255 <= highest {
         return false;
     }
-    highest < in_stock(card, names, masks, nodes, count, strict, c)
+    highest < items
 }
 
 // Whether some class has too few or too many items.

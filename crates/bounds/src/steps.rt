@@ -8,6 +8,7 @@ use crate::table::head;
 use crate::table::high;
 use crate::table::least;
 use crate::table::low;
+use crate::table::of_head;
 use crate::table::row;
 ghost use mathlib.Core.Path.{_≡_};
 ghost use mathlib.Core.Bool.{_&&_};
@@ -61,7 +62,7 @@ fn weight(names: &[u16; 1577], i: usize, linear: bool, c: usize) -> usize
     if !linear {
         return 0;
     }
-    if head(names, i) == class(names, c) {
+    if of_head(class(names, c), head(names, i)) {
         1
     } else {
         0

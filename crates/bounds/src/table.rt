@@ -1,8 +1,8 @@
 // The cells of the table.
 ghost use mathlib.Core.Path.{_≡_};
 ghost use Prim.Native.Nat.{_<_, _≤_};
-ghost use Rattle.bounds.specs.Inner.Table.{NameCells, TableCells, headAt, rowOf, classAt, classes as classesOf, lowAt, highAt};
-ghost use Rattle.bounds.specs.Inner.Table.{leastAt};
+ghost use Rattle.bounds.specs.Inner.Table.{NameCells, TableCells, takesIn, headAt, rowOf, classAt, classes as classesOf};
+ghost use Rattle.bounds.specs.Inner.Table.{lowAt, highAt, leastAt};
 
 // The head of the clause at node i.
 pub fn head(names: &[u16], i: usize) -> usize
@@ -21,12 +21,22 @@ pub fn row(names: &[u16], name: usize) -> usize
     if r < 512 { r } else { 512 }
 }
 
-// The head of class c.
+// The code of class c.
 pub fn class(names: &[u16], c: usize) -> usize
     requires { ⌜ (c < 64) × NameCells (now names) ⌝ }
     ensures { λ r. ⌜ (r ≡ classAt (now (names .entry)) c) × (r < 65536) ⌝ }
 {
     names[1512 + c] as usize
+}
+
+// Whether the class with this code takes in the clauses with the head.
+pub fn of_head(class: usize, head: usize) -> bool
+    ensures { λ r. ⌜ r ≡ takesIn class head ⌝ }
+{
+    if class == 1001 {
+        return true;
+    }
+    head == class
 }
 
 // How many classes there are.

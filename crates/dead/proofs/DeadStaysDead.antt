@@ -20,6 +20,7 @@ use Rattle.entries.specs.Inner.Twins.{eligible}
 use Rattle.entries.specs.Inner.Masks.{maskSet, Seen}
 use Rattle.segment.specs.declared.branch.Branch.{Branch}
 use Rattle.segment.specs.Inner.Tasks.{taskOf, agendaOf}
+use Rattle.dead.specs.Inner.Rows.{rowCount, rowWidth, codeCells, wordCells}
 use Rattle.dead.specs.Inner.Rows.{wordAt, rowStrict, rowLax, rowSeen, rowLen, rowRoom, rowAgenda, keyWords, Same, Put}
 use Rattle.dead.specs.Inner.Barren.{openPlace, Barren, BarrenIn, BarrenRow, Honest, Dead, Remembers}
 use Rattle.dead.proofs.LinesDecide.{seen-lines, chosen-same, seen-word}
@@ -76,10 +77,10 @@ module _ {words : List ℕ} (row : ℕ) (b : Branch) (s : Same words (row * 9) (
   row-len = sym (s .same 7 (omega arith))
 
 module _ (bs : List ℕ) {codes words agenda : List ℕ} (row : ℕ) (b : Branch) (s : Same words (row * 9) (keyWords b) 8)
-    (t : Same codes (row * 32) agenda (b .len)) where
+    (t : Same codes (row * rowWidth) agenda (b .len)) where
   agenda-is : agendaOf bs agenda (b .len) ≡ rowAgenda bs codes words row
   unfolding rowAgenda
-  agenda-is = row-agenda bs codes agenda (row * 32) (b .len) t ∙ ap (agendaOf bs (drop (row * 32) codes)) (row-len row b s)
+  agenda-is = row-agenda bs codes agenda (row * rowWidth) (b .len) t ∙ ap (agendaOf bs (drop (row * rowWidth) codes)) (row-len row b s)
 
   -- a row with the branch's key and as much room
   row-barren : {es : Scope} → BarrenRow bs es codes words row → b .limit - b .at ≤ rowRoom words row → BarrenIn bs es agenda b
@@ -93,8 +94,8 @@ module _ (bs : List ℕ) {codes words agenda : List ℕ} (row : ℕ) (b : Branch
       (sym (row-seen row b s)) (omega arith)
 
 -- THEOREM. A row with the branch's key and as much room tells that its agenda is barren.
-pub row-dead : {codes words agenda : List ℕ} (row : ℕ) (b : Branch) → row < 128 → 1 ≤ b .len → Same words (row * 9) (keyWords b) 8
-    → Same codes (row * 32) agenda (b .len) → b .limit - b .at ≤ getD words (row * 9 + 8) 0 → Dead codes words agenda b
+pub row-dead : {codes words agenda : List ℕ} (row : ℕ) (b : Branch) → row < rowCount → 1 ≤ b .len → Same words (row * 9) (keyWords b) 8
+    → Same codes (row * rowWidth) agenda (b .len) → b .limit - b .at ≤ getD words (row * 9 + 8) 0 → Dead codes words agenda b
 unfolding rowRoom wordAt
 row-dead row b h n s t r = record {
   dead = λ bs es honest. row-barren bs row b s t (honest .rows row h (let e = row-len row b s in omega arith)) r;
@@ -122,12 +123,14 @@ module _ (words words′ : List ℕ) (row : ℕ) (s : (j : ℕ) → j < 9 → wo
   unfolding rowRoom
   kept-room = s 8 (omega arith)
 
-  module _ (bs codes codes′ : List ℕ) (t : Same codes (row * 32) (drop (row * 32) codes′) 32) (h : rowLen words row ≤ 32) where
+  module _ (bs codes codes′ : List ℕ) (t : Same codes (row * rowWidth) (drop (row * rowWidth) codes′) rowWidth)
+      (h : rowLen words row ≤ rowWidth) where
     kept-agenda : rowAgenda bs codes′ words′ row ≡ rowAgenda bs codes words row
     unfolding rowAgenda
     kept-agenda =
-        ap (agendaOf bs (drop (row * 32) codes′)) kept-len
-        ∙ row-agenda bs codes (drop (row * 32) codes′) (row * 32) (rowLen words row) (record { same = λ i l. t .same i (omega arith) })
+        ap (agendaOf bs (drop (row * rowWidth) codes′)) kept-len
+        ∙ row-agenda bs codes (drop (row * rowWidth) codes′) (row * rowWidth) (rowLen words row)
+        (record { same = λ i l. t .same i (omega arith) })
 
     kept-row : {es : Scope} → BarrenRow bs es codes words row → BarrenRow bs es codes′ words′ row
     kept-row b =
@@ -135,8 +138,8 @@ module _ (words words′ : List ℕ) (row : ℕ) (s : (j : ℕ) → j < 9 → wo
         (omega (arith, kept-room))
 
 -- A row is told, and the others are as they were.
-module _ {codes codes′ words words′ agenda : List ℕ} (row : ℕ) (b : Branch) (short : b .len ≤ 32)
-    (p : Put codes codes′ (row * 32) agenda (b .len)) (q : Put words words′ (row * 9) (keyWords b) 9) where
+module _ {codes codes′ words words′ agenda : List ℕ} (row : ℕ) (b : Branch) (short : b .len ≤ rowWidth)
+    (p : Put codes codes′ (row * rowWidth) agenda (b .len)) (q : Put words words′ (row * 9) (keyWords b) 9) where
   other-words : (k : ℕ) → (k ≡ row → ⊥) → (j : ℕ) → j < 9 → wordAt words′ k j ≡ wordAt words k j
   unfolding wordAt
   other-words k d j h = q .others (k * 9 + j) (go (decLt k row))
@@ -145,12 +148,12 @@ module _ {codes codes′ words words′ agenda : List ℕ} (row : ℕ) (b : Bran
       go (yes l) = inl (omega arith)
       go (no l) = inr (omega arith)
 
-  other-codes : (k : ℕ) → (k ≡ row → ⊥) → Same codes (k * 32) (drop (k * 32) codes′) 32
+  other-codes : (k : ℕ) → (k ≡ row → ⊥) → Same codes (k * rowWidth) (drop (k * rowWidth) codes′) rowWidth
   other-codes k d = record {
-    same = λ i h. sym (getD-drop (k * 32) codes′ i 0 ∙ p .others (k * 32 + i) (go i h (decLt k row)));
+    same = λ i h. sym (getD-drop (k * rowWidth) codes′ i 0 ∙ p .others (k * rowWidth + i) (go i h (decLt k row)));
   }
     where
-      go : (i : ℕ) → i < 32 → Dec (k < row) → (k * 32 + i < row * 32) ⊎ (row * 32 + b .len ≤ k * 32 + i)
+      go : (i : ℕ) → i < rowWidth → Dec (k < row) → (k * rowWidth + i < row * rowWidth) ⊎ (row * rowWidth + b .len ≤ k * rowWidth + i)
       go i h (yes l) = inl (omega arith)
       go i h (no l) = inr (omega arith)
 
@@ -165,14 +168,14 @@ module _ {codes codes′ words words′ agenda : List ℕ} (row : ℕ) (b : Bran
   told-row : {bs : List ℕ} {es : Scope} → BarrenIn bs es agenda b → BarrenRow bs es codes′ words′ row
   told-row {bs} h = barren-row bs row b (record { same = λ i l. q .here .same i (omega arith) }) (p .here) h told-room
 
-  told-short : {bs : List ℕ} {es : Scope} → Honest bs es codes words → (k : ℕ) → k < 128 → rowLen words′ k ≤ 32
+  told-short : {bs : List ℕ} {es : Scope} → Honest bs es codes words → (k : ℕ) → k < rowCount → rowLen words′ k ≤ rowWidth
   told-short {bs} honest k l = go (ℕ-discrete k row)
     where
-      go : Dec (k ≡ row) → rowLen words′ k ≤ 32
+      go : Dec (k ≡ row) → rowLen words′ k ≤ rowWidth
       go (yes e) = rw e (omega (arith, told-len))
       go (no d) = omega (arith, kept-len words words′ k (other-words k d), honest .short k l)
 
-  told-rows : {bs : List ℕ} {es : Scope} → Honest bs es codes words → BarrenIn bs es agenda b → (k : ℕ) → k < 128
+  told-rows : {bs : List ℕ} {es : Scope} → Honest bs es codes words → BarrenIn bs es agenda b → (k : ℕ) → k < rowCount
       → 1 ≤ rowLen words′ k → BarrenRow bs es codes′ words′ k
   told-rows {bs} {es} honest h k l n = go (ℕ-discrete k row)
     where
@@ -183,7 +186,7 @@ module _ {codes codes′ words words′ agenda : List ℕ} (row : ℕ) (b : Bran
           kept-row words words′ k (other-words k d) bs codes codes′ (other-codes k d) (honest .short k l) (honest .rows k l (omega arith))
 
   -- THEOREM. A memory that is told of a barren agenda stays honest.
-  pub row-told : length codes ≡ 4096 → length words ≡ 1152 → Remembers codes words codes′ words′ agenda b
+  pub row-told : length codes ≡ codeCells → length words ≡ wordCells → Remembers codes words codes′ words′ agenda b
   row-told c w = record {
     code-room = p .room ∙ c;
     word-room = q .room ∙ w;
@@ -196,11 +199,11 @@ module _ {codes codes′ words words′ agenda : List ℕ} (row : ℕ) (b : Bran
   }
 
 -- THEOREM. A memory of zeros is honest.
-pub honest-none : {bs codes words : List ℕ} {es : Scope} → length codes ≡ 4096 → length words ≡ 1152
-    → ((i : ℕ) → i < 1152 → getD words i 0 ≡ 0) → Honest bs es codes words
+pub honest-none : {bs codes words : List ℕ} {es : Scope} → length codes ≡ codeCells → length words ≡ wordCells
+    → ((i : ℕ) → i < wordCells → getD words i 0 ≡ 0) → Honest bs es codes words
 unfolding rowLen wordAt
 honest-none {words} c w z =
-    let free : (row : ℕ) → row < 128 → getD words (row * 9 + 7) 0 ≡ 0 = λ row h. z (row * 9 + 7) (omega arith) in
+    let free : (row : ℕ) → row < rowCount → getD words (row * 9 + 7) 0 ≡ 0 = λ row h. z (row * 9 + 7) (omega arith) in
     record {
       code-room = c;
       word-room = w;
@@ -209,5 +212,7 @@ honest-none {words} c w z =
     }
 
 -- as it is made
-pub honest-new : {bs : List ℕ} {es : Scope} → Honest bs es (replicate 4096 0) (replicate 1152 0)
-honest-new = honest-none (length-replicate {A = ℕ} 4096 0) (length-replicate {A = ℕ} 1152 0) (λ i h. getD-replicate {A = ℕ} 1152 i 0 0 h)
+pub honest-new : {bs : List ℕ} {es : Scope} → Honest bs es (replicate codeCells 0) (replicate wordCells 0)
+honest-new =
+    honest-none (length-replicate {A = ℕ} codeCells 0) (length-replicate {A = ℕ} wordCells 0)
+    (λ i h. getD-replicate {A = ℕ} wordCells i 0 0 h)

@@ -6,11 +6,11 @@ ghost use mathlib.Core.Path.{_≡_};
 ghost use mathlib.Core.Bool.{true};
 ghost use Prim.Native.Nat.{_+_, _≤_, _<_};
 ghost use lib.ListN.{length};
-ghost use Rattle.dead.specs.Inner.Rows.{Same, Put, Places, keyWords};
+ghost use Rattle.dead.specs.Inner.Rows.{rowCount, rowWidth, codeCells, wordCells, Same, Put, Places, keyWords};
 ghost use Rattle.dead.specs.Inner.Barren.{Asking, Dead, Remembers};
 
-// Codes and words of a row; there are 128 rows. An agenda that is longer is not remembered.
-const WIDTH: usize = 32;
+// Codes and words of a row; there are 1,024 rows. An agenda that is longer is not remembered.
+const WIDTH: usize = 16;
 
 const WORDS: usize = 9;
 
@@ -29,8 +29,8 @@ fn code(codes: &[u16], i: usize) -> u64
 
 // The row where a key is kept: any of them would do.
 fn row_of(agenda: &[u16; 104], b: Branch) -> usize
-    requires { ⌜ (length (now agenda) ≡ 104) × (b .len ≤ 32) ⌝ }
-    ensures { λ r. ⌜ r < 128 ⌝ }
+    requires { ⌜ (length (now agenda) ≡ 104) × (b .len ≤ rowWidth) ⌝ }
+    ensures { λ r. ⌜ r < rowCount ⌝ }
 {
     let strict = b.strict;
     let lax = b.lax;
@@ -41,7 +41,7 @@ fn row_of(agenda: &[u16; 104], b: Branch) -> usize
         sum = mixed(sum, code(agenda, i));
         i += 1;
     }
-    (sum & 127) as usize
+    (sum & 1023) as usize
 }
 
 // The words of a row: the key and, last, the room.
@@ -68,8 +68,8 @@ fn words_of(b: Branch) -> [u64; 9]
 }
 
 // The first n words from a place on are those given.
-fn same_words(words: &[u64; 1152], at: usize, key: &[u64; 9], n: usize) -> bool
-    requires { ⌜ Places (now words) at 1152 (now key) n 9 ⌝ }
+fn same_words(words: &[u64], at: usize, key: &[u64; 9], n: usize) -> bool
+    requires { ⌜ Places (now words) at wordCells (now key) n 9 ⌝ }
     ensures { λ r. ⌜ (r ≡ true → Same (now (words .entry)) at (now (key .entry)) n) ⌝ }
 {
     let mut i = 0;
@@ -85,8 +85,8 @@ fn same_words(words: &[u64; 1152], at: usize, key: &[u64; 9], n: usize) -> bool
 }
 
 // The first n codes from a place on are those of the agenda.
-fn same_codes(codes: &[u16; 4096], at: usize, agenda: &[u16; 104], n: usize) -> bool
-    requires { ⌜ Places (now codes) at 4096 (now agenda) n 104 ⌝ }
+fn same_codes(codes: &[u16], at: usize, agenda: &[u16; 104], n: usize) -> bool
+    requires { ⌜ Places (now codes) at codeCells (now agenda) n 104 ⌝ }
     ensures { λ r. ⌜ (r ≡ true → Same (now (codes .entry)) at (now (agenda .entry)) n) ⌝ }
 {
     let mut i = 0;
@@ -102,8 +102,8 @@ fn same_codes(codes: &[u16; 4096], at: usize, agenda: &[u16; 104], n: usize) -> 
 }
 
 // The words, put from a place on.
-fn put_words(words: &mut [u64; 1152], at: usize, key: &[u64; 9], n: usize)
-    requires { ⌜ Places (now words) at 1152 (now key) n 9 ⌝ }
+fn put_words(words: &mut [u64], at: usize, key: &[u64; 9], n: usize)
+    requires { ⌜ Places (now words) at wordCells (now key) n 9 ⌝ }
     ensures { λ _. ⌜ Put (now (words .entry)) (now (words .exit)) at (now (key .entry)) n ⌝ }
 {
     let mut i = 0;
@@ -114,8 +114,8 @@ fn put_words(words: &mut [u64; 1152], at: usize, key: &[u64; 9], n: usize)
 }
 
 // The first n codes of the agenda, put from a place on.
-fn put_codes(codes: &mut [u16; 4096], at: usize, agenda: &[u16; 104], n: usize)
-    requires { ⌜ Places (now codes) at 4096 (now agenda) n 104 ⌝ }
+fn put_codes(codes: &mut [u16], at: usize, agenda: &[u16; 104], n: usize)
+    requires { ⌜ Places (now codes) at codeCells (now agenda) n 104 ⌝ }
     ensures { λ _. ⌜ Put (now (codes .entry)) (now (codes .exit)) at (now (agenda .entry)) n ⌝ }
 {
     let mut i = 0;
@@ -126,7 +126,7 @@ fn put_codes(codes: &mut [u16; 4096], at: usize, agenda: &[u16; 104], n: usize)
 }
 
 // Nothing is readable for the agenda in this branch: so it was remembered, with as much room.
-pub fn known(codes: &[u16; 4096], words: &[u64; 1152], agenda: &[u16; 104], b: Branch) -> bool
+pub fn known(codes: &[u16], words: &[u64], agenda: &[u16; 104], b: Branch) -> bool
     requires { ⌜ Asking (now codes) (now words) (now agenda) b ⌝ }
     ensures { λ r. ⌜ (r ≡ true → Dead (now (codes .entry)) (now (words .entry)) (now (agenda .entry)) b) ⌝ }
 {
@@ -149,7 +149,7 @@ pub fn known(codes: &[u16; 4096], words: &[u64; 1152], agenda: &[u16; 104], b: B
 }
 
 // Nothing is readable for the agenda in this branch: that is remembered. An agenda that is too long is not.
-pub fn remember(codes: &mut [u16; 4096], words: &mut [u64; 1152], agenda: &[u16; 104], b: Branch)
+pub fn remember(codes: &mut [u16], words: &mut [u64], agenda: &[u16; 104], b: Branch)
     requires { ⌜ Asking (now codes) (now words) (now agenda) b ⌝ }
     ensures { λ _. ⌜ Remembers (now (codes .entry)) (now (words .entry)) (now (codes .exit)) (now (words .exit))
         (now (agenda .entry)) b ⌝ }

@@ -28,8 +28,7 @@ use Rattle.agenda.proofs.SearchTells.{done-solved}
 use Rattle.segment.specs.declared.branch.Branch.{Branch}
 use Rattle.segment.specs.declared.branch.Way.{Way}
 use Rattle.segment.specs.declared.branch.Floor.{Floor}
-use Rattle.segment.specs.declared.branch.Answer.{Answer}
-use Rattle.segment.specs.declared.branch.Answer.the-variants.{Solved, Stuck}
+use Rattle.segment.specs.Inner.Values.{Answer, Solved, Stuck, Tired}
 use Rattle.segment.specs.Inner.Values.{closedA, pastF}
 use Rattle.segment.specs.Inner.Tasks.{agendaOf, Laid, Unwound, Opened, OpenTask, itemsAt}
 use Rattle.segment.proofs.TasksAreAgendas.{laid-short}
@@ -155,6 +154,7 @@ module _ {bs codes codes′ : List ℕ} {b c : Branch} (u : Unwound bs codes cod
     unfolding Told
     back-told (Solved w) t = back-solves t
     back-told Stuck t = back-none t
+    back-told Tired t = t
 
   pub unwound-searched : {f : Floor} {tape tape′ nodes nodes′ heads heads′ : List ℕ} {r : Answer}
       → Searches bs (agendaOf bs codes′ (c .len)) f c tape tape′ nodes nodes′ heads heads′ r

@@ -1,6 +1,7 @@
 -- The rest of a segment behind & or ⊸: each call is ready, and each answer tells of both.
 use Prim.Native.Nat.{ℕ, _-_, _≤_, _<_}
 use native.Mathlib.Omega.{arith}
+use mathlib.Core.Logic.{_⊎_, inl, inr}
 use mathlib.Core.Path.{_≡_, refl, sym, _∙_, ap, subst}
 use mathlib.Core.Bool.{Bool, false, not, _&&_, _||_}
 use mathlib.Core.List.{List, [], _∷_, _++_}
@@ -27,8 +28,7 @@ use Rattle.agenda.proofs.WindowsDivide.{Divides, behind-divides}
 use Rattle.segment.specs.declared.branch.Branch.{Branch}
 use Rattle.segment.specs.declared.branch.Way.{Way}
 use Rattle.segment.specs.declared.branch.Floor.{Floor}
-use Rattle.segment.specs.declared.branch.Answer.{Answer}
-use Rattle.segment.specs.declared.branch.Answer.the-variants.{Solved, Stuck}
+use Rattle.segment.specs.Inner.Values.{Answer, Solved, Stuck, Tired}
 use Rattle.segment.specs.Inner.Values.{leadB, pastTensorB, pastF, followingW}
 use Rattle.segment.specs.Inner.Tasks.{agendaOf, Laid}
 use Rattle.segment.proofs.TasksAreAgendas.{laid-less}
@@ -41,7 +41,7 @@ use Rattle.search.proofs.PlacesMove.{slices, lead-place}
 use Rattle.search.proofs.PlacesMove.{past-tensor-place}
 use Rattle.search.proofs.RaisesEnd.{leftOver, run-last}
 use Rattle.search.proofs.TurnsRaise.{or-assoc, ∪-assoc, ∅-∪, past-whole, ready-past, Turns, turn-none, turn-least}
-use Rattle.search.proofs.TurnsRaise.{turn-nosteps, turn-raise, turn-clear, here, scope-now, next-turn, turn-falls, turn-stuck}
+use Rattle.search.proofs.TurnsRaise.{turn-nosteps, turn-raise, turn-clear, here, scope-now, next-turn, turn-falls, turn-stuck, turn-tired}
 
 -- The rest behind & or ⊸
 
@@ -75,13 +75,20 @@ module _ {bs waits tape₀ tape nodes₀ nodes heads₀ heads : List ℕ} (t : T
 
   module _ {tape′ nodes′ heads′ : List ℕ} (r : Answer) (R : Searches bs (t ∷ []) g (leadB b) tape tape′ nodes nodes′ heads heads′ r) where
     -- the part is stuck
-    pub behind-stuck : r ≡ Stuck → Searches bs (t ∷ A) f b tape₀ tape′ nodes₀ nodes′ heads₀ heads′ r
+    behind-stuck : r ≡ Stuck → Searches bs (t ∷ A) f b tape₀ tape′ nodes₀ nodes′ heads₀ heads′ r
     unfolding Told
     behind-stuck e =
         let n : None (eligible bs) (scopeIn bs nodes (b .count)) (t ∷ []) (placeOf (ruleCount bs) g (leadB b) tape) = rw e at (R .told) in
         let n₁ = subst (λ (s : Scope). None (eligible bs) s (t ∷ []) (placeOf (ruleCount bs) g (leadB b) tape)) (scope-now I) n in
         let n₂ = subst (λ (q : Place). None (eligible bs) es (t ∷ []) q) lead-here n₁ in
         rw e (turn-stuck I (R .tape-kept) (R .node-kept) (R .head-kept) (turn-none (eligible bs) p divides (I .raised) n₂))
+
+    pub behind-unsolved : (r ≡ Stuck) ⊎ (r ≡ Tired) → Searches bs (t ∷ A) f b tape₀ tape′ nodes₀ nodes′ heads₀ heads′ r
+    behind-unsolved (inl e) = behind-stuck e
+    behind-unsolved (inr e) = rw e (turn-tired I (R .tape-kept) (R .node-kept) (R .head-kept))
+
+    pub behind-nodes-kept : Kept (b .count) nodes nodes′
+    behind-nodes-kept = R .node-kept
 
     module _ (w : Way) (er : r ≡ Solved w) where
       s : Solves bs (scopeIn bs nodes (b .count)) (t ∷ []) g (leadB b) tape tape′ w
@@ -146,7 +153,7 @@ module _ {bs waits tape₀ tape nodes₀ nodes heads₀ heads : List ℕ} (t : T
         unfolding pastTensorB
         tape-on = kept-trans (s .onward) (R .tape-kept) (Q .tape-kept)
 
-        nodes-on : Kept (b .count) nodes nodes″
+        pub nodes-on : Kept (b .count) nodes nodes″
         unfolding pastTensorB
         nodes-on = kept-again (b .count) (R .node-kept) (Q .node-kept)
 
@@ -206,6 +213,10 @@ module _ {bs waits tape₀ tape nodes₀ nodes heads₀ heads : List ℕ} (t : T
               node-kept = kept-again (b .count) (I .node-kept) nodes-on;
               head-kept = kept-again (b .count) (I .head-kept) heads-on;
             }
+
+        -- it is given up
+        pub behind-tired : Searches bs (t ∷ A) f b tape₀ tape″ nodes₀ nodes″ heads₀ heads″ Tired
+        behind-tired = turn-tired I tape-on nodes-on heads-on
 
         module _ (ea : a ≡ Stuck) where
           rest-none : None (eligible bs) es A rest-place

@@ -1,6 +1,7 @@
 -- The right part of a & behind the left one: each call is ready, and each answer tells of both.
 use Prim.Native.Nat.{ℕ, _+_, _*_, _≤_, _<_}
 use native.Mathlib.Omega.{arith}
+use mathlib.Core.Logic.{_⊎_, inl, inr}
 use mathlib.Core.Path.{_≡_, refl, sym, _∙_, ap, subst}
 use mathlib.Core.Bool.{Bool, false, not, _&&_, _||_}
 use mathlib.Core.List.{List, [], _∷_, _++_}
@@ -28,8 +29,7 @@ use Rattle.agenda.proofs.WindowsDivide.{Divides, either-divides}
 use Rattle.segment.specs.declared.branch.Branch.{Branch}
 use Rattle.segment.specs.declared.branch.Way.{Way}
 use Rattle.segment.specs.declared.branch.Floor.{Floor}
-use Rattle.segment.specs.declared.branch.Answer.{Answer}
-use Rattle.segment.specs.declared.branch.Answer.the-variants.{Solved, Stuck}
+use Rattle.segment.specs.Inner.Values.{Answer, Solved, Stuck, Tired}
 use Rattle.segment.specs.Inner.Values.{pastWithB, pastF, besideW, followingW}
 use Rattle.segment.specs.Inner.Tasks.{Laid}
 use Rattle.search.specs.Inner.Engine.{GoalReady}
@@ -41,7 +41,7 @@ use Rattle.search.proofs.PlacesMove.{slices}
 use Rattle.search.proofs.PlacesMove.{past-with-place}
 use Rattle.search.proofs.RaisesEnd.{leftOver, run-last}
 use Rattle.search.proofs.TurnsRaise.{∅-∪, past-whole, ready-past, Turns, turn-none, turn-least, turn-nosteps}
-use Rattle.search.proofs.TurnsRaise.{turn-raise, turn-clear, here, scope-now, next-turn, turn-falls, turn-stuck}
+use Rattle.search.proofs.TurnsRaise.{turn-raise, turn-clear, here, scope-now, next-turn, turn-falls, turn-stuck, turn-tired}
 
 -- The right part of a & behind the left one
 
@@ -87,13 +87,20 @@ module _ {bs waits tape₀ tape nodes₀ nodes heads₀ heads : List ℕ} (G H :
 
   module _ {tape′ nodes′ heads′ : List ℕ} (r : Answer) (R : Searches bs B g b tape tape′ nodes nodes′ heads heads′ r) where
     -- the left part is stuck
-    pub either-stuck : r ≡ Stuck → Searches bs A f b tape₀ tape′ nodes₀ nodes′ heads₀ heads′ r
+    either-stuck : r ≡ Stuck → Searches bs A f b tape₀ tape′ nodes₀ nodes′ heads₀ heads′ r
     unfolding Told
     either-stuck e =
         let n : None (eligible bs) (scopeIn bs nodes (b .count)) B (placeOf (ruleCount bs) g b tape) = rw e at (R .told) in
         let n₁ = subst (λ (s : Scope). None (eligible bs) s B (placeOf (ruleCount bs) g b tape)) (scope-now I) n in
         let n₂ = subst (λ (q : Place). None (eligible bs) es B q) (here I) n₁ in
         rw e (turn-stuck I (R .tape-kept) (R .node-kept) (R .head-kept) (turn-none (eligible bs) p divides (I .raised) n₂))
+
+    pub either-unsolved : (r ≡ Stuck) ⊎ (r ≡ Tired) → Searches bs A f b tape₀ tape′ nodes₀ nodes′ heads₀ heads′ r
+    either-unsolved (inl e) = either-stuck e
+    either-unsolved (inr e) = rw e (turn-tired I (R .tape-kept) (R .node-kept) (R .head-kept))
+
+    pub either-nodes-kept : Kept (b .count) nodes nodes′
+    either-nodes-kept = R .node-kept
 
     module _ (w : Way) (er : r ≡ Solved w) where
       s : Solves bs (scopeIn bs nodes (b .count)) B g b tape tape′ w
@@ -154,7 +161,7 @@ module _ {bs waits tape₀ tape nodes₀ nodes heads₀ heads : List ℕ} (G H :
         unfolding pastWithB
         tape-on = kept-trans (s .onward) (R .tape-kept) (Q .tape-kept)
 
-        nodes-on : Kept (b .count) nodes nodes″
+        pub nodes-on : Kept (b .count) nodes nodes″
         unfolding pastWithB
         nodes-on = kept-again (b .count) (R .node-kept) (Q .node-kept)
 
@@ -218,6 +225,10 @@ module _ {bs waits tape₀ tape nodes₀ nodes heads₀ heads : List ℕ} (G H :
               node-kept = kept-again (b .count) (I .node-kept) nodes-on;
               head-kept = kept-again (b .count) (I .head-kept) heads-on;
             }
+
+        -- it is given up
+        pub either-tired : Searches bs A f b tape₀ tape″ nodes₀ nodes″ heads₀ heads″ Tired
+        either-tired = turn-tired I tape-on nodes-on heads-on
 
         module _ (ea : a ≡ Stuck) where
           rest-none : None (eligible bs) es C rest-place

@@ -2,6 +2,7 @@
 pub mod PlacesMove
 pub mod NumbersFall
 pub mod AgendasUnwind
+pub mod WaysSaid
 pub mod NamesTell
 pub mod StartFindsFirst
 pub mod RaisesEnd

@@ -9,7 +9,7 @@ use mathlib.Core.List.{List, [], _∷_, _++_}
 use lib.ListN.{length, getD, take, set, length-set}
 use lib.Seq.{slice, set-getD}
 use lib.Dec.{leb, ltb, eqb}
-use borrow.Author.Tests.{lt-ltb, ltb-true, ltb-false}
+use borrow.Author.Tests.{lt-ltb, le-ltb, eq-eqb, ne-eqb, eqb-true, ltb-true, ltb-false}
 use Rattle.calculus.specs.Formula.{atomᴳ, usable}
 use Rattle.calculus.specs.Items.{Items, _∪_, _∖_, only, Within}
 use Rattle.calculus.specs.Derivation.{Scope, size, clauseAt, linearAt}
@@ -42,18 +42,19 @@ use Rattle.agenda.proofs.SearchTells.{trying-next, trying-found, trying-end}
 use Rattle.segment.specs.declared.branch.Branch.{Branch}
 use Rattle.segment.specs.declared.branch.Way.{Way}
 use Rattle.segment.specs.declared.branch.Floor.{Floor}
-use Rattle.segment.specs.declared.branch.Answer.{Answer}
-use Rattle.segment.specs.declared.branch.Answer.the-variants.{Solved, Stuck}
-use Rattle.segment.specs.Inner.Values.{usingB, pastF, followingW}
+use Rattle.segment.specs.Inner.Values.{Answer, Solved, Stuck, Tired}
+use Rattle.segment.specs.Inner.Values.{usingB, pastF, followingW, answerIn}
 use Rattle.segment.specs.Inner.Tasks.{taskOf, agendaOf, Laid, Pushing}
 use Rattle.segment.proofs.TasksAreAgendas.{agenda-next, nest-low, laid-less, laid-short}
 use Rattle.search.specs.declared.engine.Sought.{Sought as Found}
 use Rattle.search.specs.declared.engine.Sought.the-variants.{At, Nothing}
 use Rattle.search.specs.Inner.Engine.{atHandBy, takableBy, Testing, SeeksAt, Seeks, givenAt, fromAt, placeOf, Ready, topNode}
 use Rattle.search.specs.Inner.Engine.{topNest}
-use Rattle.search.specs.Inner.Engine.{NameNext, NameOpen, CanUse, found, Solves, Told, Searches, Solving, Using, openF}
-use Rattle.search.specs.Inner.Engine.{Departs, Above}
-use Rattle.search.proofs.PlacesMove.{run-cons, run-length, written, given-past, from-here, from-past, floor-gone, open-floor}
+use Rattle.search.specs.Inner.Engine.{NameNext, NameOpen, CanUse, found, Solves, Told, Searches, Solving, Using, FirstEntry, firstAt, keepsBy, openBy, gives}
+use Rattle.dead.specs.Inner.Barren.{BarrenIn}
+use Rattle.dead.proofs.DeadStaysDead.{none-barren}
+use Rattle.prune.specs.Inner.Prune.{Rooted, Asks, Doom}
+use Rattle.search.proofs.PlacesMove.{openF, run-cons, run-length, written, given-past, from-here, from-past, floor-gone, open-floor}
 use Rattle.search.proofs.PlacesMove.{given-step, floor-place, spending-items, spent-items, use-place}
 use Rattle.search.proofs.NumbersFall.{number, step-falls}
 
@@ -152,6 +153,7 @@ told-same bs es A f g b t t₀ t′ (Solved w) p q s T = record {
   past = next-from q (next-past (s .alike (w .kept) (w .at) (T .onward)) (T .past));
 }
 told-same bs es A f g b t t₀ t′ Stuck p q s T = subst (λ z. None (eligible bs) es A z) p T
+told-same bs es A f g b t t₀ t′ Tired p q s T = T
 
 -- Searches from tables and a tape that agree with others up to the branch
 
@@ -635,10 +637,6 @@ module _ {bs waits tape nodes heads : List ℕ} {f : Floor} {b : Branch} (R : Re
     ready-open : Ready bs waits tape nodes heads (openF b first) b
     ready-open = ready-floor (openF b first) R (let a = R .at in let l = R .limit in omega arith) (rw e (from-low f (b .at) (R .from)))
 
-    pub open-call : {codes : List ℕ} → NameOpen bs codes b → (t : ℕ) → 8 * number bs codes b + 5 ≡ t
-        → (8 * number bs codes b + 2 < t) × (Ready bs waits tape nodes heads (openF b first) b × NameOpen bs codes b)
-    open-call N t et = (omega arith, (ready-open, N))
-
     pub open-told : f .fixed ≤ b .at → {A : Agenda} {tape′ nodes′ heads′ : List ℕ} {r : Answer}
         → Searches bs A (openF b first) b tape tape′ nodes nodes′ heads heads′ r → Searches bs A f b tape tape′ nodes nodes′ heads heads′ r
     open-told h {tape′ = tape′} S =
@@ -708,10 +706,6 @@ module _ {bs waits codes : List ℕ} {first : ℕ} {b : Branch} {tape₀ tape no
       tries-here : Tries bs codes tape nodes (openF b first) b e
       tries-here = sought-at (T .ready) (N .next) (T .tries) at-entry
 
-      pub turn-call : (t : ℕ) → 8 * number bs codes b + 2 ≡ t → (g : Floor) → g ≡ noF
-          → (8 * number bs codes b + 1 < t) × (Ready bs waits tape nodes heads g b × CanUse bs waits heads codes b e)
-      turn-call t et g eg = rw eg (omega arith, (ready-floor noF (T .ready) (omega arith) (omega arith), turn-use))
-
       module _ (g : Floor) (eg : g ≡ noF) {tape′ nodes′ heads′ : List ℕ} {r : Answer}
           (X : Using bs codes e g b tape tape′ nodes nodes′ heads heads′ r) where
         used-free : Using bs codes e noF b tape tape′ nodes nodes′ heads heads′ r
@@ -755,6 +749,15 @@ module _ {bs waits codes : List ℕ} {first : ℕ} {b : Branch} {tape₀ tape no
 
 -- The entries above a given step: a list found does not keep to the given steps
 
+unfoldable Departs : Answer → Type 0
+Departs (Solved w) = w .kept ≡ false
+Departs Stuck = Unit {0}
+Departs Tired = Unit {0}
+
+record Above (bs codes : List ℕ) (first : ℕ) (b : Branch) (tape tape′ nodes nodes′ heads heads′ : List ℕ) (r : Answer) : Type 0 where
+  searched : Solving bs codes (openF b first) b tape tape′ nodes nodes′ heads heads′ r
+  departs : Departs r
+
 -- the use of a name takes a step
 module _ {bs waits tape nodes heads : List ℕ} {f : Floor} {b : Branch} (R : Ready bs waits tape nodes heads f b) {codes : List ℕ}
     (N : NameOpen bs codes b) where
@@ -776,11 +779,7 @@ module _ {bs waits tape nodes heads : List ℕ} {f : Floor} {b : Branch} (R : Re
 module _ {bs waits codes : List ℕ} {first : ℕ} {b : Branch} {tape nodes heads : List ℕ}
     (R : Ready bs waits tape nodes heads (openF b first) b) (N : NameOpen bs codes b)
     {tape′ nodes′ heads′ : List ℕ} {r : Answer} (S : Solving bs codes (openF b first) b tape tape′ nodes nodes′ heads heads′ r) where
-  pub above-stuck : r ≡ Stuck → Above bs codes first b tape tape′ nodes nodes′ heads heads′ r
-  unfolding Departs
-  above-stuck e = rw e (record { searched = rw e at S; departs = tt })
-
-  pub above-found : (w : Way) → r ≡ Solved w → (u : Way) → u ≡ followingW w false
+  above-found : (w : Way) → r ≡ Solved w → (u : Way) → u ≡ followingW w false
       → Above bs codes first b tape tape′ nodes nodes′ heads heads′ (Solved u)
   unfolding Departs Told
   above-found w e u eu = rw eu (
@@ -856,15 +855,6 @@ module _ {bs waits tape nodes heads : List ℕ} {f : Floor} {b : Branch} (R : Re
     unfolding takableBy
     given-use u = record { step = N; inside = ltb-true e (b .count) (and-true (ltb e (b .count)) _ u .0); takable = rw en at u }
 
-  -- the entries above the step, called where nothing is found with it
-  pub above-call : (first : ℕ) → first ≡ e + 1 → e < 256 → (t : ℕ) → 8 * number bs codes b + 4 ≡ t
-      → {tape₁ nodes₁ heads₁ : List ℕ} → Kept (b .at) tape tape₁ → Kept (b .count) nodes nodes₁ → Kept (b .count) heads heads₁
-      → (8 * number bs codes b + 3 < t) × (Ready bs waits tape₁ nodes₁ heads₁ (openF b first) b × NameOpen bs codes b)
-  above-call first ef low t et tk nk hk = (
-    omega arith,
-    (ready-kept (ready-floor (openF b first) R (let a = R .at in let l = R .limit in omega arith) (omega arith)) tk nk hk, N),
-  )
-
   module _ (t : Tries bs codes tape nodes f b (suc e)) (first : ℕ) (ef : first ≡ e + 1) where
     abbrev es₀ : Scope
     es₀ = scopeIn bs nodes (b .count)
@@ -928,9 +918,10 @@ module _ {bs waits tape nodes heads : List ℕ} {f : Floor} {b : Branch} (R : Re
           }
       above-tells tape₂ Stuck T d =
           let n = subst (λ z. None (eligible bs) es₀ A₀ z) place-above T in record { none = λ l U v s. n .none l U v (higher s) }
+      above-tells tape₂ Tired T d = T
 
       -- what is told of the entries above the step is told of the step and those above it
-      pub above-told : {nodes₁ heads₁ : List ℕ} → Kept (b .count) nodes nodes₁ → Kept (b .count) heads heads₁
+      above-told : {nodes₁ heads₁ : List ℕ} → Kept (b .count) nodes nodes₁ → Kept (b .count) heads heads₁
           → {tape₂ nodes₂ heads₂ : List ℕ} {r : Answer} → Above bs codes first b tape₁ tape₂ nodes₁ nodes₂ heads₁ heads₂ r
           → Solving bs codes f b tape tape₂ nodes nodes₂ heads heads₂ r
       above-told nk hk {tape₂} {r = r} X = record {
@@ -953,13 +944,289 @@ module _ {bs waits tape nodes heads : List ℕ} {f : Floor} {b : Branch} (R : Re
         let Y : Using bs codes e f b tape tape′ nodes nodes′ heads heads′ (Solved w) = rw q at X in
         use-found R (N .next) U f given-on given-tries Y (alike-self f _ tape′))
 
-    -- nothing is found with it: the entries above
-    pub again-call : (first : ℕ) → first ≡ e + 1 → e < 256 → (t : ℕ) → 8 * number bs codes b + 4 ≡ t
-        → (8 * number bs codes b + 3 < t) × (Ready bs waits tape′ nodes′ heads′ (openF b first) b × NameOpen bs codes b)
-    again-call first ef low t et =
-        above-call first ef low t et (use-tape R (N .next) U f X) (use-nodes R (N .next) U f X) (use-heads R (N .next) U f X)
+-- The loop through the entries, whatever the floor: past the given steps; at a given step, which is still to be tried; above it.
+pub data Round (bs waits codes : List ℕ) (f : Floor) (b : Branch) (first : ℕ) (tape₀ tape nodes₀ nodes heads₀ heads : List ℕ) (from : ℕ)
+    : Type 0 where
+  open-round : f .fixed ≤ b .at → first ≡ fromAt f (b .at) → Turn bs waits codes first b tape₀ tape nodes₀ nodes heads₀ heads from
+      → Round bs waits codes f b first tape₀ tape nodes₀ nodes heads₀ heads from
+  given-round : b .at < f .fixed → first ≡ byteAt tape₀ (b .at) → tape ≡ tape₀ → nodes ≡ nodes₀ → heads ≡ heads₀ → from ≡ first
+      → Round bs waits codes f b first tape₀ tape nodes₀ nodes heads₀ heads from
+  above-round : b .at < f .fixed → first ≡ byteAt tape₀ (b .at) → Tries bs codes tape₀ nodes₀ f b (suc first)
+      → (tape₁ nodes₁ heads₁ : List ℕ) → Kept (b .at) tape₀ tape₁ → Kept (b .count) nodes₀ nodes₁ → Kept (b .count) heads₀ heads₁
+      → Turn bs waits codes (suc first) b tape₁ tape nodes₁ nodes heads₁ heads from
+      → Round bs waits codes f b first tape₀ tape nodes₀ nodes heads₀ heads from
 
-    pub again-told : r ≡ Stuck → (first : ℕ) → first ≡ e + 1 → {tape₂ nodes₂ heads₂ : List ℕ} {r₂ : Answer}
-        → Above bs codes first b tape′ tape₂ nodes′ nodes₂ heads′ heads₂ r₂ → Solving bs codes f b tape tape₂ nodes nodes₂ heads heads₂ r₂
-    again-told q first ef Y =
-        above-told (given-stuck q) first ef (use-tape R (N .next) U f X) (use-nodes R (N .next) U f X) (use-heads R (N .next) U f X) Y
+-- An entry to be tried: the given step, or one that goes on with no floor.
+data Step (bs waits codes : List ℕ) (f : Floor) (b : Branch) (first : ℕ) (tape₀ tape nodes₀ nodes heads₀ heads : List ℕ) (e : ℕ)
+    : Type 0 where
+  step-given : b .at < f .fixed → e ≡ byteAt tape₀ (b .at) → e ≡ first → tape ≡ tape₀ → nodes ≡ nodes₀ → heads ≡ heads₀
+      → takableBy bs waits heads b (leftAt bs (topNode codes b)) e ≡ true
+      → Step bs waits codes f b first tape₀ tape nodes₀ nodes heads₀ heads e
+  step-free : (first₁ from : ℕ) (tape₁ nodes₁ heads₁ : List ℕ)
+      → Ready bs waits tape₁ nodes₁ heads₁ (openF b first₁) b
+      → Turn bs waits codes first₁ b tape₁ tape nodes₁ nodes heads₁ heads from
+      → SeeksAt bs waits heads b (leftAt bs (topNode codes b)) from e
+      → keepsBy f (b .at) first e ≡ false
+      → ((tape₂ nodes₂ heads₂ : List ℕ) (r : Answer) → Above bs codes first₁ b tape₁ tape₂ nodes₁ nodes₂ heads₁ heads₂ r
+      → Solving bs codes f b tape₀ tape₂ nodes₀ nodes₂ heads₀ heads₂ r)
+      → ((tape₂ nodes₂ heads₂ : List ℕ) (m : ℕ) → Turn bs waits codes first₁ b tape₁ tape₂ nodes₁ nodes₂ heads₁ heads₂ m
+      → Round bs waits codes f b first tape₀ tape₂ nodes₀ nodes₂ heads₀ heads₂ m)
+      → Step bs waits codes f b first tape₀ tape nodes₀ nodes heads₀ heads e
+
+pub round-start : {bs waits codes tape nodes heads : List ℕ} {f : Floor} {b : Branch} {first : ℕ} → Ready bs waits tape nodes heads f b
+    → FirstEntry f (b .at) tape first → (from : ℕ) → from ≡ first
+    → Round bs waits codes f b first tape tape nodes nodes heads heads from
+unfolding firstAt
+round-start {tape} {f} {b} {first} R e from ef = by-cases (decLt (b .at) (f .fixed))
+    (λ h. given-round h (e .is ∙ ap (λ c. cond c (byteAt tape (b .at)) (fromAt f (b .at))) (lt-ltb (b .at) (f .fixed) h)) refl refl refl ef)
+    (λ h.
+    let q : first ≡ fromAt f (b .at) =
+    e .is ∙ ap (λ c. cond c (byteAt tape (b .at)) (fromAt f (b .at))) (le-ltb (b .at) (f .fixed) (omega arith)) in
+    open-round (omega arith) q (turn-start (ready-open R first q) from ef))
+
+keeps-not : (f : Floor) (a first e : ℕ) → (f .fixed ≤ a) ⊎ (first < e) → keepsBy f a first e ≡ false
+unfolding keepsBy
+keeps-not f a first e (inl h) = ap (λ c. cond c (eqb e first) false) (le-ltb a (f .fixed) h)
+keeps-not f a first e (inr h) =
+    ap (λ d. cond (ltb a (f .fixed)) d false) (ne-eqb e first (λ q. omega (arith, h, q))) ∙ both-off (ltb a (f .fixed))
+  where
+    both-off : (c : Bool) → cond c false false ≡ false
+    both-off true = refl
+    both-off false = refl
+
+keeps-so : (f : Floor) (a first e : ℕ) → a < f .fixed → e ≡ first → keepsBy f a first e ≡ true
+unfolding keepsBy
+keeps-so f a first e h q =
+    ap (λ c. cond c (eqb e first) false) (lt-ltb a (f .fixed) h) ∙ eq-eqb e first q
+
+module _ {bs waits codes tape₀ nodes₀ heads₀ : List ℕ} {f : Floor} {b : Branch} {first : ℕ} (R : Ready bs waits tape₀ nodes₀ heads₀ f b)
+    (N : NameOpen bs codes b) {tape nodes heads : List ℕ} {from : ℕ} where
+  pub round-kept : Round bs waits codes f b first tape₀ tape nodes₀ nodes heads₀ heads from
+      → Kept (b .at) tape₀ tape × (Kept (b .count) nodes₀ nodes × Kept (b .count) heads₀ heads)
+  round-kept (open-round h e T) = (T .tape-kept, (T .node-kept, T .head-kept))
+  round-kept (given-round h e et en eh ef) =
+      rw (et, en, eh) (kept-self (b .at) tape₀, (kept-self (b .count) nodes₀, kept-self (b .count) heads₀))
+  round-kept (above-round h e t tape₁ nodes₁ heads₁ tk nk hk T) = (
+    kept-again (b .at) tk (T .tape-kept),
+    (kept-again (b .count) nk (T .node-kept), kept-again (b .count) hk (T .head-kept)),
+  )
+
+  pub round-ready : Round bs waits codes f b first tape₀ tape nodes₀ nodes heads₀ heads from → Ready bs waits tape nodes heads f b
+  round-ready L = let k = round-kept L in ready-kept R (k .0) (k .1 .0) (k .1 .1)
+
+  -- no entry is left
+  module _ (name : ℕ) (en : name ≡ leftAt bs (topNode codes b)) (x : Found) (S : Seeks bs waits heads b name from x) where
+    pub round-ends : Round bs waits codes f b first tape₀ tape nodes₀ nodes heads₀ heads from → x ≡ Nothing
+        → Solving bs codes f b tape₀ tape nodes₀ nodes heads₀ heads Stuck
+    unfolding Seeks Departs
+    round-ends (open-round h e T) q = open-told R first e h (turn-ends T N name en x S q)
+    round-ends (given-round h e et eo eh ef) q =
+        rw (et, eo) (rw eh (
+        let s : (y : ℕ) → from ≤ y → y < b .count → takableBy bs waits heads b name y ≡ false = rw q at S in
+        sought-none R (N .next) (given-tries R N h first e) (rw (en, eh, ef) at s)))
+    round-ends (above-round h e t tape₁ nodes₁ heads₁ tk nk hk T) q =
+        above-told R N h first e t (suc first) (let z : suc first ≡ first + 1 = omega arith in z) tk nk hk
+        (record { searched = turn-ends T N name en x S q; departs = tt })
+
+-- the next entry
+module _ {bs codes : List ℕ} {b : Branch} (N : NameOpen bs codes b) (waits heads : List ℕ) (from name : ℕ)
+    (en : name ≡ leftAt bs (topNode codes b)) (x : Found) (S : Seeks bs waits heads b name from x) (e : ℕ) (q : x ≡ At e) where
+  pub seek-at : SeeksAt bs waits heads b (leftAt bs (topNode codes b)) from e
+  unfolding Seeks
+  seek-at = let s : SeeksAt bs waits heads b name from e = rw q at S in rw en at s
+
+  pub round-onward : from ≤ e
+  round-onward = seek-at .onward
+
+  pub round-use : CanUse bs waits heads codes b e
+  round-use = record { step = N; inside = seek-at .inside; takable = seek-at .takable }
+
+module _ {bs waits codes tape₀ nodes₀ heads₀ : List ℕ} {f : Floor} {b : Branch} {first : ℕ} (R : Ready bs waits tape₀ nodes₀ heads₀ f b)
+    (N : NameOpen bs codes b) (F : FirstEntry f (b .at) tape₀ first) where
+  -- the floor above the given step
+  ready-above : b .at < f .fixed → {tape₁ nodes₁ heads₁ : List ℕ} → Kept (b .at) tape₀ tape₁ → Kept (b .count) nodes₀ nodes₁
+      → Kept (b .count) heads₀ heads₁ → Ready bs waits tape₁ nodes₁ heads₁ (openF b (suc first)) b
+  ready-above h tk nk hk =
+      ready-floor (openF b (suc first)) (ready-kept R tk nk hk) (let a = R .at in let l = R .limit in omega arith)
+      (let z = F .low h in omega arith)
+
+  module _ {tape nodes heads : List ℕ} {from e : ℕ} (s : SeeksAt bs waits heads b (leftAt bs (topNode codes b)) from e) where
+    above-step : b .at < f .fixed → first ≡ byteAt tape₀ (b .at) → Tries bs codes tape₀ nodes₀ f b (suc first)
+        → (tape₁ nodes₁ heads₁ : List ℕ) → Kept (b .at) tape₀ tape₁ → Kept (b .count) nodes₀ nodes₁ → Kept (b .count) heads₀ heads₁
+        → (from₁ : ℕ) → Turn bs waits codes (suc first) b tape₁ tape nodes₁ nodes heads₁ heads from₁
+        → SeeksAt bs waits heads b (leftAt bs (topNode codes b)) from₁ e
+        → Step bs waits codes f b first tape₀ tape nodes₀ nodes heads₀ heads e
+    above-step h q t tape₁ nodes₁ heads₁ tk nk hk from₁ T z =
+        step-free (suc first) from₁ tape₁ nodes₁ heads₁ (ready-above h tk nk hk) T z
+        (keeps-not f (b .at) first e (inr (let i = z .onward in let j = T .onward in omega arith)))
+        (λ tape₂ nodes₂ heads₂ r X.
+        above-told R N h first q t (suc first) (let y : suc first ≡ first + 1 = omega arith in y) tk nk hk X)
+        (λ tape₂ nodes₂ heads₂ m U. above-round h q t tape₁ nodes₁ heads₁ tk nk hk U)
+
+    at-step : Round bs waits codes f b first tape₀ tape nodes₀ nodes heads₀ heads from
+        → Step bs waits codes f b first tape₀ tape nodes₀ nodes heads₀ heads e
+    at-step (open-round h q T) =
+        step-free first from tape₀ nodes₀ heads₀ (ready-open R first q) T s (keeps-not f (b .at) first e (inl h))
+        (λ tape₂ nodes₂ heads₂ r X. open-told R first q h (X .searched)) (λ tape₂ nodes₂ heads₂ m U. open-round h q U)
+    at-step (above-round h q t tape₁ nodes₁ heads₁ tk nk hk T) = above-step h q t tape₁ nodes₁ heads₁ tk nk hk from T s
+    at-step (given-round h q et en eh ef) = by-cases (decLt first e)
+        (λ k.
+        let z : SeeksAt bs waits heads b (leftAt bs (topNode codes b)) (suc first) e = record {
+          onward = omega arith;
+          inside = s .inside;
+          takable = s .takable;
+          passed = λ x i j. s .passed x (omega arith) j;
+        } in
+        let u : takableBy bs waits heads₀ b (leftAt bs (topNode codes b)) first ≡ false = rw (← eh) (s .passed first (omega arith) k) in
+        let t = untaken R (N .next) first u (given-tries R N h first q) in
+        let tk = kept-self (b .at) tape₀ in
+        let nk = kept-self (b .count) nodes₀ in
+        let hk = kept-self (b .count) heads₀ in
+        above-step h q t tape₀ nodes₀ heads₀ tk nk hk (suc first)
+        (rw (et, en) (rw eh (turn-start (ready-above h tk nk hk) (suc first) refl))) z)
+        (λ k.
+        let q₁ : e ≡ first = let i = s .onward in omega arith in
+        step-given h (q₁ ∙ q) q₁ et en eh (s .takable))
+
+  -- the entry was used, with the floor past it
+  module _ {tape nodes heads : List ℕ} {from e : ℕ} (L : Round bs waits codes f b first tape₀ tape nodes₀ nodes heads₀ heads from)
+      (s : SeeksAt bs waits heads b (leftAt bs (topNode codes b)) from e) (g : Floor) (same : Bool)
+      (es : same ≡ keepsBy f (b .at) first e) (eg : g ≡ pastF f same) where
+    free-floor : keepsBy f (b .at) first e ≡ false → g ≡ noF
+    unfolding pastF
+    free-floor k = eg ∙ ap (pastF f) (es ∙ k)
+
+    given-floor : keepsBy f (b .at) first e ≡ true → g ≡ f
+    unfolding pastF
+    given-floor k = eg ∙ ap (pastF f) (es ∙ k)
+
+    pub round-next : {tape′ nodes′ heads′ : List ℕ} → Using bs codes e g b tape tape′ nodes nodes′ heads heads′ Stuck → (m : ℕ) → m ≡ e + 1
+        → Round bs waits codes f b first tape₀ tape′ nodes₀ nodes′ heads₀ heads′ m
+    unfolding Seeks
+    round-next {tape′} {nodes′} {heads′} X m em = at (at-step s L)
+      where
+        at : Step bs waits codes f b first tape₀ tape nodes₀ nodes heads₀ heads e
+            → Round bs waits codes f b first tape₀ tape′ nodes₀ nodes′ heads₀ heads′ m
+        at (step-free first₁ from₁ tape₁ nodes₁ heads₁ R₁ T z k back again) =
+            again tape′ nodes′ heads′ m
+            (turn-next T N (leftAt bs (topNode codes b)) refl (At e) z e refl g (free-floor k) X refl m em)
+        at (step-given h q q₁ et en eh tk) =
+            let u : takableBy bs waits heads₀ b (leftAt bs (topNode codes b)) e ≡ true = rw (← eh) tk in
+            let U = given-use R N h e q (leftAt bs (topNode codes b)) refl u in
+            let Y : Using bs codes e f b tape₀ tape′ nodes₀ nodes′ heads₀ heads′ Stuck =
+            rw (← et, ← en) (rw (← eh) (rw (given-floor (keeps-so f (b .at) first e h q₁)) at X)) in
+            let t = given-stuck R N h e q U Y refl in
+            let tp = use-tape R (N .next) U f Y in
+            let nd = use-nodes R (N .next) U f Y in
+            let hd = use-heads R (N .next) U f Y in
+            above-round h (sym q₁ ∙ q) (subst (λ y. Tries bs codes tape₀ nodes₀ f b (suc y)) q₁ t) tape′ nodes′ heads′ tp nd hd
+            (turn-start (ready-above h tp nd hd) m (em ∙ let z : e + 1 ≡ suc first = omega arith in z))
+
+    pub round-found : {tape′ nodes′ heads′ : List ℕ} → (w : Way) → Using bs codes e g b tape tape′ nodes nodes′ heads heads′ (Solved w) → (u : Way) → u ≡ followingW w same
+        → Solving bs codes f b tape₀ tape′ nodes₀ nodes′ heads₀ heads′ (Solved u)
+    unfolding Seeks
+    round-found {tape′} {nodes′} {heads′} w X u eu = at (at-step s L)
+      where
+        kept-so : (k : Bool) → (k && true) ≡ k
+        kept-so true = refl
+        kept-so false = refl
+
+        at : Step bs waits codes f b first tape₀ tape nodes₀ nodes heads₀ heads e
+            → Solving bs codes f b tape₀ tape′ nodes₀ nodes′ heads₀ heads′ (Solved u)
+        at (step-free first₁ from₁ tape₁ nodes₁ heads₁ R₁ T z k back again) =
+            let S = turn-found T N (leftAt bs (topNode codes b)) refl (At e) z e refl g (free-floor k) X w refl in
+            back tape′ nodes′ heads′ (Solved u) (above-found R₁ N S w refl u (eu ∙ ap (followingW w) (es ∙ k)))
+        at (step-given h q q₁ et en eh tk) =
+            let v : takableBy bs waits heads₀ b (leftAt bs (topNode codes b)) e ≡ true = rw (← eh) tk in
+            let U = given-use R N h e q (leftAt bs (topNode codes b)) refl v in
+            let k = keeps-so f (b .at) first e h q₁ in
+            let Y : Using bs codes e f b tape₀ tape′ nodes₀ nodes′ heads₀ heads′ (Solved w) =
+            rw (← et, ← en) (rw (← eh) (rw (given-floor k) at X)) in
+            let same-way : u ≡ w =
+            eu ∙ ap (followingW w) (es ∙ k)
+            ∙ (λ i. record { at = w .at; used = w .used; seen = w .seen; slack = w .slack; kept = kept-so (w .kept) i }) in
+            subst (λ y. Solving bs codes f b tape₀ tape′ nodes₀ nodes′ heads₀ heads′ (Solved y)) (sym same-way)
+            (given-found R N h e q U Y w refl)
+
+    pub round-tired : {tape′ nodes′ heads′ : List ℕ} {r : Answer} → Using bs codes e g b tape tape′ nodes nodes′ heads heads′ r
+        → Solving bs codes f b tape₀ tape′ nodes₀ nodes′ heads₀ heads′ Tired
+    unfolding Told
+    round-tired X =
+        let U : CanUse bs waits heads codes b e = record { step = N; inside = s .inside; takable = s .takable } in
+        let Q = round-ready R N L in
+        let k = round-kept R N L in
+        record {
+          told = tt;
+          tape-kept = kept-again (b .at) (k .0) (use-tape Q (N .next) U g X);
+          node-kept = kept-again (b .count) (k .1 .0) (use-nodes Q (N .next) U g X);
+          head-kept = kept-again (b .count) (k .1 .1) (use-heads Q (N .next) U g X);
+        }
+
+-- Prunings
+
+module _ {bs waits tape nodes heads : List ℕ} {f : Floor} {b : Branch} (R : Ready bs waits tape nodes heads f b) {codes : List ℕ}
+    (N : NameNext bs codes b) where
+  pub asks : Rooted bs nodes (b .count) → Asks bs nodes codes b
+  asks k = record {
+    sound = R .sound;
+    node-room = R .entered .node-room;
+    clauses = R .entered .clauses;
+    whole = R .scoped;
+    few = let p = sound-front bs (R .sound) .rules in let h = R .few in omega arith;
+    some = N .some;
+    laid = N .laid;
+    onward = R .at;
+    limit = R .limit;
+    rooted = k;
+  }
+
+  pub doomed-told : Doom bs nodes codes b → Solving bs codes f b tape tape nodes nodes heads heads Stuck
+  unfolding Told placeOf
+  doomed-told d = at-once R {r = Stuck} (d .none (placeOf (ruleCount bs) f b tape) (R .seen) refl refl refl)
+
+-- a dead end on which no floor bears
+pub dead-barren : {bs waits tape₀ tape nodes₀ nodes heads₀ heads : List ℕ} {f : Floor} {b : Branch} {first : ℕ} (codes : List ℕ)
+    → Ready bs waits tape₀ nodes₀ heads₀ f b → FirstEntry f (b .at) tape₀ first → Kept (b .count) nodes₀ nodes
+    → Solving bs codes f b tape₀ tape nodes₀ nodes heads₀ heads Stuck → openBy f (b .at) first ≡ true
+    → BarrenIn bs (scopeIn bs nodes (b .count)) codes b
+unfolding Told placeOf openBy firstAt
+dead-barren {bs} {tape₀ = tape₀} {f = f} {b = b} {first = first} codes R F nk S o = by-cases (decLt (b .at) (f .fixed))
+    (λ h. absurd (true≢false (sym o ∙ ap (λ c. cond c false (eqb first 0)) (lt-ltb (b .at) (f .fixed) h))))
+    (λ h.
+    let l : f .fixed ≤ b .at = omega arith in
+    let t = le-ltb (b .at) (f .fixed) l in
+    let z : first ≡ 0 = eqb-true first 0 (sym (ap (λ c. cond c false (eqb first 0)) t) ∙ o) in
+    let d : fromAt f (b .at) ≡ 0 = sym (F .is ∙ ap (λ c. cond c (byteAt tape₀ (b .at)) (fromAt f (b .at))) t) ∙ z in
+    subst (λ es. BarrenIn bs es codes b) (sym (kept-scope bs nk))
+    (none-barren (placeOf (ruleCount bs) f b tape₀) (S .told) (given-past f (b .at) tape₀ l) d (R .seen)))
+
+-- what a use says, of the answer that it is
+pub solved-using : {bs codes : List ℕ} {e : ℕ} {f : Floor} {b : Branch} {tape tape′ nodes nodes′ heads heads′ : List ℕ} {r : Answer} {w : Way}
+    → Using bs codes e f b tape tape′ nodes nodes′ heads heads′ r → r ≡ Solved w
+    → Using bs codes e f b tape tape′ nodes nodes′ heads heads′ (Solved w)
+solved-using X q = rw q at X
+
+pub stuck-using : {bs codes : List ℕ} {e : ℕ} {f : Floor} {b : Branch} {tape tape′ nodes nodes′ heads heads′ : List ℕ} {r : Answer}
+    → Using bs codes e f b tape tape′ nodes nodes′ heads heads′ r → r ≡ Stuck
+    → Using bs codes e f b tape tape′ nodes nodes′ heads heads′ Stuck
+stuck-using X q = rw q at X
+
+-- what is told at a dead end, given up or not
+pub dead-told : {bs : List ℕ} {f : Floor} {b : Branch} {tape tape′ nodes nodes′ heads heads′ : List ℕ} (ws codes : List ℕ) (tired : Bool)
+    → Solving bs codes f b tape tape′ nodes nodes′ heads heads′ Stuck
+    → Solving bs codes f b tape tape′ nodes nodes′ heads heads′ (answerIn (gives tired) ws)
+unfolding answerIn gives Told
+dead-told ws codes true S = record { told = tt; tape-kept = S .tape-kept; node-kept = S .node-kept; head-kept = S .head-kept }
+dead-told ws codes false S = S
+
+-- what the use is called with
+pub round-call : {bs waits codes tape₀ nodes₀ heads₀ : List ℕ} {f : Floor} {b : Branch} {first : ℕ} → Ready bs waits tape₀ nodes₀ heads₀ f b
+    → NameOpen bs codes b → {tape nodes heads : List ℕ} {from : ℕ} → Round bs waits codes f b first tape₀ tape nodes₀ nodes heads₀ heads from
+    → {g : Floor} (same : Bool) → g ≡ pastF f same → Ready bs waits tape nodes heads g b
+unfolding pastF
+round-call {f = f} R N L same eg =
+    ready-floor _ (round-ready R N L) (rw eg (low same .0)) (rw eg (low same .1))
+  where
+    low : (k : Bool) → (pastF f k .fixed ≤ 255) × (pastF f k .from ≤ 256)
+    low true = (R .fixed, R .from)
+    low false = (omega arith, omega arith)

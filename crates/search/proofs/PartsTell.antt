@@ -4,7 +4,7 @@ use native.Mathlib.Omega.{arith}
 use native.Mathlib.Numerals.{add-one}
 use native.Mathlib.Nat.{mul-le-mul-right, one-le-mul}
 use mathlib.Core.Path.{_≡_, refl, sym, _∙_, ap, ap₂, subst}
-use mathlib.Core.Logic.{⊎-elim}
+use mathlib.Core.Logic.{⊎-elim, _⊎_, inl, inr}
 use mathlib.Core.Bool.{true, _||_}
 use mathlib.Core.List.{List, [], _∷_}
 use lib.ListN.{length, getD, set}
@@ -34,8 +34,7 @@ use Rattle.agenda.proofs.SearchTells.{lend-none, lend-least}
 use Rattle.segment.specs.declared.branch.Branch.{Branch}
 use Rattle.segment.specs.declared.branch.Way.{Way}
 use Rattle.segment.specs.declared.branch.Floor.{Floor}
-use Rattle.segment.specs.declared.branch.Answer.{Answer}
-use Rattle.segment.specs.declared.branch.Answer.the-variants.{Solved, Stuck}
+use Rattle.segment.specs.Inner.Values.{Answer, Solved, Stuck, Tired}
 use Rattle.segment.specs.Inner.Values.{ownB, leadB, lentB, joinedW, withoutW}
 use Rattle.segment.specs.Inner.Tasks.{taskOf, agendaOf, weight, taskWeight, total, Laid}
 use Rattle.segment.proofs.WeightsFall.{weight-pos, weight-times, either-weight, lend-weight}
@@ -131,12 +130,19 @@ part-number bs codes goal n b b′ e d l h =
 
 -- A segment of its own, joined to what was used before
 
-pub own-stuck : {bs tape tape′ nodes nodes′ heads heads′ : List ℕ} {A : Agenda} {f : Floor} {b : Branch} {r : Answer}
+own-stuck : {bs tape tape′ nodes nodes′ heads heads′ : List ℕ} {A : Agenda} {f : Floor} {b : Branch} {r : Answer}
     → Searches bs A f (ownB b) tape tape′ nodes nodes′ heads heads′ r → r ≡ Stuck → Searches bs A f b tape tape′ nodes nodes′ heads heads′ r
 unfolding Told placeOf
 own-stuck {bs} {tape} {nodes} {A} {f} {b} R e =
     let n : None (eligible bs) (scopeIn bs nodes (b .count)) A (placeOf (ruleCount bs) f b tape) = rw e at (R .told) in
     rw e (record { told = n; tape-kept = R .tape-kept; node-kept = R .node-kept; head-kept = R .head-kept })
+
+pub own-unsolved : {bs tape tape′ nodes nodes′ heads heads′ : List ℕ} {A : Agenda} {f : Floor} {b : Branch} {r : Answer}
+    → Searches bs A f (ownB b) tape tape′ nodes nodes′ heads heads′ r → (r ≡ Stuck) ⊎ (r ≡ Tired)
+    → Searches bs A f b tape tape′ nodes nodes′ heads heads′ r
+unfolding Told
+own-unsolved R (inl e) = own-stuck R e
+own-unsolved R (inr e) = rw e (record { told = tt; tape-kept = R .tape-kept; node-kept = R .node-kept; head-kept = R .head-kept })
 
 pub own-solved : {bs tape tape′ nodes nodes′ heads heads′ : List ℕ} {A : Agenda} {f : Floor} {b : Branch} {r : Answer} (w : Way)
     → Searches bs A f (ownB b) tape tape′ nodes nodes′ heads heads′ r → r ≡ Solved w
@@ -372,7 +378,7 @@ module _ {bs waits tape nodes heads : List ℕ} {f : Floor} {goal n : ℕ} {b : 
       the-goal : task (lolliᴳ D G) n ∷ [] ≡ task (goalAt bs goal) n ∷ []
       the-goal = ap (λ (H : Goal). task H n ∷ []) (sym (sound-lend (r .sound) goal in-nodes k))
 
-      pub lent-stuck : a ≡ Stuck → Searches bs (task (goalAt bs goal) n ∷ []) f b tape tape′ nodes nodes″ heads heads″ a
+      lent-stuck : a ≡ Stuck → Searches bs (task (goalAt bs goal) n ∷ []) f b tape tape′ nodes nodes″ heads heads″ a
       unfolding Told
       lent-stuck e =
           let z : None (eligible bs) (scopeIn bs nodes′ (b .count + 1)) (task G n ∷ []) (placeOf (ruleCount bs) f (lentB b item) tape)
@@ -383,6 +389,12 @@ module _ {bs waits tape nodes heads : List ℕ} {f : Floor} {goal n : ℕ} {b : 
           let u = subst (λ (A : Agenda). None (eligible bs) es A (placeOf (ruleCount bs) f b tape)) the-goal
           (lend-none (eligible bs) (placeOf (ruleCount bs) f b tape) z₂) in
           rw e (record { told = u; tape-kept = S .tape-kept; node-kept = nodes-on; head-kept = heads-on })
+
+      pub lent-unsolved : (a ≡ Stuck) ⊎ (a ≡ Tired)
+          → Searches bs (task (goalAt bs goal) n ∷ []) f b tape tape′ nodes nodes″ heads heads″ a
+      unfolding Told
+      lent-unsolved (inl e) = lent-stuck e
+      lent-unsolved (inr e) = rw e (record { told = tt; tape-kept = S .tape-kept; node-kept = nodes-on; head-kept = heads-on })
 
       pub lent-solved : (w : Way) → a ≡ Solved w
           → Searches bs (task (goalAt bs goal) n ∷ []) f b tape tape′ nodes nodes″ heads heads″ (Solved (withoutW w item))

@@ -23,7 +23,11 @@ use Rattle.segment.specs.declared.branch.Branch.{Branch}
 use Rattle.segment.specs.declared.branch.Way.{Way}
 use Rattle.segment.specs.declared.branch.Floor.{Floor}
 use Rattle.segment.specs.Inner.Values.{leadB, pastTensorB, pastWithB, lentB, usingB}
-use Rattle.search.specs.Inner.Engine.{givenAt, fromAt, raisedF, placeOf, openF}
+use Rattle.search.specs.Inner.Engine.{givenAt, fromAt, raisedF, placeOf}
+
+-- the floor of the entries from the given one on
+abbrev pub openF : Branch → ℕ → Floor
+openF b first = record { fixed = b .at; from = first }
 
 -- Lists on the tape
 

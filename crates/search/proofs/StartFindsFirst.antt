@@ -1,7 +1,7 @@
 -- The engine at the card's goal: what it asks there, and that its answer is the card's first list.
 use Prim.Native.Nat.{ℕ, _+_, _-_, _*_, _≤_, _<_}
 use native.Mathlib.Omega.{arith}
-use mathlib.Core.Path.{_≡_, refl, _∙_, subst}
+use mathlib.Core.Path.{_≡_, refl, sym, _∙_, ap, subst}
 use mathlib.Core.Bool.{cond}
 use mathlib.Core.List.{List, [], _∷_}
 use lib.ListN.{length, take, set}
@@ -29,12 +29,12 @@ use Rattle.agenda.proofs.StartTells.{start-none, start-least}
 use Rattle.segment.specs.declared.branch.Branch.{Branch}
 use Rattle.segment.specs.declared.branch.Way.{Way}
 use Rattle.segment.specs.declared.branch.Floor.{Floor}
-use Rattle.segment.specs.declared.branch.Answer.{Answer}
-use Rattle.segment.specs.declared.branch.Answer.the-variants.{Solved, Stuck}
+use Rattle.segment.specs.Inner.Values.{Answer, Solved, Stuck, Tired}
 use Rattle.segment.specs.Inner.Tasks.{agendaOf, Laid}
 use Rattle.segment.proofs.TasksAreAgendas.{agenda-one, laid-one}
 use Rattle.search.specs.Inner.Engine.{givenAt, fromAt, placeOf, Ready, Solves, Told, Solving}
-use Rattle.search.specs.Inner.Found.{FirstOn, startB}
+use Rattle.search.specs.Inner.Found.{FirstOn, Ran, Starts, startB}
+use Rattle.entries.proofs.TablesAreScopes.{entered-kept, scope-kept}
 
 -- no floor
 abbrev pub noFloor : Floor
@@ -143,6 +143,10 @@ module _ {bs : List ℕ} (s : Sound bs) where
             (subst (None (eligible bs) (jobOf bs .scope) (task (jobOf bs .goal) (jobOf bs .depth) ∷ [])) start-place t))
 
 -- The same of the values at hand: the branch is the one at the goal, and the array holds the goal.
+pub start-count : (bs : List ℕ) {b : Branch} → b ≡ startB bs → b .count ≡ ruleCount bs + lineCount bs
+unfolding startB
+start-count bs e = ap (λ x. x .count) e
+
 pub record AtGoal (bs zeros codes : List ℕ) (b : Branch) (goal depth : ℕ) : Type 0 where
   pub branch : b ≡ startB bs
   pub is-goal : goal ≡ goalNode bs
@@ -170,3 +174,30 @@ module _ {bs zeros codes : List ℕ} {b : Branch} {goal depth : ℕ} (s : Sound 
       (x : Solving bs codes noFloor b tape tape′ nodes nodes′ heads heads′ r) where
     pub answered : Solving bs (goalCodes s zeros (a .room)) noFloor (startB bs) tape tape′ nodes nodes′ heads heads′ r
     answered = rw (← a .branch, ← array-is) x
+
+    pub ran : scopeIn bs nodes (ruleCount bs + lineCount bs) ≡ jobOf bs .scope → stepLimit bs < 256 → Ran bs tape′ r
+    unfolding Ran
+    ran e small = at r answered
+      where
+        at : (o : Answer) → Solving bs (goalCodes s zeros (a .room)) noFloor (startB bs) tape tape′ nodes nodes′ heads heads′ o → Ran bs tape′ o
+        at (Solved w) y = first-found s zeros (a .room) tape nodes e y w refl (omega arith)
+        at Stuck y = none-found s zeros (a .room) tape nodes e y refl
+        at Tired y = tt
+
+    -- what the next run starts from
+    pub started : {waits way way′ : List ℕ} → Starts bs waits tape nodes heads way → length way′ ≡ 9
+        → Starts bs waits tape′ nodes′ heads′ way′
+    unfolding startB
+    started {waits} {way′ = way′} q l = at answered
+      where
+        at : Solving bs (goalCodes s zeros (a .room)) noFloor (startB bs) tape tape′ nodes nodes′ heads heads′ r
+            → Starts bs waits tape′ nodes′ heads′ way′
+        at y = record {
+          sound = q .sound;
+          waiting = q .waiting;
+          tape-room = y .tape-kept .size ∙ q .tape-room;
+          entered = entered-kept nodes′ heads′ (q .entered) (y .node-kept .size ∙ q .entered .node-room)
+              (y .head-kept .size ∙ q .entered .head-room) (sym (y .node-kept .same)) (sym (y .head-kept .same));
+          scope = scope-kept bs nodes′ nodes (ruleCount bs + lineCount bs) (y .node-kept .same) ∙ q .scope;
+          way-room = l;
+        }

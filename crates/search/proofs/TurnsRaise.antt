@@ -31,7 +31,7 @@ use Rattle.agenda.proofs.SearchTells.{part-none, part-solved, part-nosteps, par
 use Rattle.segment.specs.declared.branch.Branch.{Branch}
 use Rattle.segment.specs.declared.branch.Way.{Way}
 use Rattle.segment.specs.declared.branch.Floor.{Floor}
-use Rattle.segment.specs.declared.branch.Answer.the-variants.{Stuck}
+use Rattle.segment.specs.Inner.Values.{Answer, Stuck, Tired}
 use Rattle.segment.specs.Inner.Values.{leadB, ownB, pastF}
 use Rattle.search.specs.Inner.Engine.{givenAt, fromAt, raisedF, placeOf, Ready, Fresh}
 use Rattle.search.specs.Inner.Engine.{Told, Searches}
@@ -344,6 +344,17 @@ module _ {bs waits tape₀ tape nodes₀ nodes heads₀ heads : List ℕ} {B : A
     where
       raised-at : (givenAt g′ (b .at) tape′ ≡ slice (b .at) (w .at - 1) tape′) × (fromAt g′ (b .at) ≡ suc (getD tape′ (w .at - 1) 0))
       raised-at = raised-floor tape′ g′ (b .at) (w .at) lt e
+
+  -- given up
+  pub turn-tired : {tape′ nodes′ heads′ : List ℕ} → Kept (b .at) tape tape′ → Kept (b .count) nodes nodes′ → Kept (b .count) heads heads′
+      → Searches bs A f b tape₀ tape′ nodes₀ nodes′ heads₀ heads′ Tired
+  unfolding Told
+  turn-tired kt kn kh = record {
+    told = tt;
+    tape-kept = kept-again (b .at) (I .tape-kept) kt;
+    node-kept = kept-again (b .count) (I .node-kept) kn;
+    head-kept = kept-again (b .count) (I .head-kept) kh;
+  }
 
   -- stuck
   pub turn-stuck : {tape′ nodes′ heads′ : List ℕ} → Kept (b .at) tape tape′ → Kept (b .count) nodes nodes′ → Kept (b .count) heads heads′

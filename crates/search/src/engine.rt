@@ -6,9 +6,12 @@ use card::format::byte;
 use card::format::kind;
 use card::format::left;
 use card::format::right;
-use segment::branch::Answer;
 use segment::branch::Branch;
 use segment::branch::Floor;
+use segment::branch::Outcome;
+use segment::branch::follow;
+use segment::branch::put_way;
+use segment::branch::way_in;
 use segment::tasks::nest;
 use segment::tasks::node;
 use segment::tasks::push;
@@ -18,9 +21,11 @@ ghost use mathlib.Core.Path.{_≡_};
 ghost use Prim.Native.Nat.{ℕ, _≤_, _<_};
 ghost use lib.ListN.{length};
 ghost use Rattle.card.specs.Format.{kindAt, byteAt};
+ghost use mathlib.Core.Bool.{true};
 ghost use Rattle.segment.specs.Inner.Tasks.{Laid};
-ghost use Rattle.search.specs.Inner.Engine.{atHandBy, takableBy, Testing, Seeks, fromAt, raisedF, openF, Ready, NameNext};
-ghost use Rattle.search.specs.Inner.Engine.{NameOpen, CanUse, PartNext, GoalReady, Fresh, Solving, Alone, Using, Above};
+ghost use Rattle.segment.specs.Inner.Values.{answerIn};
+ghost use Rattle.search.specs.Inner.Engine.{atHandBy, takableBy, Testing, Seeks, FirstEntry, keepsBy, openBy, raisedF, Ready, NameNext};
+ghost use Rattle.search.specs.Inner.Engine.{NameOpen, CanUse, PartNext, GoalReady, Fresh, Solving, Alone, Using, Equipped, Stays, gives};
 
 // The least usable entry.
 pub enum Sought {
@@ -93,11 +98,48 @@ fn seek(
     Sought::Nothing
 }
 
-// The least entry to be taken at a place past the given steps.
-fn least(f: Floor, at: usize) -> usize
-    ensures { λ r. ⌜ r ≡ fromAt f at ⌝ }
+// The least entry to be taken at a place: the given step, or the least after the given ones.
+fn first_at(tape: &[u8], f: Floor, at: usize) -> usize
+    requires { ⌜ (f .fixed ≤ 255) × (length (now tape) ≡ 255) ⌝ }
+    ensures { λ r. ⌜ FirstEntry f at (now (tape .entry)) r ⌝ }
 {
-    if at <= f.fixed { f.from } else { 0 }
+    if at < f.fixed {
+        return byte(tape, at);
+    }
+    if at == f.fixed {
+        return f.from;
+    }
+    0
+}
+
+// The entry is a given step.
+fn keeps(f: Floor, at: usize, first: usize, e: usize) -> bool
+    ensures { λ r. ⌜ r ≡ keepsBy f at first e ⌝ }
+{
+    if at < f.fixed {
+        return e == first;
+    }
+    false
+}
+
+// No floor bears on the place.
+fn unfloored(f: Floor, at: usize, first: usize) -> bool
+    ensures { λ r. ⌜ r ≡ openBy f at first ⌝ }
+{
+    if at < f.fixed {
+        return false;
+    }
+    first == 0
+}
+
+// Nothing is found, or the search gives up.
+fn given_up(tired: bool) -> Outcome
+    ensures { λ r. ⌜ r ≡ gives tired ⌝ }
+{
+    if tired {
+        return Outcome::Tired;
+    }
+    Outcome::Stuck
 }
 
 // The floor behind the first `at` steps of the tape, the last of which is to be passed.
@@ -120,24 +162,64 @@ pub fn solve(
     tape: &mut [u8; 255],
     nodes: &mut [u16; 256],
     heads: &mut [u16; 256],
+    way: &mut [u64; 9],
+    names: &[u16],
+    table: &[u8],
+    masks: &[u64],
+    codes: &mut [u16],
+    words: &mut [u64],
     agenda: &mut [u16; 104],
     f: Floor,
     b: Branch,
-) -> Answer
+) -> Outcome
     requires { ⌜ Ready (now card) (now waits) (now tape) (now nodes) (now heads) f b ⌝ }
     requires { ⌜ Laid (now card) (now agenda) (b .len) (b .count) ⌝ }
-    ensures { λ r. ⌜ Solving (now (card .entry)) (now (agenda .entry)) f b (now (tape .entry)) (now (tape .exit))
-        (now (nodes .entry)) (now (nodes .exit)) (now (heads .entry)) (now (heads .exit)) r ⌝ }
+    requires { ⌜ Equipped (now card) (now names) (now table) (now masks) (now codes) (now words) (now way)
+        (now nodes) (b .count) ⌝ }
+    ensures { λ r. ⌜ Solving (now (card .entry)) (now (agenda .entry)) f b (now (tape .entry)) (now (tape .exit)) (now (nodes .entry))
+        (now (nodes .exit)) (now (heads .entry)) (now (heads .exit)) (answerIn r (now (way .exit))) ⌝ }
+    ensures { λ r. ⌜ Stays (now (card .entry)) (now (names .entry)) (now (table .entry)) (now (masks .entry))
+        (now (codes .entry)) (now (words .entry)) (now (codes .exit)) (now (words .exit)) (now (way .exit)) r ⌝ }
 {
     let c = unwind(card, agenda, b);
     if c.len == 0 {
-        return c.closed();
+        return c.closed(way);
     }
     let k = kind(card, node(agenda, c.len - 1));
     if k == 1 {
-        return need(card, waits, tape, nodes, heads, agenda, f, c);
+        return need(
+            card,
+            waits,
+            tape,
+            nodes,
+            heads,
+            way,
+            names,
+            table,
+            masks,
+            codes,
+            words,
+            agenda,
+            f,
+            c,
+        );
     }
-    behind(card, waits, tape, nodes, heads, agenda, f, c)
+    behind(
+        card,
+        waits,
+        tape,
+        nodes,
+        heads,
+        way,
+        names,
+        table,
+        masks,
+        codes,
+        words,
+        agenda,
+        f,
+        c,
+    )
 }
 
 // The next task is a name.
@@ -147,110 +229,127 @@ fn need(
     tape: &mut [u8; 255],
     nodes: &mut [u16; 256],
     heads: &mut [u16; 256],
+    way: &mut [u64; 9],
+    names: &[u16],
+    table: &[u8],
+    masks: &[u64],
+    codes: &mut [u16],
+    words: &mut [u64],
     agenda: &[u16; 104],
     f: Floor,
     b: Branch,
-) -> Answer
+) -> Outcome
     requires { ⌜ Ready (now card) (now waits) (now tape) (now nodes) (now heads) f b ⌝ }
     requires { ⌜ NameNext (now card) (now agenda) b ⌝ }
-    ensures { λ r. ⌜ Solving (now (card .entry)) (now (agenda .entry)) f b (now (tape .entry)) (now (tape .exit))
-        (now (nodes .entry)) (now (nodes .exit)) (now (heads .entry)) (now (heads .exit)) r ⌝ }
+    requires { ⌜ Equipped (now card) (now names) (now table) (now masks) (now codes) (now words) (now way)
+        (now nodes) (b .count) ⌝ }
+    ensures { λ r. ⌜ Solving (now (card .entry)) (now (agenda .entry)) f b (now (tape .entry)) (now (tape .exit)) (now (nodes .entry))
+        (now (nodes .exit)) (now (heads .entry)) (now (heads .exit)) (answerIn r (now (way .exit))) ⌝ }
+    ensures { λ r. ⌜ Stays (now (card .entry)) (now (names .entry)) (now (table .entry)) (now (masks .entry))
+        (now (codes .entry)) (now (words .entry)) (now (codes .exit)) (now (words .exit)) (now (way .exit)) r ⌝ }
 {
     let n = nest(agenda, b.len - 1);
     if n == 0 {
-        return Answer::Stuck;
+        return Outcome::Stuck;
     }
     if b.limit <= b.at {
-        return Answer::Stuck;
+        return Outcome::Stuck;
     }
-    if b.at < f.fixed {
-        return given(card, waits, tape, nodes, heads, agenda, f, b);
+    let dead = prune::doomed(card, names, table, masks, codes, words, nodes, agenda, b);
+    if dead {
+        return Outcome::Stuck;
     }
-    others(card, waits, tape, nodes, heads, agenda, least(f, b.at), b)
+    let first = first_at(tape, f, b.at);
+    others(
+        card,
+        waits,
+        tape,
+        nodes,
+        heads,
+        way,
+        names,
+        table,
+        masks,
+        codes,
+        words,
+        agenda,
+        first,
+        f,
+        b,
+    )
 }
 
-// A given step, and then the entries above it.
-fn given(
-    card: &[u8],
-    waits: &[u64; 64],
-    tape: &mut [u8; 255],
-    nodes: &mut [u16; 256],
-    heads: &mut [u16; 256],
-    agenda: &[u16; 104],
-    f: Floor,
-    b: Branch,
-) -> Answer
-    requires { ⌜ Ready (now card) (now waits) (now tape) (now nodes) (now heads) f b ⌝ }
-    requires { ⌜ NameOpen (now card) (now agenda) b ⌝ }
-    requires { ⌜ b .at < f .fixed ⌝ }
-    ensures { λ r. ⌜ Solving (now (card .entry)) (now (agenda .entry)) f b (now (tape .entry)) (now (tape .exit))
-        (now (nodes .entry)) (now (nodes .exit)) (now (heads .entry)) (now (heads .exit)) r ⌝ }
-{
-    let e = byte(tape, b.at);
-    let name = left(card, node(agenda, b.len - 1));
-    let good = usable(card, waits, heads, b, name, e);
-    if !good {
-        return above(card, waits, tape, nodes, heads, agenda, e + 1, b);
-    }
-    let r = use_clause(card, waits, tape, nodes, heads, agenda, e, f, b);
-    let Answer::Stuck = r else {
-        return r;
-    };
-    above(card, waits, tape, nodes, heads, agenda, e + 1, b)
-}
-
-// The entries above a given step: their lists do not keep to the given steps.
-fn above(
-    card: &[u8],
-    waits: &[u64; 64],
-    tape: &mut [u8; 255],
-    nodes: &mut [u16; 256],
-    heads: &mut [u16; 256],
-    agenda: &[u16; 104],
-    first: usize,
-    b: Branch,
-) -> Answer
-    requires { ⌜ Ready (now card) (now waits) (now tape) (now nodes) (now heads) (openF b first) b ⌝ }
-    requires { ⌜ NameOpen (now card) (now agenda) b ⌝ }
-    ensures { λ r. ⌜ Above (now (card .entry)) (now (agenda .entry)) first b (now (tape .entry)) (now (tape .exit))
-        (now (nodes .entry)) (now (nodes .exit)) (now (heads .entry)) (now (heads .exit)) r ⌝ }
-{
-    let r = others(card, waits, tape, nodes, heads, agenda, first, b);
-    let Answer::Solved(w) = r else {
-        return r;
-    };
-    Answer::Solved(w.following(false))
-}
-
-// The entries from the given one on, each with no floor behind it.
+// The entries from the given one on. The given step goes on with the floor, and those above it with none.
 fn others(
     card: &[u8],
     waits: &[u64; 64],
     tape: &mut [u8; 255],
     nodes: &mut [u16; 256],
     heads: &mut [u16; 256],
+    way: &mut [u64; 9],
+    names: &[u16],
+    table: &[u8],
+    masks: &[u64],
+    codes: &mut [u16],
+    words: &mut [u64],
     agenda: &[u16; 104],
     first: usize,
+    f: Floor,
     b: Branch,
-) -> Answer
-    requires { ⌜ Ready (now card) (now waits) (now tape) (now nodes) (now heads) (openF b first) b ⌝ }
-    requires { ⌜ NameOpen (now card) (now agenda) b ⌝ }
-    ensures { λ r. ⌜ Solving (now (card .entry)) (now (agenda .entry)) (openF b first) b (now (tape .entry)) (now (tape .exit))
-        (now (nodes .entry)) (now (nodes .exit)) (now (heads .entry)) (now (heads .exit)) r ⌝ }
+) -> Outcome
+    requires { ⌜ Ready (now card) (now waits) (now tape) (now nodes) (now heads) f b ⌝ }
+    requires { ⌜ NameOpen (now card) (now agenda) b × FirstEntry f (b .at) (now tape) first ⌝ }
+    requires { ⌜ Equipped (now card) (now names) (now table) (now masks) (now codes) (now words) (now way)
+        (now nodes) (b .count) ⌝ }
+    ensures { λ r. ⌜ Solving (now (card .entry)) (now (agenda .entry)) f b (now (tape .entry)) (now (tape .exit)) (now (nodes .entry))
+        (now (nodes .exit)) (now (heads .entry)) (now (heads .exit)) (answerIn r (now (way .exit))) ⌝ }
+    ensures { λ r. ⌜ Stays (now (card .entry)) (now (names .entry)) (now (table .entry)) (now (masks .entry))
+        (now (codes .entry)) (now (words .entry)) (now (codes .exit)) (now (words .exit)) (now (way .exit)) r ⌝ }
 {
     let name = left(card, node(agenda, b.len - 1));
     let mut from = first;
     loop {
         let next = seek(card, waits, heads, b, name, from);
         let Sought::At(e) = next else {
-            return Answer::Stuck;
+            let tired = prune::dead_end(
+                card,
+                codes,
+                words,
+                nodes,
+                agenda,
+                unfloored(f, b.at, first),
+                b,
+            );
+            return given_up(tired);
         };
-        let f = Floor { fixed: 0, from: 0 };
-        let r = use_clause(card, waits, tape, nodes, heads, agenda, e, f, b);
-        let Answer::Stuck = r else {
-            return r;
-        };
-        from = e + 1;
+        let same = keeps(f, b.at, first, e);
+        let r = use_clause(
+            card,
+            waits,
+            tape,
+            nodes,
+            heads,
+            way,
+            names,
+            table,
+            masks,
+            codes,
+            words,
+            agenda,
+            e,
+            f.past(same),
+            b,
+        );
+        match r {
+            Outcome::Solved => {
+                follow(way, same);
+                return Outcome::Solved;
+            }
+            Outcome::Stuck => {
+                from = e + 1;
+            }
+            Outcome::Tired => return Outcome::Tired,
+        }
     }
 }
 
@@ -261,15 +360,25 @@ fn use_clause(
     tape: &mut [u8; 255],
     nodes: &mut [u16; 256],
     heads: &mut [u16; 256],
+    way: &mut [u64; 9],
+    names: &[u16],
+    table: &[u8],
+    masks: &[u64],
+    codes: &mut [u16],
+    words: &mut [u64],
     agenda: &[u16; 104],
     e: usize,
     f: Floor,
     b: Branch,
-) -> Answer
+) -> Outcome
     requires { ⌜ Ready (now card) (now waits) (now tape) (now nodes) (now heads) f b ⌝ }
     requires { ⌜ CanUse (now card) (now waits) (now heads) (now agenda) b e ⌝ }
-    ensures { λ r. ⌜ Using (now (card .entry)) (now (agenda .entry)) e f b (now (tape .entry)) (now (tape .exit))
-        (now (nodes .entry)) (now (nodes .exit)) (now (heads .entry)) (now (heads .exit)) r ⌝ }
+    requires { ⌜ Equipped (now card) (now names) (now table) (now masks) (now codes) (now words) (now way)
+        (now nodes) (b .count) ⌝ }
+    ensures { λ r. ⌜ Using (now (card .entry)) (now (agenda .entry)) e f b (now (tape .entry)) (now (tape .exit)) (now (nodes .entry))
+        (now (nodes .exit)) (now (heads .entry)) (now (heads .exit)) (answerIn r (now (way .exit))) ⌝ }
+    ensures { λ r. ⌜ Stays (now (card .entry)) (now (names .entry)) (now (table .entry)) (now (masks .entry))
+        (now (codes .entry)) (now (words .entry)) (now (codes .exit)) (now (words .exit)) (now (way .exit)) r ⌝ }
 {
     let at = b.at;
     tape[at] = e as u8;
@@ -278,7 +387,22 @@ fn use_clause(
     let mut rest = *agenda;
     let len = push(card, &mut rest, top, clause, nest(agenda, top) - 1);
     let c = b.using(byte(card, 3), byte(card, 4), e, len);
-    solve(card, waits, tape, nodes, heads, &mut rest, f, c)
+    solve(
+        card,
+        waits,
+        tape,
+        nodes,
+        heads,
+        way,
+        names,
+        table,
+        masks,
+        codes,
+        words,
+        &mut rest,
+        f,
+        c,
+    )
 }
 
 // The next task is & or ⊸, a segment of its own: the rest behind its first list; where that finds nothing, behind its next.
@@ -288,28 +412,71 @@ fn behind(
     tape: &mut [u8; 255],
     nodes: &mut [u16; 256],
     heads: &mut [u16; 256],
+    way: &mut [u64; 9],
+    names: &[u16],
+    table: &[u8],
+    masks: &[u64],
+    codes: &mut [u16],
+    words: &mut [u64],
     agenda: &[u16; 104],
     f: Floor,
     b: Branch,
-) -> Answer
+) -> Outcome
     requires { ⌜ Ready (now card) (now waits) (now tape) (now nodes) (now heads) f b ⌝ }
     requires { ⌜ PartNext (now card) (now agenda) b ⌝ }
-    ensures { λ r. ⌜ Solving (now (card .entry)) (now (agenda .entry)) f b (now (tape .entry)) (now (tape .exit))
-        (now (nodes .entry)) (now (nodes .exit)) (now (heads .entry)) (now (heads .exit)) r ⌝ }
+    requires { ⌜ Equipped (now card) (now names) (now table) (now masks) (now codes) (now words) (now way)
+        (now nodes) (b .count) ⌝ }
+    ensures { λ r. ⌜ Solving (now (card .entry)) (now (agenda .entry)) f b (now (tape .entry)) (now (tape .exit)) (now (nodes .entry))
+        (now (nodes .exit)) (now (heads .entry)) (now (heads .exit)) (answerIn r (now (way .exit))) ⌝ }
+    ensures { λ r. ⌜ Stays (now (card .entry)) (now (names .entry)) (now (table .entry)) (now (masks .entry))
+        (now (codes .entry)) (now (words .entry)) (now (codes .exit)) (now (words .exit)) (now (way .exit)) r ⌝ }
 {
     let top = b.len - 1;
     let goal = node(agenda, top);
     let n = nest(agenda, top);
     if top == 0 {
-        return last(card, waits, tape, nodes, heads, goal, n, f, b);
+        return last(
+            card,
+            waits,
+            tape,
+            nodes,
+            heads,
+            way,
+            names,
+            table,
+            masks,
+            codes,
+            words,
+            goal,
+            n,
+            f,
+            b,
+        );
     }
     let mut g = f;
     let mut fresh = true;
     loop {
-        let r = part(card, waits, tape, nodes, heads, goal, n, g, b.lead());
-        let Answer::Solved(w) = r else {
+        let r = part(
+            card,
+            waits,
+            tape,
+            nodes,
+            heads,
+            way,
+            names,
+            table,
+            masks,
+            codes,
+            words,
+            goal,
+            n,
+            g,
+            b.lead(),
+        );
+        let Outcome::Solved = r else {
             return r;
         };
+        let w = way_in(way);
         let mut rest = *agenda;
         let s = solve(
             card,
@@ -317,19 +484,29 @@ fn behind(
             tape,
             nodes,
             heads,
+            way,
+            names,
+            table,
+            masks,
+            codes,
+            words,
             &mut rest,
             g.past(w.kept),
             b.past_tensor(w),
         );
         match s {
-            Answer::Solved(v) => return Answer::Solved(v.following(both(w.kept, fresh))),
-            Answer::Stuck => {
+            Outcome::Solved => {
+                follow(way, both(w.kept, fresh));
+                return Outcome::Solved;
+            }
+            Outcome::Stuck => {
                 if w.at == b.at {
-                    return Answer::Stuck;
+                    return Outcome::Stuck;
                 }
                 g = raise(tape, w.at);
                 fresh = false;
             }
+            Outcome::Tired => return Outcome::Tired,
         }
     }
 }
@@ -341,21 +518,49 @@ fn last(
     tape: &mut [u8; 255],
     nodes: &mut [u16; 256],
     heads: &mut [u16; 256],
+    way: &mut [u64; 9],
+    names: &[u16],
+    table: &[u8],
+    masks: &[u64],
+    codes: &mut [u16],
+    words: &mut [u64],
     goal: usize,
     n: usize,
     f: Floor,
     b: Branch,
-) -> Answer
+) -> Outcome
     requires { ⌜ Ready (now card) (now waits) (now tape) (now nodes) (now heads) f b ⌝ }
     requires { ⌜ GoalReady (now card) goal n b ⌝ }
-    ensures { λ r. ⌜ Alone (now (card .entry)) goal n f b (now (tape .entry)) (now (tape .exit))
-        (now (nodes .entry)) (now (nodes .exit)) (now (heads .entry)) (now (heads .exit)) r ⌝ }
+    requires { ⌜ Equipped (now card) (now names) (now table) (now masks) (now codes) (now words) (now way)
+        (now nodes) (b .count) ⌝ }
+    ensures { λ r. ⌜ Alone (now (card .entry)) goal n f b (now (tape .entry)) (now (tape .exit)) (now (nodes .entry))
+        (now (nodes .exit)) (now (heads .entry)) (now (heads .exit)) (answerIn r (now (way .exit))) ⌝ }
+    ensures { λ r. ⌜ Stays (now (card .entry)) (now (names .entry)) (now (table .entry)) (now (masks .entry))
+        (now (codes .entry)) (now (words .entry)) (now (codes .exit)) (now (words .exit)) (now (way .exit)) r ⌝ }
 {
-    let r = part(card, waits, tape, nodes, heads, goal, n, f, b.own());
-    let Answer::Solved(w) = r else {
+    let r = part(
+        card,
+        waits,
+        tape,
+        nodes,
+        heads,
+        way,
+        names,
+        table,
+        masks,
+        codes,
+        words,
+        goal,
+        n,
+        f,
+        b.own(),
+    );
+    let Outcome::Solved = r else {
         return r;
     };
-    Answer::Solved(b.joined(w))
+    let w = way_in(way);
+    put_way(way, b.joined(w));
+    Outcome::Solved
 }
 
 // & or ⊸ in a segment of its own.
@@ -365,21 +570,63 @@ fn part(
     tape: &mut [u8; 255],
     nodes: &mut [u16; 256],
     heads: &mut [u16; 256],
+    way: &mut [u64; 9],
+    names: &[u16],
+    table: &[u8],
+    masks: &[u64],
+    codes: &mut [u16],
+    words: &mut [u64],
     goal: usize,
     n: usize,
     f: Floor,
     b: Branch,
-) -> Answer
+) -> Outcome
     requires { ⌜ Ready (now card) (now waits) (now tape) (now nodes) (now heads) f b ⌝ }
     requires { ⌜ GoalReady (now card) goal n b × Fresh b ⌝ }
-    ensures { λ r. ⌜ Alone (now (card .entry)) goal n f b (now (tape .entry)) (now (tape .exit))
-        (now (nodes .entry)) (now (nodes .exit)) (now (heads .entry)) (now (heads .exit)) r ⌝ }
+    requires { ⌜ Equipped (now card) (now names) (now table) (now masks) (now codes) (now words) (now way)
+        (now nodes) (b .count) ⌝ }
+    ensures { λ r. ⌜ Alone (now (card .entry)) goal n f b (now (tape .entry)) (now (tape .exit)) (now (nodes .entry))
+        (now (nodes .exit)) (now (heads .entry)) (now (heads .exit)) (answerIn r (now (way .exit))) ⌝ }
+    ensures { λ r. ⌜ Stays (now (card .entry)) (now (names .entry)) (now (table .entry)) (now (masks .entry))
+        (now (codes .entry)) (now (words .entry)) (now (codes .exit)) (now (words .exit)) (now (way .exit)) r ⌝ }
 {
     let k = kind(card, goal);
     if k == 5 {
-        return both_ways(card, waits, tape, nodes, heads, goal, n, f, b);
+        return both_ways(
+            card,
+            waits,
+            tape,
+            nodes,
+            heads,
+            way,
+            names,
+            table,
+            masks,
+            codes,
+            words,
+            goal,
+            n,
+            f,
+            b,
+        );
     }
-    lent(card, waits, tape, nodes, heads, goal, n, f, b)
+    lent(
+        card,
+        waits,
+        tape,
+        nodes,
+        heads,
+        way,
+        names,
+        table,
+        masks,
+        codes,
+        words,
+        goal,
+        n,
+        f,
+        b,
+    )
 }
 
 // G & H: H behind the first list of G; where that finds nothing, behind its next.
@@ -389,16 +636,25 @@ fn both_ways(
     tape: &mut [u8; 255],
     nodes: &mut [u16; 256],
     heads: &mut [u16; 256],
+    way: &mut [u64; 9],
+    names: &[u16],
+    table: &[u8],
+    masks: &[u64],
+    codes: &mut [u16],
+    words: &mut [u64],
     goal: usize,
     n: usize,
     f: Floor,
     b: Branch,
-) -> Answer
+) -> Outcome
     requires { ⌜ Ready (now card) (now waits) (now tape) (now nodes) (now heads) f b ⌝ }
-    requires { ⌜ GoalReady (now card) goal n b × Fresh b ⌝ }
-    requires { ⌜ kindAt (now card) goal ≡ 5 ⌝ }
-    ensures { λ r. ⌜ Alone (now (card .entry)) goal n f b (now (tape .entry)) (now (tape .exit))
-        (now (nodes .entry)) (now (nodes .exit)) (now (heads .entry)) (now (heads .exit)) r ⌝ }
+    requires { ⌜ (GoalReady (now card) goal n b × Fresh b) × (kindAt (now card) goal ≡ 5) ⌝ }
+    requires { ⌜ Equipped (now card) (now names) (now table) (now masks) (now codes) (now words) (now way)
+        (now nodes) (b .count) ⌝ }
+    ensures { λ r. ⌜ Alone (now (card .entry)) goal n f b (now (tape .entry)) (now (tape .exit)) (now (nodes .entry))
+        (now (nodes .exit)) (now (heads .entry)) (now (heads .exit)) (answerIn r (now (way .exit))) ⌝ }
+    ensures { λ r. ⌜ Stays (now (card .entry)) (now (names .entry)) (now (table .entry)) (now (masks .entry))
+        (now (codes .entry)) (now (words .entry)) (now (codes .exit)) (now (words .exit)) (now (way .exit)) r ⌝ }
 {
     let l = left(card, goal);
     let r = right(card, goal);
@@ -407,10 +663,26 @@ fn both_ways(
     loop {
         let mut agenda = [0u16; 104];
         put(&mut agenda, 0, l, n);
-        let first = solve(card, waits, tape, nodes, heads, &mut agenda, g, b);
-        let Answer::Solved(w) = first else {
+        let first = solve(
+            card,
+            waits,
+            tape,
+            nodes,
+            heads,
+            way,
+            names,
+            table,
+            masks,
+            codes,
+            words,
+            &mut agenda,
+            g,
+            b,
+        );
+        let Outcome::Solved = first else {
             return first;
         };
+        let w = way_in(way);
         let mut other = [0u16; 104];
         put(&mut other, 0, r, n);
         let second = solve(
@@ -419,22 +691,30 @@ fn both_ways(
             tape,
             nodes,
             heads,
+            way,
+            names,
+            table,
+            masks,
+            codes,
+            words,
             &mut other,
             g.past(w.kept),
             b.past_with(w),
         );
         match second {
-            Answer::Solved(v) => {
-                let u = w.beside(v);
-                return Answer::Solved(u.following(both(w.kept, fresh)));
+            Outcome::Solved => {
+                put_way(way, w.beside(way_in(way)));
+                follow(way, both(w.kept, fresh));
+                return Outcome::Solved;
             }
-            Answer::Stuck => {
+            Outcome::Stuck => {
                 if w.at == b.at {
-                    return Answer::Stuck;
+                    return Outcome::Stuck;
                 }
                 g = raise(tape, w.at);
                 fresh = false;
             }
+            Outcome::Tired => return Outcome::Tired,
         }
     }
 }
@@ -446,16 +726,25 @@ fn lent(
     tape: &mut [u8; 255],
     nodes: &mut [u16; 256],
     heads: &mut [u16; 256],
+    way: &mut [u64; 9],
+    names: &[u16],
+    table: &[u8],
+    masks: &[u64],
+    codes: &mut [u16],
+    words: &mut [u64],
     goal: usize,
     n: usize,
     f: Floor,
     b: Branch,
-) -> Answer
+) -> Outcome
     requires { ⌜ Ready (now card) (now waits) (now tape) (now nodes) (now heads) f b ⌝ }
-    requires { ⌜ GoalReady (now card) goal n b × Fresh b ⌝ }
-    requires { ⌜ kindAt (now card) goal ≡ 6 ⌝ }
-    ensures { λ r. ⌜ Alone (now (card .entry)) goal n f b (now (tape .entry)) (now (tape .exit))
-        (now (nodes .entry)) (now (nodes .exit)) (now (heads .entry)) (now (heads .exit)) r ⌝ }
+    requires { ⌜ (GoalReady (now card) goal n b × Fresh b) × (kindAt (now card) goal ≡ 6) ⌝ }
+    requires { ⌜ Equipped (now card) (now names) (now table) (now masks) (now codes) (now words) (now way)
+        (now nodes) (b .count) ⌝ }
+    ensures { λ r. ⌜ Alone (now (card .entry)) goal n f b (now (tape .entry)) (now (tape .exit)) (now (nodes .entry))
+        (now (nodes .exit)) (now (heads .entry)) (now (heads .exit)) (answerIn r (now (way .exit))) ⌝ }
+    ensures { λ r. ⌜ Stays (now (card .entry)) (now (names .entry)) (now (table .entry)) (now (masks .entry))
+        (now (codes .entry)) (now (words .entry)) (now (codes .exit)) (now (words .exit)) (now (way .exit)) r ⌝ }
 {
     let count = b.count;
     entries::put(card, nodes, heads, count, left(card, goal));
@@ -468,12 +757,20 @@ fn lent(
         tape,
         nodes,
         heads,
+        way,
+        names,
+        table,
+        masks,
+        codes,
+        words,
         &mut agenda,
         f,
         b.lent(item),
     );
-    let Answer::Solved(w) = r else {
+    let Outcome::Solved = r else {
         return r;
     };
-    Answer::Solved(w.without(item))
+    let w = way_in(way);
+    put_way(way, w.without(item));
+    Outcome::Solved
 }

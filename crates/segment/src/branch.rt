@@ -3,10 +3,11 @@ use card::both;
 use card::either;
 use lines::LineSet;
 ghost use mathlib.Core.Path.{_≡_};
+ghost use lib.ListN.{length};
 ghost use Prim.Native.Nat.{_≤_, _<_};
 ghost use Rattle.lines.specs.Inner.Set.{Words};
 ghost use Rattle.segment.specs.Inner.Values.{droppedB, longerB, easedB, leadB, ownB, pastTensorB, pastWithB, lentB, usingB};
-ghost use Rattle.segment.specs.Inner.Values.{closedA, joinedW, besideW, withoutW, followingW, pastF};
+ghost use Rattle.segment.specs.Inner.Values.{flagOf, wayIn, answerIn, Awake, closedA, joinedW, besideW, withoutW, followingW, pastF};
 
 // A branch, by value: the place on the tape, how many entries stand in scope, how many tasks on the agenda, the step limit; the free
 // items, strict and lax apart; what the segment has used so far, and whether some ⊤ in it takes more; the lines in the list so far.
@@ -32,16 +33,81 @@ pub struct Way {
     pub kept: bool,
 }
 
-// What a search answers.
-pub enum Answer {
-    Solved(Way),
+// What a search answers. A way found is written to a place that the caller lends, as nine words. Tired: it has met too many dead ends,
+// and says nothing.
+pub enum Outcome {
+    Solved,
     Stuck,
+    Tired,
+}
+
+// A bool as a word.
+fn flag(b: bool) -> u64
+    ensures { λ r. ⌜ r ≡ flagOf b ⌝ }
+{
+    if b { 1 } else { 0 }
+}
+
+// The way, written as words.
+pub fn put_way(way: &mut [u64; 9], w: Way)
+    requires { ⌜ length (now way) ≡ 9 ⌝ }
+    ensures { λ _. ⌜ (wayIn (now (way .exit)) ≡ w) × (length (now (way .exit)) ≡ 9) ⌝ }
+{
+    let used = w.used;
+    let seen = w.seen;
+    let words = [
+        w.at as u64,
+        used.low,
+        used.mid,
+        used.high,
+        seen.low,
+        seen.mid,
+        seen.high,
+        flag(w.slack),
+        flag(w.kept),
+    ];
+    *way = words;
+}
+
+// The way that the words say.
+pub fn way_in(way: &[u64; 9]) -> Way
+    requires { ⌜ length (now way) ≡ 9 ⌝ }
+    ensures { λ r. ⌜ r ≡ wayIn (now (way .entry)) ⌝ }
+{
+    let used = LineSet {
+        low: way[1],
+        mid: way[2],
+        high: way[3],
+    };
+    let seen = LineSet {
+        low: way[4],
+        mid: way[5],
+        high: way[6],
+    };
+    Way {
+        at: way[0] as usize,
+        used,
+        seen,
+        slack: way[7] == 1,
+        kept: way[8] == 1,
+    }
 }
 
 // The least list to be looked at: so many given steps on the tape, and the least entry to be taken after them.
 pub struct Floor {
     pub fixed: usize,
     pub from: usize,
+}
+
+// Behind a list that keeps to the given steps or not.
+pub fn follow(way: &mut [u64; 9], kept: bool)
+    requires { ⌜ length (now way) ≡ 9 ⌝ }
+    ensures { λ _. ⌜ (wayIn (now (way .exit)) ≡ followingW (wayIn (now (way .entry))) kept) × (length (now (way .exit)) ≡ 9) ⌝ }
+{
+    if kept {
+        return;
+    }
+    way[8] = 0;
 }
 
 impl Floor {
@@ -199,23 +265,26 @@ impl Branch {
     }
 
     // The agenda is empty: no strict item may be left. The words of the sets are those of the machine.
-    pub fn closed(self) -> Answer
-        ensures { λ r. ⌜ r ≡ closedA self ⌝ }
-        ensures { λ _. ⌜ Words (self .strict) ⌝ }
+    pub fn closed(self, way: &mut [u64; 9]) -> Outcome
+        requires { ⌜ length (now way) ≡ 9 ⌝ }
+        ensures { λ r. ⌜ answerIn r (now (way .exit)) ≡ closedA self ⌝ }
+        ensures { λ r. ⌜ Words (self .strict) × ((length (now (way .exit)) ≡ 9) × Awake r) ⌝ }
     {
         let strict = self.strict;
         let used = self.used;
         let seen = self.seen;
         if strict.is_empty() {
-            return Answer::Solved(Way {
+            let w = Way {
                 at: self.at,
                 used,
                 seen,
                 slack: self.slack,
                 kept: true,
-            });
+            };
+            put_way(way, w);
+            return Outcome::Solved;
         }
-        Answer::Stuck
+        Outcome::Stuck
     }
 
     // The whole segment, whose last part is w.
@@ -249,15 +318,6 @@ impl Way {
         let used = self.used;
         let mut v = self;
         v.used = used.take(item);
-        v
-    }
-
-    // Behind a list that keeps to the given steps or not.
-    pub fn following(self, kept: bool) -> Way
-        ensures { λ r. ⌜ r ≡ followingW self kept ⌝ }
-    {
-        let mut v = self;
-        v.kept = both(self.kept, kept);
         v
     }
 }

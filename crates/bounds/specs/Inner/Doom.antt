@@ -1,25 +1,17 @@
 -- What the table says of an agenda, and when that leaves it no list. An agenda stands in an array of codes: node * 32 + nesting, the next
 -- task last.
-use Prim.Native.Nat.{ℕ, zero, suc, _+_, _-_, _/_, _%_, _≤_, _<_}
+use Prim.Native.Nat.{ℕ, zero, suc, _+_, _-_, _/_, _≤_, _<_}
 use mathlib.Core.Path.{_≡_}
 use mathlib.Core.Bool.{Bool, true, false, _&&_}
-use mathlib.Core.List.{List, [], _∷_}
+use mathlib.Core.List.{List}
 use lib.ListN.{length, getD}
 use Rattle.lines.specs.declared.LineSet.{LineSet}
 use Rattle.lines.specs.Inner.Set.{bitAt, member, joinS}
 use Rattle.card.specs.Format.{ruleCount, lineCount, nodeCount, lineNode}
 use Rattle.card.specs.Fault.{goalPart}
-use Rattle.card.specs.Decode.{goalAt, clauseOf}
-use Rattle.agenda.specs.Inner.Agenda.{Task, task, Agenda}
+use Rattle.card.specs.Decode.{clauseOf}
 use Rattle.bounds.specs.Inner.Count.{number}
 use Rattle.bounds.specs.Inner.Table.{NameCells, TableCells, OfCard, inClass, classes, lowAt, highAt, leastAt}
-
-unfoldable pub taskOf : List ℕ → ℕ → Task
-taskOf bs c = task (goalAt bs (c / 32)) (c % 32)
-
-unfoldable pub agendaOf : List ℕ → List ℕ → ℕ → Agenda
-agendaOf bs codes zero = []
-agendaOf bs codes (suc n) = taskOf bs (getD codes n 0) ∷ agendaOf bs codes n
 
 -- the first n tasks are goals of the card
 pub record Coded (bs codes : List ℕ) (n : ℕ) : Type 0 where

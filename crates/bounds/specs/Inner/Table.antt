@@ -1,11 +1,11 @@
--- The table of a card. A class holds the clauses with one head; there are at most 64 of them. For each node and class the table has a
--- least and a greatest number of items, and for each node least steps; a node of a recipe has those of all its conditions together. The
--- bounds of a name stand at a row of the table: that of one node of the name, or 512 for a name of no node. How the table is filled in
+-- The table of a card. A class holds the clauses with one head, or all; there are at most 64 of them. For each node and class the table
+-- has a least and a greatest number of items, and for each node least steps; a node of a recipe has those of all its conditions together.
+-- The bounds of a name stand at a row of the table: that of one node of the name, or 512 for a name of no node. How the table is filled in
 -- does not matter: it is settled if each node's bounds follow from its parts, and each name's from every clause of a rule, a line or a
 -- lend with that head. 255 is the greatest number that stands for none; least numbers and steps stop there.
 use Prim.Native.Nat.{ℕ, suc, max, min, _+_, _-_, _*_, _≤_, _<_}
 use mathlib.Core.Path.{_≡_}
-use mathlib.Core.Bool.{Bool, true, false, cond, _&&_}
+use mathlib.Core.Bool.{Bool, true, false, cond, _&&_, _||_}
 use mathlib.Core.List.{List, [], _∷_}
 use lib.ListN.{length, getD}
 use lib.Dec.{eqb, ltb}
@@ -43,7 +43,11 @@ headOf (atomᴰ b) = b
 headOf topᴰ = 1000
 headOf (lolliᴰ G D) = headOf D
 
--- Names: the head of each clause node, the row of each name, the head of each class, and how many classes there are.
+-- A class goes by a code: a head, or 1001 for all clauses. Whether the class takes in the clauses with the head h.
+unfoldable pub takesIn : ℕ → ℕ → Bool
+takesIn k h = eqb k 1001 || eqb h k
+
+-- Names: the head of each clause node, the row of each name, the code of each class, and how many classes there are.
 unfoldable pub headAt : List ℕ → ℕ → ℕ
 headAt names i = getD names i 0
 
@@ -76,7 +80,7 @@ ifRecipe bs i v = cond (eqb (kindAt bs i) 7) v 0
 
 -- the clause at the node is of the class
 unfoldable pub inClass : List ℕ → ℕ → ℕ → Bool
-inClass names i c = eqb (headAt names i) (classAt names c)
+inClass names i c = takesIn (classAt names c) (headAt names i)
 
 unfoldable pub headStep : List ℕ → List ℕ → ℕ → ℕ
 headStep bs names i = byKind (kindAt bs i) (leftAt bs i) 1000 1000 1000 1000 1000 (headAt names (rightAt bs i))
@@ -163,4 +167,4 @@ namesOf names t c = record {
 }
 
 unfoldable pub classOf : List ℕ → ℕ → Class
-classOf names c D = eqb (headOf D) (classAt names c)
+classOf names c D = takesIn (classAt names c) (headOf D)

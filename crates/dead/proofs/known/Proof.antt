@@ -21,8 +21,8 @@ add-kept c = search needs
 mul-kept : tie.Need-mul-kept
 mul-kept c = search needs
 
-element-copy-out-kept : tie.Need-element-copy-out-kept
-element-copy-out-kept c = search needs
+shared-slice-read-kept : tie.Need-shared-slice-read-kept
+shared-slice-read-kept c = search needs
 
 sub-room : tie.Need-sub-room
 sub-room c = search needs
@@ -52,7 +52,7 @@ returns-4 c =
     let at-words-of = at-same-words .before .before in
     let at-if2 = at-words-of .before in
     let at-row-of = at-if2 .before .before .before in
-    let start = at-row-of .before .before .before in
+    let start = at-row-of .before .before .before .before .before in
     let alike = at-same-words .same-words .ensures (not-false _ (at-if3 .if3 .left)) in
     λ p. row-dead (at-row-of .row-of .result) (start .args .b) (at-row-of .row-of .ensures) (start .pre .some)
     (rw (at-words-of .words-of .ensures) at alike) (c .same-codes .ensures p) (at-if2 .if2 .left)
@@ -66,7 +66,7 @@ known-spec =
     mul-at
     add-kept
     mul-kept
-    element-copy-out-kept
+    shared-slice-read-kept
     sub-room
     returns-2
     words-of-requires

@@ -29,8 +29,10 @@ add-words c = search needs
 mul-words-2 : tie.Need-mul-words-2 Inv-loop μ-loop
 mul-words-2 c = search needs
 
-element-write-words : tie.Need-element-write-words Inv-loop μ-loop
-element-write-words c = search needs
+slice-write-words : tie.Need-slice-write-words Inv-loop μ-loop
+slice-write-words c =
+    let start = c .before .before .before in
+    omega (arith, c .before .before .loop .inv .1 .room, start .pre .room, start .pre .inside)
 
 add-i : tie.Need-add-i Inv-loop μ-loop
 add-i c = search needs
@@ -43,6 +45,9 @@ loop-again c =
     let start = c .before .before .before in
     let turn = c .before .before .loop in
     (omega arith, put-more (turn .inv .1) (omega (arith, start .pre .room, start .pre .inside)))
+
+same-length : tie.Need-same-length Inv-loop μ-loop
+same-length c = c .before .loop .inv .1 .room
 
 returns : tie.Need-returns Inv-loop μ-loop
 returns c =
@@ -61,8 +66,9 @@ put-words-spec =
     element-copy-out-words
     add-words
     mul-words-2
-    element-write-words
+    slice-write-words
     add-i
     loop-less
     loop-again
+    same-length
     returns)

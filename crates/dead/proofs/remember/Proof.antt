@@ -25,15 +25,22 @@ mul-put-words c = search needs
 put-words-requires : tie.Need-put-words-requires
 put-words-requires c κs = search needs
 
+same-length : tie.Need-same-length
+same-length c = c .before .before .before .before .before .before .before .put-codes .ensures .room
+
+same-length-2 : tie.Need-same-length-2
+same-length-2 c = c .before .before .put-words .ensures .room
+
 returns-2 : tie.Need-returns-2
 returns-2 c =
-    let at-put-codes = c .before .before .before in
+    let at-put-words = c .before .before in
+    let at-put-codes = at-put-words .before .before .before .before .before in
     let at-words-of = at-put-codes .before .before in
     let at-row-of = at-words-of .before in
     let at-if1 = at-row-of .before in
-    let start = at-if1 .before .before in
+    let start = at-if1 .before .before .before .before in
     row-told (at-row-of .row-of .result) (start .args .b) (at-if1 .if1 .left) (at-put-codes .put-codes .ensures)
-    (rw (at-words-of .words-of .ensures) at (c .put-words .ensures)) (start .pre .code-room) (start .pre .word-room)
+    (rw (at-words-of .words-of .ensures) at (at-put-words .put-words .ensures)) (start .pre .code-room) (start .pre .word-room)
 
 pub remember-spec : {M : Type 1} → statement M
 remember-spec =
@@ -46,4 +53,6 @@ remember-spec =
     put-codes-requires
     mul-put-words
     put-words-requires
+    same-length
+    same-length-2
     returns-2)

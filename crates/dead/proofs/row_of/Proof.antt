@@ -1,4 +1,4 @@
--- Seven bits are a number below 128.
+-- Ten bits are a number below 1024.
 use Prim.Native.Nat.{_-_, _≤_}
 use native.Mathlib.Omega.{arith}
 use borrow.Author.Needs.{needs}
@@ -40,7 +40,7 @@ loop-again : tie.Need-loop-again Inv-loop μ-loop
 loop-again c = search needs
 
 returns : tie.Need-returns Inv-loop μ-loop
-returns c = omega (arith, and-le-r (c .before .before .loop .sum) 127)
+returns c = omega (arith, and-le-r (c .before .before .loop .sum) 1023)
 
 pub row-of-spec : {M : Type 1} → statement M
 row-of-spec =

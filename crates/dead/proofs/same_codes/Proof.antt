@@ -24,8 +24,8 @@ add-x c = search needs
 mul-x : tie.Need-mul-x Inv-loop μ-loop
 mul-x c = search needs
 
-element-copy-out-x : tie.Need-element-copy-out-x Inv-loop μ-loop
-element-copy-out-x c = search needs
+shared-slice-read-x : tie.Need-shared-slice-read-x Inv-loop μ-loop
+shared-slice-read-x c = search needs
 
 mul-y : tie.Need-mul-y Inv-loop μ-loop
 mul-y c = search needs
@@ -61,7 +61,7 @@ same-codes-spec =
     loop-holds
     add-x
     mul-x
-    element-copy-out-x
+    shared-slice-read-x
     mul-y
     element-copy-out-y
     returns

@@ -14,7 +14,7 @@ use Rattle.entries.specs.Inner.Twins.{eligible}
 use Rattle.entries.specs.Inner.Masks.{Seen}
 use Rattle.segment.specs.declared.branch.Branch.{Branch}
 use Rattle.segment.specs.Inner.Tasks.{agendaOf}
-use Rattle.dead.specs.Inner.Rows.{rowStrict, rowLax, rowSeen, rowLen, rowRoom, rowAgenda}
+use Rattle.dead.specs.Inner.Rows.{rowCount, rowWidth, codeCells, wordCells, rowStrict, rowLax, rowSeen, rowLen, rowRoom, rowAgenda}
 
 -- a place without a floor
 abbrev pub openPlace : List ℕ → Items → Items → ℕ → Place
@@ -38,15 +38,15 @@ BarrenRow bs es codes words row =
 
 -- Every row that has tasks says what is so, and keeps within its places.
 pub record Honest (bs : List ℕ) (es : Scope) (codes words : List ℕ) : Type 0 where
-  pub code-room : length codes ≡ 4096
-  pub word-room : length words ≡ 1152
-  pub short : (row : ℕ) → row < 128 → rowLen words row ≤ 32
-  pub rows : (row : ℕ) → row < 128 → 1 ≤ rowLen words row → BarrenRow bs es codes words row
+  pub code-room : length codes ≡ codeCells
+  pub word-room : length words ≡ wordCells
+  pub short : (row : ℕ) → row < rowCount → rowLen words row ≤ rowWidth
+  pub rows : (row : ℕ) → row < rowCount → 1 ≤ rowLen words row → BarrenRow bs es codes words row
 
 -- What is asked: the arrays' lengths, a next task, and a place within the step limit.
 pub record Asking (codes words agenda : List ℕ) (b : Branch) : Type 0 where
-  pub code-room : length codes ≡ 4096
-  pub word-room : length words ≡ 1152
+  pub code-room : length codes ≡ codeCells
+  pub word-room : length words ≡ wordCells
   pub task-room : length agenda ≡ 104
   pub some : 1 ≤ b .len
   pub onward : b .at ≤ b .limit
@@ -57,6 +57,6 @@ pub record Dead (codes words agenda : List ℕ) (b : Branch) : Type 0 where
 
 -- What was honest stays so with what is remembered, if that is so.
 pub record Remembers (codes words codes′ words′ agenda : List ℕ) (b : Branch) : Type 0 where
-  pub code-room : length codes′ ≡ 4096
-  pub word-room : length words′ ≡ 1152
+  pub code-room : length codes′ ≡ codeCells
+  pub word-room : length words′ ≡ wordCells
   pub honest : (bs : List ℕ) (es : Scope) → Honest bs es codes words → BarrenIn bs es agenda b → Honest bs es codes′ words′

@@ -1,4 +1,4 @@
--- The rows of the memory: 32 codes and 9 words each. How a row is read back, compared and written.
+-- The rows of the memory: how a row is read back, compared and written.
 use Prim.Native.Nat.{ℕ, _+_, _-_, _*_, _≤_, _<_}
 use mathlib.Core.Path.{_≡_}
 use mathlib.Core.Logic.{_⊎_}
@@ -9,6 +9,19 @@ use Rattle.segment.specs.declared.branch.Branch.{Branch}
 use Rattle.entries.specs.Inner.Masks.{maskSet}
 use Rattle.agenda.specs.Inner.Agenda.{Agenda}
 use Rattle.segment.specs.Inner.Tasks.{agendaOf}
+
+-- How many rows there are, the codes of a row, and the cells of all rows. A row has nine words.
+abbrev pub rowCount : ℕ
+rowCount = 1024
+
+abbrev pub rowWidth : ℕ
+rowWidth = 16
+
+abbrev pub codeCells : ℕ
+codeCells = 16384
+
+abbrev pub wordCells : ℕ
+wordCells = 9216
 
 -- word j of a row
 unfoldable pub wordAt : List ℕ → ℕ → ℕ → ℕ
@@ -32,7 +45,7 @@ unfoldable pub rowRoom : List ℕ → ℕ → ℕ
 rowRoom words row = wordAt words row 8
 
 unfoldable pub rowAgenda : List ℕ → List ℕ → List ℕ → ℕ → Agenda
-rowAgenda bs codes words row = agendaOf bs (drop (row * 32) codes) (rowLen words row)
+rowAgenda bs codes words row = agendaOf bs (drop (row * rowWidth) codes) (rowLen words row)
 
 -- the words of a branch's row: its key and, last, its room
 abbrev pub keyWords : Branch → List ℕ

@@ -1,13 +1,35 @@
--- The engine at the card's goal.
+-- A first run; and where it gives up, one with the prunings.
+use Prim.Native.Nat.{ℕ}
 use native.Mathlib.Omega.{arith}
-use mathlib.Core.Path.{refl, _∙_}
-use lib.ListN.{replicate}
+use mathlib.Core.Path.{_≡_, refl, sym, _∙_}
+use mathlib.Core.Logic.{inl, inr}
+use mathlib.Core.List.{List, [], _∷_}
+use types.Run.{OneOf}
+use denote.Enum.Declared.{tagOf}
 use borrow.Author.Needs.{needs}
-use Rattle.card.proofs.CardChecked.{sound-front}
-use Rattle.search.specs.Inner.Found.{Finds}
-use Rattle.search.proofs.StartFindsFirst.{goal-code, at-goal, asked, answered, first-found, none-found}
+use Rattle.segment.specs.declared.branch.Outcome.{Outcome}
+use Rattle.segment.specs.declared.branch.Outcome.the-variants.{Solved as IsSolved, Stuck as IsStuck, Tired as IsTired}
+use Rattle.segment.specs.Inner.Values.{answerIn, Awake}
+use Rattle.segment.proofs.branch.Outcome.{the-type}
+use Rattle.prune.proofs.StockKept.{stocked-start}
+use Rattle.search.specs.declared.Found.{Found}
+use Rattle.search.specs.Inner.Found.{Finds, Ran, Says}
 use Rattle.search.proofs.first_list.Statement.{statement}
 use Rattle.search.proofs.first_list.Tie as tie
+
+awake : (r : Outcome) → OneOf (0 ∷ 1 ∷ []) (tagOf the-type r) → Awake r
+unfolding Awake
+awake IsSolved k = tt
+awake IsStuck k = tt
+awake IsTired (inl k) = absurd (omega (arith, k))
+awake IsTired (inr k) = absurd (omega (arith, k))
+
+-- what a run says is what is found
+says-finds : (bs tape ws : List ℕ) (r : Outcome) (s : Found) → Ran bs tape (answerIn r ws) → Says ws r s → Finds bs tape s
+unfolding Ran Says Finds answerIn
+says-finds bs tape ws IsSolved s q e = rw e q
+says-finds bs tape ws IsStuck s q e = rw e q
+says-finds bs tape ws IsTired s q e = absurd e
 
 waits-requires : tie.Need-waits-requires
 waits-requires c κs =
@@ -19,95 +41,65 @@ enter-requires c κs =
     let start = c .before .before .before .before in
     (start .pre .0, (refl, refl))
 
-word-requires : tie.Need-word-requires
-word-requires c κs =
-    let start = c .before .before .before .before .before in
-    let f = sound-front (start .args .card .now) (start .pre .0) .whole in omega (arith, f)
+slice-aggregate-run : tie.Need-slice-aggregate-run
+slice-aggregate-run c = search needs
 
-byte-requires : tie.Need-byte-requires
-byte-requires c κs =
-    let start = c .before .before .before .before .before .before in
-    let f = sound-front (start .args .card .now) (start .pre .0) .whole in omega (arith, f)
+slice-aggregate-run-2 : tie.Need-slice-aggregate-run-2
+slice-aggregate-run-2 c = search needs
 
-put-requires : tie.Need-put-requires
-put-requires c κs =
-    let at-byte = c .before in
-    let at-word = at-byte .before in
-    let start = at-word .before .before .before .before .before .before in
-    let g = at-word .word .ensures .0 in
-    let d = at-byte .byte .ensures .0 in
-    let small = goal-code (start .pre .0) in
-    ((omega arith, (omega (arith, small .0), omega (arith, small .1))), refl)
+slice-aggregate-run-3 : tie.Need-slice-aggregate-run-3
+slice-aggregate-run-3 c = search needs
 
-start-requires : tie.Need-start-requires
-start-requires c κs =
-    let start = c .before .before .before .before .before .before .before .before .before in
-    start .pre .0
+slice-aggregate-run-4 : tie.Need-slice-aggregate-run-4
+slice-aggregate-run-4 c = search needs
 
-solve-requires : tie.Need-solve-requires
-solve-requires c κs =
-    let at-start = c .before .before .before .before .before in
-    let at-put = at-start .before in
-    let at-byte = at-put .before .before in
-    let at-word = at-byte .before in
-    let at-enter = at-word .before in
+slice-aggregate-run-5 : tie.Need-slice-aggregate-run-5
+slice-aggregate-run-5 c = search needs
+
+run-requires : tie.Need-run-requires
+run-requires c κs =
+    let at-enter = c .before .before .before .before .before .before .before .before .before .before in
     let at-waits = at-enter .before .before .before in
-    let at-shared-slice-known = at-waits .before in
-    let start = at-shared-slice-known .before in
-    let sound = start .pre .0 in
-    let small = at-shared-slice-known .shared-slice-known .given 10 in
-    let goal = at-goal (replicate 104 0) (at-start .start .ensures) (at-word .word .ensures .0) (at-byte .byte .ensures .0)
-    (at-put .put .ensures) refl in
-    asked sound goal _ _ _ _ (at-enter .enter .ensures .1) (at-waits .waits .ensures) (at-enter .enter .ensures .0) (start .pre .1)
-    (omega arith)
-
-enum-known-found : tie.Need-enum-known-found
-enum-known-found c = search needs
+    let start = at-waits .before .before in (
+      record {
+        sound = start .pre .0;
+        waiting = at-waits .waits .ensures;
+        tape-room = start .pre .1;
+        entered = at-enter .enter .ensures .0;
+        scope = at-enter .enter .ensures .1;
+        way-room = refl;
+      },
+      stocked-start refl refl,
+    )
 
 enum-told : tie.Need-enum-told
 enum-told c = search needs
 
+list-of-requires : tie.Need-list-of-requires
+list-of-requires c κs =
+    let at-run = c .before .before .before .before in
+    (at-run .run .ensures .1 .0 .way-room, awake _ (c .before .match .keys2))
+
 returns : tie.Need-returns
-unfolding Finds
 returns c =
-    let at-found = c .before in
-    let at-solve = at-found .before .before in
-    let at-start = at-solve .before .before .before .before .before .before in
-    let at-put = at-start .before in
-    let at-byte = at-put .before .before in
-    let at-word = at-byte .before in
-    let at-enter = at-word .before in
-    let at-shared-slice-known = at-enter .before .before .before .before in
-    let start = at-shared-slice-known .before in
-    let sound = start .pre .0 in
-    let small = at-shared-slice-known .shared-slice-known .given 10 in
-    let goal = at-goal (replicate 104 0) (at-start .start .ensures) (at-word .word .ensures .0) (at-byte .byte .ensures .0)
-    (at-put .put .ensures) refl in
-    let told = answered sound goal (at-solve .solve .ensures) in (
-      first-found sound (replicate 104 0) refl _ _ (at-enter .enter .ensures .1) told _ (at-found .found .given .1) (omega arith),
-      at-solve .solve .ensures .tape-kept .size ∙ start .pre .1,
-    )
+    let at-run = c .before .before .before .before .before in
+    let q = at-run .run .ensures in
+    (says-finds _ _ _ _ _ (q .0) (c .list-of .ensures), q .1 .0 .tape-room)
+
+pruned-requires : tie.Need-pruned-requires
+pruned-requires c κs =
+    let at-run = c .before .before .before .before .before .before .before .before .before in
+    at-run .run .ensures .1 .0
+
+list-of-requires-2 : tie.Need-list-of-requires-2
+list-of-requires-2 c κs =
+    let q = c .before .pruned .ensures in
+    (q .1 .1 .0, q .1 .1 .1)
 
 returns-2 : tie.Need-returns-2
-unfolding Finds
 returns-2 c =
-    let at-enum-told = c in
-    let at-solve = at-enum-told .before .before in
-    let at-start = at-solve .before .before .before .before .before .before in
-    let at-put = at-start .before in
-    let at-byte = at-put .before .before in
-    let at-word = at-byte .before in
-    let at-enter = at-word .before in
-    let at-shared-slice-known = at-enter .before .before .before .before in
-    let start = at-shared-slice-known .before in
-    let sound = start .pre .0 in
-    let small = at-shared-slice-known .shared-slice-known .given 10 in
-    let goal = at-goal (replicate 104 0) (at-start .start .ensures) (at-word .word .ensures .0) (at-byte .byte .ensures .0)
-    (at-put .put .ensures) refl in
-    let told = answered sound goal (at-solve .solve .ensures) in (
-      none-found sound (replicate 104 0) refl _ _ (at-enter .enter .ensures .1) told (at-enum-told .enum-told .given .1),
-      at-solve .solve .ensures .tape-kept .size ∙ start .pre .1,
-    )
+    let q = c .before .before .pruned .ensures in
+    (says-finds _ _ _ _ _ (q .0) (c .list-of2 .ensures), q .1 .0)
 
 pub first-list-spec : {M : Type 1} → statement M
 first-list-spec =
@@ -115,12 +107,15 @@ first-list-spec =
     (tie.spec
     waits-requires
     enter-requires
-    word-requires
-    byte-requires
-    put-requires
-    start-requires
-    solve-requires
-    enum-known-found
+    slice-aggregate-run
+    slice-aggregate-run-2
+    slice-aggregate-run-3
+    slice-aggregate-run-4
+    slice-aggregate-run-5
+    run-requires
     enum-told
+    list-of-requires
     returns
+    pruned-requires
+    list-of-requires-2
     returns-2)

@@ -24,10 +24,11 @@ use Rattle.agenda.specs.Inner.Sought.{Place, None, Least}
 use Rattle.segment.specs.declared.branch.Branch.{Branch}
 use Rattle.segment.specs.declared.branch.Way.{Way}
 use Rattle.segment.specs.declared.branch.Floor.{Floor}
-use Rattle.segment.specs.declared.branch.Answer.{Answer}
-use Rattle.segment.specs.declared.branch.Answer.the-variants.{Solved, Stuck}
-use Rattle.segment.specs.Inner.Values.{usingB, pastF}
+use Rattle.segment.specs.declared.branch.Outcome.{Outcome}
+use Rattle.segment.specs.declared.branch.Outcome.the-variants.{Solved as IsSolved, Stuck as IsStuck, Tired as IsTired}
+use Rattle.segment.specs.Inner.Values.{Answer, Solved, Stuck, Tired, usingB, pastF}
 use Rattle.segment.specs.Inner.Tasks.{nodeOf, nestOf, agendaOf, Laid}
+use Rattle.prune.specs.Inner.Prune.{Rooted, Stocked}
 use Rattle.search.specs.declared.engine.Sought.{Sought}
 use Rattle.search.specs.declared.engine.Sought.the-variants.{At, Nothing}
 
@@ -67,6 +68,21 @@ givenAt f at tape = drop at (take (f .fixed) tape)
 
 unfoldable pub fromAt : Floor → ℕ → ℕ
 fromAt f at = cond (leb at (f .fixed)) (f .from) 0
+
+-- the least entry to be taken at a place: the given step, or the least after the given ones
+unfoldable pub firstAt : Floor → ℕ → List ℕ → ℕ
+firstAt f at tape = cond (ltb at (f .fixed)) (byteAt tape at) (fromAt f at)
+
+pub record FirstEntry (f : Floor) (at : ℕ) (tape : List ℕ) (first : ℕ) : Type 0 where
+  pub is : first ≡ firstAt f at tape
+  pub low : at < f .fixed → first < 256
+
+-- the entry e is a given step, where `first` is the least to be taken; no floor bears on the place
+unfoldable pub keepsBy : Floor → ℕ → ℕ → ℕ → Bool
+keepsBy f at first e = cond (ltb at (f .fixed)) (eqb e first) false
+
+unfoldable pub openBy : Floor → ℕ → ℕ → Bool
+openBy f at first = cond (ltb at (f .fixed)) false (eqb first 0)
 
 unfoldable pub raisedF : List ℕ → ℕ → Floor
 raisedF tape at = record { fixed = at - 1; from = byteAt tape (at - 1) + 1 }
@@ -165,6 +181,7 @@ pub record Solves (bs : List ℕ) (es : Scope) (A : Agenda) (f : Floor) (b : Bra
 unfoldable pub Told : List ℕ → Scope → Agenda → Floor → Branch → List ℕ → List ℕ → Answer → Type 0
 Told bs es A f b tape tape′ (Solved w) = Solves bs es A f b tape tape′ w
 Told bs es A f b tape tape′ Stuck = None (eligible bs) es A (placeOf (ruleCount bs) f b tape)
+Told bs es A f b tape tape′ Tired = Unit {0}
 
 -- What every function of the engine promises: what it tells of an agenda; the steps before the branch and the entries in scope are kept.
 -- Behind them tape and tables are free: as many places as before.
@@ -191,15 +208,26 @@ pub record Using (bs codes : List ℕ) (e : ℕ) (f : Floor) (b : Branch) (tape 
   pub searched : Searches bs (pushed (topNest codes b - 1) (clauseOf bs (getD nodes e 0)) (agendaOf bs codes (b .len - 1))) f
       (usingB b (ruleCount bs) (lineCount bs) e len) (set tape (b .at) e) tape′ nodes nodes′ heads heads′ r
 
--- the entries from the given one on
-abbrev pub openF : Branch → ℕ → Floor
-openF b first = record { fixed = b .at; from = first }
+-- What the prunings are stocked with, and a place for a way.
+pub record Equipped (bs names table masks codes words way nodes : List ℕ) (n : ℕ) : Type 0 where
+  pub way-room : length way ≡ 9
+  pub rooted : Rooted bs nodes n
+  pub stocked : Stocked bs names table masks codes words
 
--- and that a list found does not keep to given steps
-unfoldable pub Departs : Answer → Type 0
-Departs (Solved w) = w .kept ≡ false
-Departs Stuck = Unit {0}
+-- Only a first run gives up.
+unfoldable pub Weary : Outcome → List ℕ → Type 0
+Weary IsSolved words = Unit {0}
+Weary IsStuck words = Unit {0}
+Weary IsTired words = length words ≡ 1
 
-pub record Above (bs codes : List ℕ) (first : ℕ) (b : Branch) (tape tape′ nodes nodes′ heads heads′ : List ℕ) (r : Answer) : Type 0 where
-  pub searched : Solving bs codes (openF b first) b tape tape′ nodes nodes′ heads heads′ r
-  pub departs : Departs r
+unfoldable pub gives : Bool → Outcome
+gives true = IsTired
+gives false = IsStuck
+
+-- So they stay.
+pub record Stays (bs names table masks codes words codes′ words′ way′ : List ℕ) (r : Outcome) : Type 0 where
+  pub way-room : length way′ ≡ 9
+  pub stocked : Stocked bs names table masks codes′ words′
+  pub code-same : length codes′ ≡ length codes
+  pub same : length words′ ≡ length words
+  pub weary : Weary r words

@@ -1,14 +1,22 @@
 -- What the search finds, in terms of derivations; and the branch it starts from.
 use Prim.Native.Nat.{ℕ, _+_, _≤_}
+use mathlib.Core.Path.{_≡_}
 use mathlib.Core.Bool.{false}
 use mathlib.Core.List.{List}
-use lib.ListN.{take}
+use lib.ListN.{length, take}
 use Rattle.calculus.specs.Job.{Listed, First}
 use Rattle.card.specs.Format.{ruleCount, lineCount, stepLimit}
+use Rattle.card.specs.Fault.{Sound}
 use Rattle.card.specs.Decode.{jobOf}
 use Rattle.lines.specs.Inner.Set.{emptyS, fullS, cutS}
 use Rattle.scope.specs.Inner.Sets.{strictOf}
+use Rattle.entries.specs.Inner.Entries.{scopeIn, Entered}
+use Rattle.entries.specs.Inner.Masks.{Waiting}
+use Rattle.bounds.specs.Inner.Table.{Held, Settled}
 use Rattle.segment.specs.declared.branch.Branch.{Branch}
+use Rattle.segment.specs.declared.branch.Outcome.{Outcome}
+use Rattle.segment.specs.declared.branch.Outcome.the-variants.{Solved as IsSolved, Stuck as IsStuck, Tired as IsTired}
+use Rattle.segment.specs.Inner.Values.{Answer, Solved, Stuck, Tired, wayIn}
 use Rattle.search.specs.declared.Found.{Found}
 use Rattle.search.specs.declared.Found.the-variants.{List as ListOf, Nothing}
 
@@ -21,6 +29,31 @@ pub record FirstOn (bs tape : List ℕ) (k : ℕ) : Type 0 where
 unfoldable pub Finds : List ℕ → List ℕ → Found → Type 0
 Finds bs tape (ListOf k) = FirstOn bs tape k
 Finds bs tape Nothing = (l : List ℕ) → Listed (jobOf bs) l → ⊥
+
+-- What each answer of a run says; one that gave up says nothing.
+unfoldable pub Ran : List ℕ → List ℕ → Answer → Type 0
+Ran bs tape (Solved w) = FirstOn bs tape (w .at)
+Ran bs tape Stuck = (l : List ℕ) → Listed (jobOf bs) l → ⊥
+Ran bs tape Tired = Unit {0}
+
+-- what is found is what the run says
+unfoldable pub Says : List ℕ → Outcome → Found → Type 0
+Says way IsSolved s = s ≡ ListOf (wayIn way .at)
+Says way IsStuck s = s ≡ Nothing
+Says way IsTired s = ⊥
+
+-- What a run starts from: a sound card, its tables in order, and room for a tape and a way.
+pub record Starts (bs waits tape nodes heads way : List ℕ) : Type 0 where
+  pub sound : Sound bs
+  pub waiting : Waiting bs waits
+  pub tape-room : length tape ≡ 255
+  pub entered : Entered bs nodes heads (ruleCount bs + lineCount bs)
+  pub scope : scopeIn bs nodes (ruleCount bs + lineCount bs) ≡ jobOf bs .scope
+  pub way-room : length way ≡ 9
+
+-- The table is settled, or it is not asked.
+pub record Tabled (bs names table masks : List ℕ) : Type 0 where
+  pub settled : length masks ≡ 64 → Held bs names table × Settled bs names table masks
 
 -- The branch at the card's goal: every line at hand, must lines strict.
 unfoldable pub startB : List ℕ → Branch

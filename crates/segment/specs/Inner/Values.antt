@@ -1,13 +1,46 @@
 -- What each change of a branch, of a way and of a floor is.
 use Prim.Native.Nat.{ℕ, _+_, _-_}
 use mathlib.Core.Bool.{Bool, true, false, cond, _&&_, _||_}
-use lib.Dec.{ltb}
+use mathlib.Core.List.{List}
+use lib.ListN.{getD}
+use lib.Dec.{ltb, eqb}
 use Rattle.lines.specs.Inner.Set.{isEmptyS, emptyS, addS, takeS, cutS, joinS}
 use Rattle.segment.specs.declared.branch.Branch.{Branch}
 use Rattle.segment.specs.declared.branch.Way.{Way}
 use Rattle.segment.specs.declared.branch.Floor.{Floor}
-use Rattle.segment.specs.declared.branch.Answer.{Answer}
-use Rattle.segment.specs.declared.branch.Answer.the-variants.{Solved, Stuck}
+use Rattle.segment.specs.declared.branch.Outcome.{Outcome}
+use Rattle.segment.specs.declared.branch.Outcome.the-variants.{Solved as IsSolved, Stuck as IsStuck, Tired as IsTired}
+
+-- What a search answers, with the way that it found.
+pub data Answer : Type 0 where
+  Solved : Way → Answer
+  Stuck : Answer
+  Tired : Answer
+
+-- A way as nine words, and as they are read.
+unfoldable pub flagOf : Bool → ℕ
+flagOf true = 1
+flagOf false = 0
+
+unfoldable pub wayIn : List ℕ → Way
+wayIn words = record {
+  at = getD words 0 0;
+  used = record { low = getD words 1 0; mid = getD words 2 0; high = getD words 3 0 };
+  seen = record { low = getD words 4 0; mid = getD words 5 0; high = getD words 6 0 };
+  slack = eqb (getD words 7 0) 1;
+  kept = eqb (getD words 8 0) 1;
+}
+
+unfoldable pub answerIn : Outcome → List ℕ → Answer
+answerIn IsSolved words = Solved (wayIn words)
+answerIn IsStuck words = Stuck
+answerIn IsTired words = Tired
+
+-- the search has not given up
+unfoldable pub Awake : Outcome → Type 0
+Awake IsSolved = Unit {0}
+Awake IsStuck = Unit {0}
+Awake IsTired = ⊥
 
 unfoldable pub pastF : Floor → Bool → Floor
 pastF f kept = cond kept f (record { fixed = 0; from = 0 })

@@ -26,32 +26,8 @@ classes-requires c κs = search needs
 loop-holds : tie.Need-loop-holds Inv-loop μ-loop
 loop-holds c = search needs
 
-low-step-requires : tie.Need-low-step-requires Inv-loop μ-loop
-low-step-requires c κs = search needs
-
-mul-put : tie.Need-mul-put Inv-loop μ-loop
-mul-put c = search needs
-
-add-put-2 : tie.Need-add-put-2 Inv-loop μ-loop
-add-put-2 c = search needs
-
-put-requires-2 : tie.Need-put-requires-2 Inv-loop μ-loop
-put-requires-2 c κs = search needs
-
-high-step-requires : tie.Need-high-step-requires Inv-loop μ-loop
-high-step-requires c κs = search needs
-
-mul-put-2 : tie.Need-mul-put-2 Inv-loop μ-loop
-mul-put-2 c = search needs
-
-add-put-3 : tie.Need-add-put-3 Inv-loop μ-loop
-add-put-3 c = search needs
-
-add-put-4 : tie.Need-add-put-4 Inv-loop μ-loop
-add-put-4 c = search needs
-
-put-requires-3 : tie.Need-put-requires-3 Inv-loop μ-loop
-put-requires-3 c κs = search needs
+fill-class-requires : tie.Need-fill-class-requires Inv-loop μ-loop
+fill-class-requires c κs = search needs
 
 add-c : tie.Need-add-c Inv-loop μ-loop
 add-c c = search needs
@@ -76,15 +52,7 @@ fill-node-spec =
     put-requires
     classes-requires
     loop-holds
-    low-step-requires
-    mul-put
-    add-put-2
-    put-requires-2
-    high-step-requires
-    mul-put-2
-    add-put-3
-    add-put-4
-    put-requires-3
+    fill-class-requires
     add-c
     loop-less
     loop-again

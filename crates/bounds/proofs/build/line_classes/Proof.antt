@@ -18,10 +18,13 @@ put-name-requires c κs = search needs
 put-name-requires-2 : tie.Need-put-name-requires-2 Inv-loop μ-loop
 put-name-requires-2 c κs = search needs
 
+put-name-requires-3 : tie.Need-put-name-requires-3 Inv-loop μ-loop
+put-name-requires-3 c κs = search needs
+
 byte-requires : tie.Need-byte-requires Inv-loop μ-loop
 byte-requires c κs =
-    let s = c .before .before .before .before .before in
-    let f = sound-front (s .args .card .now) (c .before .before .before .before .before .pre .0) in
+    let s = c .before .before .before .before .before .before .before in
+    let f = sound-front (s .args .card .now) (s .pre .0) in
     search needs
 
 loop-holds : tie.Need-loop-holds Inv-loop μ-loop
@@ -53,6 +56,7 @@ line-classes-spec =
     μ-loop
     put-name-requires
     put-name-requires-2
+    put-name-requires-3
     byte-requires
     loop-holds
     line-at-requires

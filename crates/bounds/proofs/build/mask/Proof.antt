@@ -17,14 +17,17 @@ byte-requires c κs = let s = c .before in let f = sound-front (s .args .card .n
 loop-holds : tie.Need-loop-holds Inv-loop μ-loop
 loop-holds c = search needs
 
+class-requires : tie.Need-class-requires Inv-loop μ-loop
+class-requires c κs = search needs
+
 line-at-requires : tie.Need-line-at-requires Inv-loop μ-loop
 line-at-requires c κs = search needs
 
 head-requires : tie.Need-head-requires Inv-loop μ-loop
 head-requires c κs = search needs
 
-class-requires : tie.Need-class-requires Inv-loop μ-loop
-class-requires c κs = search needs
+of-head-requires : tie.Need-of-head-requires Inv-loop μ-loop
+of-head-requires c κs = search needs
 
 shl-m : tie.Need-shl-m Inv-loop μ-loop
 shl-m c = search needs
@@ -49,9 +52,10 @@ mask-spec =
     μ-loop
     byte-requires
     loop-holds
+    class-requires
     line-at-requires
     head-requires
-    class-requires
+    of-head-requires
     shl-m
     add-i
     loop-less

@@ -1,9 +1,10 @@
 -- One case for each kind.
 use Prim.Native.Nat.{_+_, _-_, min}
-use native.Mathlib.Omega.{arith}
 use mathlib.Core.Path.{sym, _∙_, ap, ap₂}
 use borrow.Author.Needs.{needs}
 use Rattle.bounds.proofs.StepsByKind.{high-name, high-done, high-lend, high-either, high-recipe, high-both, high-rest, off-less}
+use Rattle.bounds.proofs.StepsByKind.{byte-small, under-small, sum-small, part-small, min-small, zero-small, top-small}
+use Rattle.bounds.proofs.StepsByKind.{same-low, same-high}
 use Rattle.bounds.specs.Inner.Table.{highAt, rowOf, ifRecipe, inClass}
 use Rattle.bounds.specs.Inner.Count.{bit}
 use Rattle.bounds.specs.Inner.Bound.{off}
@@ -34,7 +35,7 @@ returns c =
     let k = c .before .before .before .before .before .before .kind-at .ensures in (
       c .high .ensures .0 ∙ ap (λ x. highAt t x m) (c .before .row .ensures .0 ∙ ap (rowOf ns) (c .before .before .name-at .ensures .0))
           ∙ sym (high-name bs ns t i m (sym k ∙ c .before .before .before .before .before .if1 .taken)),
-      omega (arith, c .high .ensures .1),
+      byte-small _ (c .high .ensures .1),
     )
 
 returns-2 : tie.Need-returns-2
@@ -46,7 +47,7 @@ returns-2 c =
     let i = s .args .i in
     let m = s .args .c in
     let k = c .before .before .kind-at .ensures in
-    (sym (high-rest bs ns t i m (sym k ∙ c .if2 .taken)), omega arith)
+    (sym (high-rest bs ns t i m (sym k ∙ c .if2 .taken)), top-small)
 
 returns-3 : tie.Need-returns-3
 returns-3 c =
@@ -59,8 +60,8 @@ returns-3 c =
     let k = c .before .before .before .kind-at .ensures in (
       sym
           (high-done bs ns t i m (λ p. c .before .before .if1 .left (k ∙ p)) (λ p. c .before .if2 .left (k ∙ p))
-          (omega (arith, c .if3 .taken))),
-      omega arith,
+          (same-low _ _ 4 k (c .if3 .taken))),
+      zero-small,
     )
 
 left-part-requires : tie.Need-left-part-requires
@@ -97,7 +98,7 @@ returns-4 c =
     let e =
     off-less _ _ (inClass ns (leftAt bs i) m) (λ h. o .1 .0 h ∙ ap (λ x. c .before .before .before .high2 .result - x) w) (o .1 .1) in (
       e ∙ ap (λ x. off x (inClass ns (leftAt bs i) m)) r ∙ sym (high-lend bs ns t i m (sym k ∙ c .before .before .if4 .taken)),
-      omega (arith, o .0, c .before .before .before .high2 .ensures .1),
+      under-small _ _ (o .0) (c .before .before .before .high2 .ensures .1),
     )
 
 high-requires-3 : tie.Need-high-requires-3
@@ -122,7 +123,7 @@ returns-5 c =
     c .before .before .high3 .ensures .0
     ∙ ap (λ x. highAt t x m) (c .before .before .before .before .before .before .before .before .left-part .ensures .0) in (
       c .lesser .ensures ∙ ap₂ min l r ∙ sym (high-either bs ns t i m (sym k ∙ c .before .if5 .taken)),
-      omega (arith, c .lesser .ensures, c .before .before .before .before .before .high2 .ensures .1, c .before .before .high3 .ensures .1),
+      rw (c .lesser .ensures) (min-small _ _ (c .before .before .high3 .ensures .1)),
     )
 
 if-recipe-requires : tie.Need-if-recipe-requires
@@ -150,12 +151,8 @@ returns-6 c =
     c .if-recipe .ensures .0
     ∙ ap₂ (ifRecipe bs) (c .before .before .before .before .before .before .before .before .right-part .ensures .0) r in (
       ap₂ _+_ l q ∙ sym (high-recipe bs ns t i m (sym k ∙ c .before .if6 .taken)),
-      omega (
-        arith,
-        c .before .before .before .before .before .before .high2 .ensures .1,
-        c .before .before .before .high3 .ensures .1,
-        c .if-recipe .ensures .1,
-      ),
+      part-small _ _ _ (c .before .before .before .high3 .ensures .1) (c .if-recipe .ensures .1)
+          (c .before .before .before .before .before .before .high2 .ensures .1),
     )
 
 add-result-2 : tie.Need-add-result-2
@@ -178,9 +175,9 @@ returns-7 c =
     ∙ ap (λ x. highAt t x m) (c .before .before .before .before .before .before .before .before .left-part .ensures .0) in (
       ap₂ _+_ l r
           ∙ sym
-          (high-both bs ns t i m (λ p. omega (arith, c .before .before .before .before .before .before .before .before .before .if3 .left))
+          (high-both bs ns t i m (same-high _ _ 4 k (c .before .before .before .before .before .before .before .before .before .if3 .left))
           (λ p. c .before .if5 .left (k ∙ p)) (λ p. c .before .before .before .before .if4 .left (k ∙ p)) (λ p. c .if6 .left (k ∙ p))),
-      omega (arith, c .before .before .before .before .before .high2 .ensures .1, c .before .before .high3 .ensures .1),
+      sum-small _ _ (c .before .before .high3 .ensures .1) (c .before .before .before .before .before .high2 .ensures .1),
     )
 
 pub high-step-spec : {M : Type 1} → statement M

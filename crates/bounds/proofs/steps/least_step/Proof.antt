@@ -1,9 +1,9 @@
 -- One case for each kind.
 use Prim.Native.Nat.{_+_}
-use native.Mathlib.Omega.{arith}
 use mathlib.Core.Path.{sym, _∙_, ap, ap₂}
 use borrow.Author.Needs.{needs}
 use Rattle.bounds.proofs.StepsByKind.{least-name, least-done, least-lend, least-recipe, least-both}
+use Rattle.bounds.proofs.StepsByKind.{byte-small, sum-small, part-small, zero-small, same-low, same-high}
 use Rattle.bounds.specs.Inner.Table.{leastAt, rowOf, ifRecipe}
 use Rattle.bounds.proofs.steps.least_step.Statement.{statement}
 use Rattle.bounds.proofs.steps.least_step.Tie as tie
@@ -30,7 +30,7 @@ returns c =
     let k = c .before .before .before .before .before .before .kind-at .ensures in (
       c .least .ensures .0 ∙ ap (leastAt t) (c .before .row .ensures .0 ∙ ap (rowOf ns) (c .before .before .name-at .ensures .0))
           ∙ sym (least-name bs ns t i (sym k ∙ c .before .before .before .before .before .if1 .taken)),
-      omega (arith, c .least .ensures .1),
+      byte-small _ (c .least .ensures .1),
     )
 
 returns-2 : tie.Need-returns-2
@@ -41,7 +41,7 @@ returns-2 c =
     let t = s .args .table .now in
     let i = s .args .i in
     let k = c .before .before .kind-at .ensures in
-    (sym (least-done bs ns t i (λ p. c .before .if1 .left (k ∙ p)) (omega (arith, c .if2 .taken))), omega arith)
+    (sym (least-done bs ns t i (λ p. c .before .if1 .left (k ∙ p)) (same-low _ _ 4 k (c .if2 .taken))), zero-small)
 
 right-part-requires : tie.Need-right-part-requires
 right-part-requires c κs = search needs
@@ -59,7 +59,7 @@ returns-3 c =
     let k = c .before .before .before .before .before .before .kind-at .ensures in (
       c .before .least2 .ensures .0 ∙ ap (leastAt t) (c .before .before .before .right-part .ensures .0)
           ∙ sym (least-lend bs ns t i (sym k ∙ c .if3 .taken)),
-      omega (arith, c .before .least2 .ensures .1),
+      byte-small _ (c .before .least2 .ensures .1),
     )
 
 left-part-requires : tie.Need-left-part-requires
@@ -90,12 +90,8 @@ returns-4 c =
     c .if-recipe .ensures .0
     ∙ ap₂ (ifRecipe bs) (c .before .before .before .before .before .before .before .before .right-part .ensures .0) r in (
       ap₂ _+_ l q ∙ sym (least-recipe bs ns t i (sym k ∙ c .before .if4 .taken)),
-      omega (
-        arith,
-        c .before .before .before .before .before .before .least2 .ensures .1,
-        c .before .before .least3 .ensures .1,
-        c .if-recipe .ensures .1,
-      ),
+      part-small _ _ _ (c .before .before .least3 .ensures .1) (c .if-recipe .ensures .1)
+          (c .before .before .before .before .before .before .least2 .ensures .1),
     )
 
 add-result-2 : tie.Need-add-result-2
@@ -115,9 +111,9 @@ returns-5 c =
     let l = c .before .least3 .ensures .0 ∙ ap (leastAt t) (c .before .before .left-part .ensures .0) in (
       ap₂ _+_ l r
           ∙ sym
-          (least-both bs ns t i (λ p. omega (arith, c .before .before .before .before .before .before .before .before .if2 .left))
+          (least-both bs ns t i (same-high _ _ 4 k (c .before .before .before .before .before .before .before .before .if2 .left))
           (λ p. c .before .before .before .before .if3 .left (k ∙ p)) (λ p. c .if4 .left (k ∙ p))),
-      omega (arith, c .before .before .before .before .before .least2 .ensures .1, c .before .least3 .ensures .1),
+      sum-small _ _ (c .before .least3 .ensures .1) (c .before .before .before .before .before .least2 .ensures .1),
     )
 
 pub least-step-spec : {M : Type 1} → statement M

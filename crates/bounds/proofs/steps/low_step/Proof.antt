@@ -1,9 +1,10 @@
 -- One case for each kind.
 use Prim.Native.Nat.{_+_, _-_, max}
-use native.Mathlib.Omega.{arith}
 use mathlib.Core.Path.{sym, _∙_, ap, ap₂}
 use borrow.Author.Needs.{needs}
 use Rattle.bounds.proofs.StepsByKind.{low-name, low-done, low-lend, low-either, low-recipe, low-both}
+use Rattle.bounds.proofs.StepsByKind.{byte-small, less-small, sum-small, part-small, max-small, zero-small}
+use Rattle.bounds.proofs.StepsByKind.{same-low, same-high}
 use Rattle.bounds.specs.Inner.Table.{lowAt, rowOf, ifRecipe, inClass}
 use Rattle.bounds.specs.Inner.Count.{bit}
 use Rattle.bounds.proofs.steps.low_step.Statement.{statement}
@@ -32,7 +33,7 @@ returns c =
     let k = c .before .before .before .before .before .before .kind-at .ensures in (
       c .low .ensures .0 ∙ ap (λ x. lowAt t x m) (c .before .row .ensures .0 ∙ ap (rowOf ns) (c .before .before .name-at .ensures .0))
           ∙ sym (low-name bs ns t i m (sym k ∙ c .before .before .before .before .before .if1 .taken)),
-      omega (arith, c .low .ensures .1),
+      byte-small _ (c .low .ensures .1),
     )
 
 returns-2 : tie.Need-returns-2
@@ -44,7 +45,7 @@ returns-2 c =
     let i = s .args .i in
     let m = s .args .c in
     let k = c .before .before .kind-at .ensures in
-    (sym (low-done bs ns t i m (λ p. c .before .if1 .left (k ∙ p)) (omega (arith, c .if2 .taken))), omega arith)
+    (sym (low-done bs ns t i m (λ p. c .before .if1 .left (k ∙ p)) (same-low _ _ 4 k (c .if2 .taken))), zero-small)
 
 left-part-requires : tie.Need-left-part-requires
 left-part-requires c κs = search needs
@@ -77,7 +78,7 @@ returns-3 c =
     c .before .weight .ensures .0
     ∙ ap (λ x. bit (inClass ns x m)) (c .before .before .before .before .before .before .left-part .ensures .0) in (
       c .less .ensures ∙ ap₂ _-_ r w ∙ sym (low-lend bs ns t i m (sym k ∙ c .before .before .if3 .taken)),
-      omega (arith, c .less .ensures, c .before .before .before .low2 .ensures .1),
+      rw (c .less .ensures) (less-small _ _ (c .before .before .before .low2 .ensures .1)),
     )
 
 low-requires-3 : tie.Need-low-requires-3
@@ -102,7 +103,8 @@ returns-4 c =
     c .before .before .low3 .ensures .0
     ∙ ap (λ x. lowAt t x m) (c .before .before .before .before .before .before .before .before .left-part .ensures .0) in (
       c .greater .ensures ∙ ap₂ max l r ∙ sym (low-either bs ns t i m (sym k ∙ c .before .if4 .taken)),
-      omega (arith, c .greater .ensures, c .before .before .before .before .before .low2 .ensures .1, c .before .before .low3 .ensures .1),
+      rw (c .greater .ensures)
+          (max-small _ _ (c .before .before .low3 .ensures .1) (c .before .before .before .before .before .low2 .ensures .1)),
     )
 
 if-recipe-requires : tie.Need-if-recipe-requires
@@ -130,12 +132,8 @@ returns-5 c =
     c .if-recipe .ensures .0
     ∙ ap₂ (ifRecipe bs) (c .before .before .before .before .before .before .before .before .right-part .ensures .0) r in (
       ap₂ _+_ l q ∙ sym (low-recipe bs ns t i m (sym k ∙ c .before .if5 .taken)),
-      omega (
-        arith,
-        c .before .before .before .before .before .before .low2 .ensures .1,
-        c .before .before .before .low3 .ensures .1,
-        c .if-recipe .ensures .1,
-      ),
+      part-small _ _ _ (c .before .before .before .low3 .ensures .1) (c .if-recipe .ensures .1)
+          (c .before .before .before .before .before .before .low2 .ensures .1),
     )
 
 add-result-2 : tie.Need-add-result-2
@@ -158,9 +156,9 @@ returns-6 c =
     ∙ ap (λ x. lowAt t x m) (c .before .before .before .before .before .before .before .before .left-part .ensures .0) in (
       ap₂ _+_ l r
           ∙ sym
-          (low-both bs ns t i m (λ p. omega (arith, c .before .before .before .before .before .before .before .before .before .if2 .left))
+          (low-both bs ns t i m (same-high _ _ 4 k (c .before .before .before .before .before .before .before .before .before .if2 .left))
           (λ p. c .before .if4 .left (k ∙ p)) (λ p. c .before .before .before .before .if3 .left (k ∙ p)) (λ p. c .if5 .left (k ∙ p))),
-      omega (arith, c .before .before .before .before .before .low2 .ensures .1, c .before .before .low3 .ensures .1),
+      sum-small _ _ (c .before .before .low3 .ensures .1) (c .before .before .before .before .before .low2 .ensures .1),
     )
 
 pub low-step-spec : {M : Type 1} → statement M

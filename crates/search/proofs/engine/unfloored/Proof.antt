@@ -1,0 +1,23 @@
+-- By whether there is a given step.
+use Prim.Native.Nat.{ℕ}
+use native.Mathlib.Omega.{arith}
+use mathlib.Core.Path.{refl, sym, ap}
+use mathlib.Core.Bool.{Bool, cond, false}
+use lib.Dec.{eqb}
+use borrow.Author.Tests.{lt-ltb, le-ltb}
+use Rattle.search.specs.Inner.Engine.{openBy}
+use Rattle.search.proofs.engine.unfloored.Statement.{statement}
+use Rattle.search.proofs.engine.unfloored.Tie as tie
+
+returns : tie.Need-returns
+unfolding openBy
+returns c = rw (lt-ltb _ _ (c .if1 .taken)) refl
+
+returns-2 : tie.Need-returns-2
+unfolding openBy
+returns-2 c =
+    let start = c .before .before in
+    rw (le-ltb (start .args .at) (start .args .f .fixed) (let h = c .if1 .left in omega (arith, h))) refl
+
+pub unfloored-spec : {M : Type 1} → statement M
+unfloored-spec = tie.close (tie.spec returns returns-2)
