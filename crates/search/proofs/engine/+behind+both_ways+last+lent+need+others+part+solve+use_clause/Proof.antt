@@ -395,10 +395,14 @@ behind-last-requires t c κs =
     )
 
 behind-same-length : (t : ℕ) → behind-lts.Need-same-length (behind-claims t) (behind-at t) behind.Post behind-Inv-loop behind-μ-loop
-behind-same-length t c = search needs
+behind-same-length t c =
+    let at-last = c .before .before .before .before in
+    at-last .last .ensures .1 .code-same
 
 behind-same-length-2 : (t : ℕ) → behind-lts.Need-same-length-2 (behind-claims t) (behind-at t) behind.Post behind-Inv-loop behind-μ-loop
-behind-same-length-2 t c = search needs
+behind-same-length-2 t c =
+    let at-last = c .before .before .before .before in
+    at-last .last .ensures .1 .same
 
 behind-returns : (t : ℕ) → behind-lts.Need-returns (behind-claims t) (behind-at t) behind.Post behind-Inv-loop behind-μ-loop
 behind-returns t c =
@@ -1049,10 +1053,14 @@ last-enum-told : (t : ℕ) → last-lts.Need-enum-told (last-claims t) (last-at 
 last-enum-told t c = search needs
 
 last-same-length : (t : ℕ) → last-lts.Need-same-length (last-claims t) (last-at t) last.Post
-last-same-length t c = search needs
+last-same-length t c =
+    let at-part = c .before .before .before .before .before in
+    at-part .part .ensures .1 .code-same
 
 last-same-length-2 : (t : ℕ) → last-lts.Need-same-length-2 (last-claims t) (last-at t) last.Post
-last-same-length-2 t c = search needs
+last-same-length-2 t c =
+    let at-part = c .before .before .before .before .before in
+    at-part .part .ensures .1 .same
 
 last-returns : (t : ℕ) → last-lts.Need-returns (last-claims t) (last-at t) last.Post
 last-returns t c =
@@ -1077,10 +1085,14 @@ last-put-way-requires t c κs =
     at-part .part .ensures .1 .way-room
 
 last-same-length-3 : (t : ℕ) → last-lts.Need-same-length-3 (last-claims t) (last-at t) last.Post
-last-same-length-3 t c = search needs
+last-same-length-3 t c =
+    let at-part = c .before .before .before .before .before .before .before .before .before .before .before in
+    at-part .part .ensures .1 .code-same
 
 last-same-length-4 : (t : ℕ) → last-lts.Need-same-length-4 (last-claims t) (last-at t) last.Post
-last-same-length-4 t c = search needs
+last-same-length-4 t c =
+    let at-part = c .before .before .before .before .before .before .before .before .before .before .before in
+    at-part .part .ensures .1 .same
 
 last-returns-2 : (t : ℕ) → last-lts.Need-returns-2 (last-claims t) (last-at t) last.Post
 unfolding answerIn
@@ -1164,10 +1176,14 @@ lent-enum-told : (t : ℕ) → lent-lts.Need-enum-told (lent-claims t) (lent-at 
 lent-enum-told t c = search needs
 
 lent-same-length : (t : ℕ) → lent-lts.Need-same-length (lent-claims t) (lent-at t) lent.Post
-lent-same-length t c = search needs
+lent-same-length t c =
+    let at-solve = c .before .before .before .before .before in
+    at-solve .solve .ensures .1 .code-same
 
 lent-same-length-2 : (t : ℕ) → lent-lts.Need-same-length-2 (lent-claims t) (lent-at t) lent.Post
-lent-same-length-2 t c = search needs
+lent-same-length-2 t c =
+    let at-solve = c .before .before .before .before .before in
+    at-solve .solve .ensures .1 .same
 
 lent-returns : (t : ℕ) → lent-lts.Need-returns (lent-claims t) (lent-at t) lent.Post
 lent-returns t c =
@@ -1201,10 +1217,14 @@ lent-put-way-requires t c κs =
     at-solve .solve .ensures .1 .way-room
 
 lent-same-length-3 : (t : ℕ) → lent-lts.Need-same-length-3 (lent-claims t) (lent-at t) lent.Post
-lent-same-length-3 t c = search needs
+lent-same-length-3 t c =
+    let at-solve = c .before .before .before .before .before .before .before .before .before .before .before in
+    at-solve .solve .ensures .1 .code-same
 
 lent-same-length-4 : (t : ℕ) → lent-lts.Need-same-length-4 (lent-claims t) (lent-at t) lent.Post
-lent-same-length-4 t c = search needs
+lent-same-length-4 t c =
+    let at-solve = c .before .before .before .before .before .before .before .before .before .before .before in
+    at-solve .solve .ensures .1 .same
 
 lent-returns-2 : (t : ℕ) → lent-lts.Need-returns-2 (lent-claims t) (lent-at t) lent.Post
 unfolding answerIn
@@ -1262,10 +1282,10 @@ need-doomed-requires t c κs =
     (asks (start .pre .1 .0) (start .pre .1 .1 .0) ((start .pre .1 .1 .1) .rooted), (start .pre .1 .1 .1) .stocked)
 
 need-same-length : (t : ℕ) → need-lts.Need-same-length (need-claims t) (need-at t) need.Post
-need-same-length t c = search needs
+need-same-length t c = refl
 
 need-same-length-2 : (t : ℕ) → need-lts.Need-same-length-2 (need-claims t) (need-at t) need.Post
-need-same-length-2 t c = search needs
+need-same-length-2 t c = refl
 
 need-returns-3 : (t : ℕ) → need-lts.Need-returns-3 (need-claims t) (need-at t) need.Post
 unfolding answerIn
@@ -1292,10 +1312,14 @@ need-others-requires t c κs =
     (omega arith, ((start .pre .1 .0), ((N, at-first-at .first-at .ensures), (start .pre .1 .1 .1))))
 
 need-same-length-3 : (t : ℕ) → need-lts.Need-same-length-3 (need-claims t) (need-at t) need.Post
-need-same-length-3 t c = search needs
+need-same-length-3 t c =
+    let at-others = c .before .before .before .before in
+    at-others .others .ensures .1 .code-same
 
 need-same-length-4 : (t : ℕ) → need-lts.Need-same-length-4 (need-claims t) (need-at t) need.Post
-need-same-length-4 t c = search needs
+need-same-length-4 t c =
+    let at-others = c .before .before .before .before in
+    at-others .others .ensures .1 .same
 
 need-returns-4 : (t : ℕ) → need-lts.Need-returns-4 (need-claims t) (need-at t) need.Post
 need-returns-4 t c =
@@ -1553,10 +1577,14 @@ part-both-ways-requires t c κs =
     )
 
 part-same-length : (t : ℕ) → part-lts.Need-same-length (part-claims t) (part-at t) part.Post
-part-same-length t c = search needs
+part-same-length t c =
+    let at-both-ways = c .before .before .before .before in
+    at-both-ways .both-ways .ensures .1 .code-same
 
 part-same-length-2 : (t : ℕ) → part-lts.Need-same-length-2 (part-claims t) (part-at t) part.Post
-part-same-length-2 t c = search needs
+part-same-length-2 t c =
+    let at-both-ways = c .before .before .before .before in
+    at-both-ways .both-ways .ensures .1 .same
 
 part-returns : (t : ℕ) → part-lts.Need-returns (part-claims t) (part-at t) part.Post
 part-returns t c =
@@ -1573,10 +1601,14 @@ part-lent-requires t c κs =
     )
 
 part-same-length-3 : (t : ℕ) → part-lts.Need-same-length-3 (part-claims t) (part-at t) part.Post
-part-same-length-3 t c = search needs
+part-same-length-3 t c =
+    let at-lent = c .before .before .before .before in
+    at-lent .lent .ensures .1 .code-same
 
 part-same-length-4 : (t : ℕ) → part-lts.Need-same-length-4 (part-claims t) (part-at t) part.Post
-part-same-length-4 t c = search needs
+part-same-length-4 t c =
+    let at-lent = c .before .before .before .before in
+    at-lent .lent .ensures .1 .same
 
 part-returns-2 : (t : ℕ) → part-lts.Need-returns-2 (part-claims t) (part-at t) part.Post
 part-returns-2 t c =
@@ -1654,10 +1686,14 @@ solve-need-requires t c κs =
     )
 
 solve-same-length : (t : ℕ) → solve-lts.Need-same-length (solve-claims t) (solve-at t) solve.Post
-solve-same-length t c = search needs
+solve-same-length t c =
+    let at-need = c .before .before .before .before in
+    at-need .need .ensures .1 .code-same
 
 solve-same-length-2 : (t : ℕ) → solve-lts.Need-same-length-2 (solve-claims t) (solve-at t) solve.Post
-solve-same-length-2 t c = search needs
+solve-same-length-2 t c =
+    let at-need = c .before .before .before .before in
+    at-need .need .ensures .1 .same
 
 solve-returns-2 : (t : ℕ) → solve-lts.Need-returns-2 (solve-claims t) (solve-at t) solve.Post
 solve-returns-2 t c =
@@ -1689,10 +1725,14 @@ solve-behind-requires t c κs =
     )
 
 solve-same-length-3 : (t : ℕ) → solve-lts.Need-same-length-3 (solve-claims t) (solve-at t) solve.Post
-solve-same-length-3 t c = search needs
+solve-same-length-3 t c =
+    let at-behind = c .before .before .before .before in
+    at-behind .behind .ensures .1 .code-same
 
 solve-same-length-4 : (t : ℕ) → solve-lts.Need-same-length-4 (solve-claims t) (solve-at t) solve.Post
-solve-same-length-4 t c = search needs
+solve-same-length-4 t c =
+    let at-behind = c .before .before .before .before in
+    at-behind .behind .ensures .1 .same
 
 solve-returns-3 : (t : ℕ) → solve-lts.Need-returns-3 (solve-claims t) (solve-at t) solve.Post
 solve-returns-3 t c =
@@ -1777,10 +1817,14 @@ use-clause-solve-requires t c κs =
     (asked .0, (asked .1 .0, (asked .1 .1, equipped-at (using-count _ _ _ _ _ _ (at-using .«using» .ensures)) (start .pre .1 .1 .1))))
 
 use-clause-same-length : (t : ℕ) → use-clause-lts.Need-same-length (use-clause-claims t) (use-clause-at t) use-clause.Post
-use-clause-same-length t c = search needs
+use-clause-same-length t c =
+    let at-solve = c .before .before .before .before in
+    at-solve .solve .ensures .1 .code-same
 
 use-clause-same-length-2 : (t : ℕ) → use-clause-lts.Need-same-length-2 (use-clause-claims t) (use-clause-at t) use-clause.Post
-use-clause-same-length-2 t c = search needs
+use-clause-same-length-2 t c =
+    let at-solve = c .before .before .before .before in
+    at-solve .solve .ensures .1 .same
 
 use-clause-returns : (t : ℕ) → use-clause-lts.Need-returns (use-clause-claims t) (use-clause-at t) use-clause.Post
 use-clause-returns t c =
