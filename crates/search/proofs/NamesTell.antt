@@ -50,7 +50,8 @@ use Rattle.search.specs.declared.engine.Sought.{Sought as Found}
 use Rattle.search.specs.declared.engine.Sought.the-variants.{At, Nothing}
 use Rattle.search.specs.Inner.Engine.{atHandBy, takableBy, Testing, SeeksAt, Seeks, givenAt, fromAt, placeOf, Ready, topNode}
 use Rattle.search.specs.Inner.Engine.{topNest}
-use Rattle.search.specs.Inner.Engine.{NameNext, NameOpen, CanUse, found, Solves, Told, Searches, Solving, Using, FirstEntry, firstAt, keepsBy, openBy, gives}
+use Rattle.search.specs.Inner.Engine.{NameNext, NameOpen, CanUse, found, Solves, Told, Searches, Solving, Using}
+use Rattle.search.specs.Inner.Engine.{FirstEntry, firstAt, keepsBy, openBy, gives}
 use Rattle.dead.specs.Inner.Barren.{BarrenIn}
 use Rattle.dead.proofs.DeadStaysDead.{none-barren}
 use Rattle.prune.specs.Inner.Prune.{Rooted, Asks, Doom}
@@ -1122,7 +1123,8 @@ module _ {bs waits codes tape₀ nodes₀ heads₀ : List ℕ} {f : Floor} {b : 
             above-round h (sym q₁ ∙ q) (subst (λ y. Tries bs codes tape₀ nodes₀ f b (suc y)) q₁ t) tape′ nodes′ heads′ tp nd hd
             (turn-start (ready-above h tp nd hd) m (em ∙ let z : e + 1 ≡ suc first = omega arith in z))
 
-    pub round-found : {tape′ nodes′ heads′ : List ℕ} → (w : Way) → Using bs codes e g b tape tape′ nodes nodes′ heads heads′ (Solved w) → (u : Way) → u ≡ followingW w same
+    pub round-found : {tape′ nodes′ heads′ : List ℕ} → (w : Way) → Using bs codes e g b tape tape′ nodes nodes′ heads heads′
+        (Solved w) → (u : Way) → u ≡ followingW w same
         → Solving bs codes f b tape₀ tape′ nodes₀ nodes′ heads₀ heads′ (Solved u)
     unfolding Seeks
     round-found {tape′} {nodes′} {heads′} w X u eu = at (at-step s L)

@@ -176,8 +176,9 @@ pub fn solve(
     requires { ⌜ Laid (now card) (now agenda) (b .len) (b .count) ⌝ }
     requires { ⌜ Equipped (now card) (now names) (now table) (now masks) (now codes) (now words) (now way)
         (now nodes) (b .count) ⌝ }
-    ensures { λ r. ⌜ Solving (now (card .entry)) (now (agenda .entry)) f b (now (tape .entry)) (now (tape .exit)) (now (nodes .entry))
-        (now (nodes .exit)) (now (heads .entry)) (now (heads .exit)) (answerIn r (now (way .exit))) ⌝ }
+    ensures { λ r. ⌜ Solving (now (card .entry)) (now (agenda .entry)) f b (now (tape .entry)) (now (tape .exit))
+        (now (nodes .entry)) (now (nodes .exit)) (now (heads .entry)) (now (heads .exit))
+        (answerIn r (now (way .exit))) ⌝ }
     ensures { λ r. ⌜ Stays (now (card .entry)) (now (names .entry)) (now (table .entry)) (now (masks .entry))
         (now (codes .entry)) (now (words .entry)) (now (codes .exit)) (now (words .exit)) (now (way .exit)) r ⌝ }
 {
@@ -243,8 +244,9 @@ fn need(
     requires { ⌜ NameNext (now card) (now agenda) b ⌝ }
     requires { ⌜ Equipped (now card) (now names) (now table) (now masks) (now codes) (now words) (now way)
         (now nodes) (b .count) ⌝ }
-    ensures { λ r. ⌜ Solving (now (card .entry)) (now (agenda .entry)) f b (now (tape .entry)) (now (tape .exit)) (now (nodes .entry))
-        (now (nodes .exit)) (now (heads .entry)) (now (heads .exit)) (answerIn r (now (way .exit))) ⌝ }
+    ensures { λ r. ⌜ Solving (now (card .entry)) (now (agenda .entry)) f b (now (tape .entry)) (now (tape .exit))
+        (now (nodes .entry)) (now (nodes .exit)) (now (heads .entry)) (now (heads .exit))
+        (answerIn r (now (way .exit))) ⌝ }
     ensures { λ r. ⌜ Stays (now (card .entry)) (now (names .entry)) (now (table .entry)) (now (masks .entry))
         (now (codes .entry)) (now (words .entry)) (now (codes .exit)) (now (words .exit)) (now (way .exit)) r ⌝ }
 {
@@ -301,8 +303,9 @@ fn others(
     requires { ⌜ NameOpen (now card) (now agenda) b × FirstEntry f (b .at) (now tape) first ⌝ }
     requires { ⌜ Equipped (now card) (now names) (now table) (now masks) (now codes) (now words) (now way)
         (now nodes) (b .count) ⌝ }
-    ensures { λ r. ⌜ Solving (now (card .entry)) (now (agenda .entry)) f b (now (tape .entry)) (now (tape .exit)) (now (nodes .entry))
-        (now (nodes .exit)) (now (heads .entry)) (now (heads .exit)) (answerIn r (now (way .exit))) ⌝ }
+    ensures { λ r. ⌜ Solving (now (card .entry)) (now (agenda .entry)) f b (now (tape .entry)) (now (tape .exit))
+        (now (nodes .entry)) (now (nodes .exit)) (now (heads .entry)) (now (heads .exit))
+        (answerIn r (now (way .exit))) ⌝ }
     ensures { λ r. ⌜ Stays (now (card .entry)) (now (names .entry)) (now (table .entry)) (now (masks .entry))
         (now (codes .entry)) (now (words .entry)) (now (codes .exit)) (now (words .exit)) (now (way .exit)) r ⌝ }
 {
@@ -375,8 +378,9 @@ fn use_clause(
     requires { ⌜ CanUse (now card) (now waits) (now heads) (now agenda) b e ⌝ }
     requires { ⌜ Equipped (now card) (now names) (now table) (now masks) (now codes) (now words) (now way)
         (now nodes) (b .count) ⌝ }
-    ensures { λ r. ⌜ Using (now (card .entry)) (now (agenda .entry)) e f b (now (tape .entry)) (now (tape .exit)) (now (nodes .entry))
-        (now (nodes .exit)) (now (heads .entry)) (now (heads .exit)) (answerIn r (now (way .exit))) ⌝ }
+    ensures { λ r. ⌜ Using (now (card .entry)) (now (agenda .entry)) e f b (now (tape .entry)) (now (tape .exit))
+        (now (nodes .entry)) (now (nodes .exit)) (now (heads .entry)) (now (heads .exit))
+        (answerIn r (now (way .exit))) ⌝ }
     ensures { λ r. ⌜ Stays (now (card .entry)) (now (names .entry)) (now (table .entry)) (now (masks .entry))
         (now (codes .entry)) (now (words .entry)) (now (codes .exit)) (now (words .exit)) (now (way .exit)) r ⌝ }
 {
@@ -426,8 +430,9 @@ fn behind(
     requires { ⌜ PartNext (now card) (now agenda) b ⌝ }
     requires { ⌜ Equipped (now card) (now names) (now table) (now masks) (now codes) (now words) (now way)
         (now nodes) (b .count) ⌝ }
-    ensures { λ r. ⌜ Solving (now (card .entry)) (now (agenda .entry)) f b (now (tape .entry)) (now (tape .exit)) (now (nodes .entry))
-        (now (nodes .exit)) (now (heads .entry)) (now (heads .exit)) (answerIn r (now (way .exit))) ⌝ }
+    ensures { λ r. ⌜ Solving (now (card .entry)) (now (agenda .entry)) f b (now (tape .entry)) (now (tape .exit))
+        (now (nodes .entry)) (now (nodes .exit)) (now (heads .entry)) (now (heads .exit))
+        (answerIn r (now (way .exit))) ⌝ }
     ensures { λ r. ⌜ Stays (now (card .entry)) (now (names .entry)) (now (table .entry)) (now (masks .entry))
         (now (codes .entry)) (now (words .entry)) (now (codes .exit)) (now (words .exit)) (now (way .exit)) r ⌝ }
 {
@@ -533,8 +538,9 @@ fn last(
     requires { ⌜ GoalReady (now card) goal n b ⌝ }
     requires { ⌜ Equipped (now card) (now names) (now table) (now masks) (now codes) (now words) (now way)
         (now nodes) (b .count) ⌝ }
-    ensures { λ r. ⌜ Alone (now (card .entry)) goal n f b (now (tape .entry)) (now (tape .exit)) (now (nodes .entry))
-        (now (nodes .exit)) (now (heads .entry)) (now (heads .exit)) (answerIn r (now (way .exit))) ⌝ }
+    ensures { λ r. ⌜ Alone (now (card .entry)) goal n f b (now (tape .entry)) (now (tape .exit))
+        (now (nodes .entry)) (now (nodes .exit)) (now (heads .entry)) (now (heads .exit))
+        (answerIn r (now (way .exit))) ⌝ }
     ensures { λ r. ⌜ Stays (now (card .entry)) (now (names .entry)) (now (table .entry)) (now (masks .entry))
         (now (codes .entry)) (now (words .entry)) (now (codes .exit)) (now (words .exit)) (now (way .exit)) r ⌝ }
 {
@@ -585,8 +591,9 @@ fn part(
     requires { ⌜ GoalReady (now card) goal n b × Fresh b ⌝ }
     requires { ⌜ Equipped (now card) (now names) (now table) (now masks) (now codes) (now words) (now way)
         (now nodes) (b .count) ⌝ }
-    ensures { λ r. ⌜ Alone (now (card .entry)) goal n f b (now (tape .entry)) (now (tape .exit)) (now (nodes .entry))
-        (now (nodes .exit)) (now (heads .entry)) (now (heads .exit)) (answerIn r (now (way .exit))) ⌝ }
+    ensures { λ r. ⌜ Alone (now (card .entry)) goal n f b (now (tape .entry)) (now (tape .exit))
+        (now (nodes .entry)) (now (nodes .exit)) (now (heads .entry)) (now (heads .exit))
+        (answerIn r (now (way .exit))) ⌝ }
     ensures { λ r. ⌜ Stays (now (card .entry)) (now (names .entry)) (now (table .entry)) (now (masks .entry))
         (now (codes .entry)) (now (words .entry)) (now (codes .exit)) (now (words .exit)) (now (way .exit)) r ⌝ }
 {
@@ -651,8 +658,9 @@ fn both_ways(
     requires { ⌜ (GoalReady (now card) goal n b × Fresh b) × (kindAt (now card) goal ≡ 5) ⌝ }
     requires { ⌜ Equipped (now card) (now names) (now table) (now masks) (now codes) (now words) (now way)
         (now nodes) (b .count) ⌝ }
-    ensures { λ r. ⌜ Alone (now (card .entry)) goal n f b (now (tape .entry)) (now (tape .exit)) (now (nodes .entry))
-        (now (nodes .exit)) (now (heads .entry)) (now (heads .exit)) (answerIn r (now (way .exit))) ⌝ }
+    ensures { λ r. ⌜ Alone (now (card .entry)) goal n f b (now (tape .entry)) (now (tape .exit))
+        (now (nodes .entry)) (now (nodes .exit)) (now (heads .entry)) (now (heads .exit))
+        (answerIn r (now (way .exit))) ⌝ }
     ensures { λ r. ⌜ Stays (now (card .entry)) (now (names .entry)) (now (table .entry)) (now (masks .entry))
         (now (codes .entry)) (now (words .entry)) (now (codes .exit)) (now (words .exit)) (now (way .exit)) r ⌝ }
 {
@@ -741,8 +749,9 @@ fn lent(
     requires { ⌜ (GoalReady (now card) goal n b × Fresh b) × (kindAt (now card) goal ≡ 6) ⌝ }
     requires { ⌜ Equipped (now card) (now names) (now table) (now masks) (now codes) (now words) (now way)
         (now nodes) (b .count) ⌝ }
-    ensures { λ r. ⌜ Alone (now (card .entry)) goal n f b (now (tape .entry)) (now (tape .exit)) (now (nodes .entry))
-        (now (nodes .exit)) (now (heads .entry)) (now (heads .exit)) (answerIn r (now (way .exit))) ⌝ }
+    ensures { λ r. ⌜ Alone (now (card .entry)) goal n f b (now (tape .entry)) (now (tape .exit))
+        (now (nodes .entry)) (now (nodes .exit)) (now (heads .entry)) (now (heads .exit))
+        (answerIn r (now (way .exit))) ⌝ }
     ensures { λ r. ⌜ Stays (now (card .entry)) (now (names .entry)) (now (table .entry)) (now (masks .entry))
         (now (codes .entry)) (now (words .entry)) (now (codes .exit)) (now (words .exit)) (now (way .exit)) r ⌝ }
 {

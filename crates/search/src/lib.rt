@@ -175,7 +175,7 @@ fn list_of(way: &[u64; 9], r: Outcome) -> Found
     Found::List(w.at)
 }
 
-// The first list. A first run, which has neither table nor memory, gives up after 16 dead ends; only then are they set up. The tape is free
+// The first list. A first run, which has neither table nor memory, gives up after 100 dead ends; only then are they set up. The tape is free
 // behind the list, and all of it where there is none: it holds what the search left there, 255 bytes as before.
 pub fn first_list(card: &[u8], tape: &mut [u8; 255]) -> Found
     requires { ⌜ Sound (now card) ⌝ }
@@ -188,7 +188,7 @@ pub fn first_list(card: &[u8], tape: &mut [u8; 255]) -> Found
     let mut heads = [0u16; 256];
     entries::enter(card, &mut nodes, &mut heads);
     let mut way = [0u64; 9];
-    let mut patience = [16u64; 1];
+    let mut patience = [100u64; 1];
     let r = run(
         card,
         &waits,

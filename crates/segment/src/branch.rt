@@ -102,7 +102,8 @@ pub struct Floor {
 // Behind a list that keeps to the given steps or not.
 pub fn follow(way: &mut [u64; 9], kept: bool)
     requires { ⌜ length (now way) ≡ 9 ⌝ }
-    ensures { λ _. ⌜ (wayIn (now (way .exit)) ≡ followingW (wayIn (now (way .entry))) kept) × (length (now (way .exit)) ≡ 9) ⌝ }
+    ensures { λ _. ⌜ wayIn (now (way .exit)) ≡ followingW (wayIn (now (way .entry))) kept ⌝ }
+    ensures { λ _. ⌜ length (now (way .exit)) ≡ 9 ⌝ }
 {
     if kept {
         return;

@@ -1,13 +1,11 @@
 //! The planner of this tree and, where build.rs was told of a pair, that of an earlier commit; each can be asked in
-//! a process of its own, which is ended where it does not answer in time.
-#![allow(dead_code)]
+//! a process of its own.
+#[path = "../../tests/asked/mod.rs"]
+mod asked;
 
+#[allow(unused_imports)]
+pub use asked::{Answer, Asked, ROOM};
 use kit_planner as _; // links this tree's archive
-use std::io::{self, Read, Write};
-use std::process::{Child, Command, Stdio};
-use std::sync::mpsc::{channel, Receiver};
-use std::thread;
-use std::time::{Duration, Instant};
 
 type Call = unsafe extern "C" fn(*const u8, usize, *mut u8, usize) -> u32;
 
@@ -21,9 +19,6 @@ extern "C" {
 extern "C" {
     fn kit_plan(card: *const u8, card_len: usize, sheet: *mut u8, sheet_len: usize) -> u32;
 }
-
-/// Room for any card's sheet.
-pub const ROOM: usize = 324;
 
 /// An archive by its call.
 #[derive(Clone, Copy)]
@@ -43,81 +38,7 @@ impl Archive {
     }
 }
 
-/// What an archive answers, the sheet buffer afterwards, and how long one call took.
-#[derive(Clone)]
-pub struct Answer {
-    pub number: u32,
-    pub sheet: Vec<u8>,
-    pub time: Duration,
-}
-
-const SERVE: &str = "answer-cards";
-
-/// In a process that was started to answer, answers the cards of standard input and never returns.
+/// In a process that was started to answer, answers for the archive it was told and never returns.
 pub fn serve() {
-    let mut words = std::env::args().skip_while(|w| w != SERVE);
-    let Some(which) = words.nth(1) else { return };
-    let archive = ARCHIVES[which.parse::<usize>().expect("an archive's number")];
-    let (mut input, mut output) = (io::stdin().lock(), io::stdout().lock());
-    let mut size = [0; 2];
-    while input.read_exact(&mut size).is_ok() {
-        let mut card = vec![0; usize::from(u16::from_be_bytes(size))];
-        input.read_exact(&mut card).expect("a whole card");
-        let mut sheet = vec![0xee; ROOM];
-        let start = Instant::now();
-        let number = archive.plan(&card, &mut sheet);
-        let nanos = start.elapsed().as_nanos() as u64;
-        let reply = [&number.to_be_bytes()[..], &nanos.to_be_bytes(), &sheet].concat();
-        output.write_all(&reply).and_then(|()| output.flush()).expect("the answer is taken");
-    }
-    std::process::exit(0);
-}
-
-/// A process that answers for one archive.
-pub struct Asked {
-    which: usize,
-    child: Child,
-    answers: Receiver<Answer>,
-}
-
-impl Asked {
-    pub fn start(which: usize) -> Asked {
-        let program = std::env::current_exe().expect("the program's own path");
-        let mut command = Command::new(program);
-        command.args([SERVE, &which.to_string()]).stdin(Stdio::piped()).stdout(Stdio::piped());
-        let mut child = command.spawn().expect("a process");
-        let mut output = child.stdout.take().expect("its output");
-        let (told, answers) = channel();
-        thread::spawn(move || {
-            let mut reply = [0; 12 + ROOM];
-            while output.read_exact(&mut reply).is_ok() {
-                let number = u32::from_be_bytes(reply[..4].try_into().expect("four bytes"));
-                let nanos = u64::from_be_bytes(reply[4..12].try_into().expect("eight bytes"));
-                let (sheet, time) = (reply[12..].to_vec(), Duration::from_nanos(nanos));
-                if told.send(Answer { number, sheet, time }).is_err() {
-                    return;
-                }
-            }
-        });
-        Asked { which, child, answers }
-    }
-
-    /// The answer to a card, or none in this time.
-    pub fn ask(&mut self, card: &[u8], limit: Duration) -> Option<Answer> {
-        let size = u16::try_from(card.len()).expect("a card's size").to_be_bytes();
-        let input = self.child.stdin.as_mut().expect("its input");
-        input.write_all(&[&size[..], card].concat()).and_then(|()| input.flush()).expect("it reads on");
-        let answer = self.answers.recv_timeout(limit).ok();
-        if answer.is_none() {
-            *self = Asked::start(self.which); // the old one is ended
-        }
-        answer
-    }
-}
-
-impl Drop for Asked {
-    fn drop(&mut self) {
-        let _ = self.child.kill();
-        let _ = self.child.wait();
-    }
+    asked::serve(|which, card, sheet| ARCHIVES[which].plan(card, sheet));
 }

@@ -142,10 +142,20 @@ pub fn depot(n: usize, fault: Fault) -> Draft {
     c
 }
 
-/// Any kit of 20 to 64 lines, with or without a fault.
+/// Any kit of 20 to 64 lines.
 pub fn any(r: &mut Random) -> Draft {
+    sized(r, 20, 64)
+}
+
+/// Any kit of 4 to 20 lines.
+pub fn small(r: &mut Random) -> Draft {
+    sized(r, 4, 20)
+}
+
+/// Any kit with so many lines at least and at most, with or without a fault.
+fn sized(r: &mut Random, least: usize, most: usize) -> Draft {
     let limits = Draft::limits(r.pick(&[3, 4, 6, 16]), r.pick(&[60, 90, 255]));
-    let (parts, things, lines) = (3 + r.below(6), 1 + r.below(4), 20 + r.below(45));
+    let (parts, things, lines) = (3 + r.below(6), 1 + r.below(4), least + r.below(most - least + 1));
     let mut kit = Kit::new(r, limits, parts, things);
     let serving = lines - r.below(lines / 3);
     kit.want(r, serving);

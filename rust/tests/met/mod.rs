@@ -29,17 +29,23 @@ pub fn compare_plan(
     if let (Ok(k), Ok(sheet)) = (answer, wanted) {
         assert_eq!(kit_planner::read(card, &sheet), Ok(k), "card {card:02x?}");
         met.longest = met.longest.max(k);
+        met.long += usize::from(k >= LONG);
     }
 }
 
+/// So many steps make a list long.
+pub const LONG: usize = 50;
+
 /// How often each refusal was met, and 0: planned or accepted; and how many cards were skipped, the model's
-/// budget being spent.
+/// budget being spent, or given up, the planner having taken too long.
 #[derive(Default, Debug)]
 pub struct Met {
     numbers: [usize; 15],
     pub skipped: usize,
-    /// The most steps of a sheet.
+    pub given_up: usize,
+    /// The most steps of a sheet, and how many sheets are long.
     pub longest: usize,
+    pub long: usize,
 }
 
 impl Met {
@@ -67,14 +73,25 @@ impl Met {
     /// skipped) fewer than two in a hundred were skipped.
     pub fn enough(&self, least: usize) {
         assert!(self.numbers[0] >= least, "fewer than {least}: {self:?}");
-        let searched = self.numbers[0] + self.numbers[11] + self.skipped;
+        let searched = self.searched() + self.skipped;
         assert!(self.skipped * 50 < searched, "too many skipped: {self:?}");
     }
 
-    /// At least so many were planned, refused with 11, and steps of the longest sheet.
-    pub fn at_least(&self, planned: usize, refused: usize, longest: usize) {
-        self.enough(planned);
-        assert!(self.numbers[11] >= refused, "fewer than {refused} refused: {self:?}");
-        assert!(self.longest >= longest, "no sheet of {longest} steps: {self:?}");
+    pub fn planned(&self) -> usize {
+        self.numbers[0]
+    }
+
+    /// Refused by the search.
+    pub fn refused(&self) -> usize {
+        self.numbers[11]
+    }
+
+    /// Planned or refused by the search.
+    pub fn searched(&self) -> usize {
+        self.planned() + self.refused()
+    }
+
+    pub fn left_out(&self) -> usize {
+        self.skipped + self.given_up
     }
 }

@@ -2,7 +2,6 @@
 use Prim.Native.Nat.{ℕ}
 use mathlib.Core.Path.{_≡_, sym}
 use mathlib.Core.List.{List}
-use borrow.Author.Needs.{needs}
 use Rattle.card.specs.Verdict.{Verdict, told}
 use Rattle.card.specs.Fault.{firstFault}
 use Rattle.card.specs.Inner.Checks.{Framed}
@@ -46,13 +45,13 @@ after-4 c q =
     after-3 (c .before .before .before) (onward (passed _ _ (c .enum-told7 .given .1) (c .before .before .rules-check .ensures)) q)
 
 front-check-requires : tie.Need-front-check-requires
-front-check-requires c κs = search needs
+front-check-requires c κs = tt
 
 enum-told : tie.Need-enum-told
-enum-told c = search needs
+enum-told c = c .match .keys1
 
 enum-told-2 : tie.Need-enum-told-2
-enum-told-2 c = search needs
+enum-told-2 c = c .match .keys2
 
 returns : tie.Need-returns
 unfolding firstFault
@@ -62,10 +61,10 @@ nodes-check-requires : tie.Need-nodes-check-requires
 nodes-check-requires c κs = front c
 
 enum-told-3 : tie.Need-enum-told-3
-enum-told-3 c = search needs
+enum-told-3 c = c .match2 .keys1
 
 enum-told-4 : tie.Need-enum-told-4
-enum-told-4 c = search needs
+enum-told-4 c = c .match2 .keys2
 
 returns-2 : tie.Need-returns-2
 returns-2 c = after-1 (c .before .before .before) (refused _ (c .enum-told4 .given .1) (c .before .before .nodes-check .ensures))
@@ -74,10 +73,10 @@ goal-check-requires : tie.Need-goal-check-requires
 goal-check-requires c κs = front (c .before .before .before)
 
 enum-told-5 : tie.Need-enum-told-5
-enum-told-5 c = search needs
+enum-told-5 c = c .match3 .keys1
 
 enum-told-6 : tie.Need-enum-told-6
-enum-told-6 c = search needs
+enum-told-6 c = c .match3 .keys2
 
 returns-3 : tie.Need-returns-3
 returns-3 c = after-2 (c .before .before .before) (refused _ (c .enum-told6 .given .1) (c .before .before .goal-check .ensures))
@@ -86,10 +85,10 @@ rules-check-requires : tie.Need-rules-check-requires
 rules-check-requires c κs = front (c .before .before .before .before .before .before)
 
 enum-told-7 : tie.Need-enum-told-7
-enum-told-7 c = search needs
+enum-told-7 c = c .match4 .keys1
 
 enum-told-8 : tie.Need-enum-told-8
-enum-told-8 c = search needs
+enum-told-8 c = c .match4 .keys2
 
 returns-4 : tie.Need-returns-4
 returns-4 c = after-3 (c .before .before .before) (refused _ (c .enum-told8 .given .1) (c .before .before .rules-check .ensures))
@@ -98,10 +97,10 @@ lines-check-requires : tie.Need-lines-check-requires
 lines-check-requires c κs = front (c .before .before .before .before .before .before .before .before .before)
 
 enum-told-9 : tie.Need-enum-told-9
-enum-told-9 c = search needs
+enum-told-9 c = c .match5 .keys1
 
 enum-told-10 : tie.Need-enum-told-10
-enum-told-10 c = search needs
+enum-told-10 c = c .match5 .keys2
 
 returns-5 : tie.Need-returns-5
 returns-5 c = after-4 (c .before .before .before) (c .before .before .lines-check .ensures)

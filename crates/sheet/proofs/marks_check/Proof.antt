@@ -1,9 +1,8 @@
 -- `marks_check` meets its contract: the marks before the present one have passed.
-use Prim.Native.Nat.{_≤_, _-_}
+use Prim.Native.Nat.{_≤_, _-_, _<_}
 use native.Mathlib.Omega.{arith}
 use mathlib.Core.Path.{_≡_, refl, sym}
 use lib.ListN.{take}
-use borrow.Author.Needs.{needs}
 use Rattle.card.specs.Format.{lineCount}
 use Rattle.card.specs.Verdict.{firstOf, sound, told}
 use Rattle.card.proofs.CardChecked.{refused-at, passed-at}
@@ -17,42 +16,56 @@ Inv-loop card steps k marks t i₀ i = (i ≤ t) × (firstOf i (markFault card (
 abbrev μ-loop : tie.MeasureT-loop
 μ-loop card steps k marks t i₀ i = t - i
 
+-- a mark that is checked is that of a line of the card
+below : (c : tie.In-loop Inv-loop μ-loop)
+    → c .before .loop .i < lineCount (c .before .before .before .before .before .before .args .card .now)
+below c = omega (arith, c .loop-test .taken, c .before .before .byte .ensures .0)
+
 byte-requires : tie.Need-byte-requires Inv-loop μ-loop
-byte-requires c κs = search needs
+byte-requires c κs = omega (arith, c .before .before .before .pre .0 .whole)
 
 loop-holds : tie.Need-loop-holds Inv-loop μ-loop
 unfolding firstOf
-loop-holds c = (search needs, refl)
+loop-holds c = (omega arith, refl)
 
 mark-check-requires : tie.Need-mark-check-requires Inv-loop μ-loop
-mark-check-requires c κs = search needs
+mark-check-requires c κs =
+    let start = c .before .before .before .before .before .before in
+    let h = below c in
+    (start .pre .0, (start .pre .1 .0, (h, omega (arith, h, start .pre .1 .1))))
 
 enum-told : tie.Need-enum-told Inv-loop μ-loop
-enum-told c = search needs
+enum-told c = c .match .keys1
 
 enum-told-2 : tie.Need-enum-told-2 Inv-loop μ-loop
-enum-told-2 c = search needs
+enum-told-2 c = c .match .keys2
 
 returns : tie.Need-returns Inv-loop μ-loop
 returns c =
-    let turn = c .before .before .before .before in
-    refused-at _ _ (turn .loop .inv .1) _ (omega arith) (c .enum-told2 .given .1) (c .before .before .mark-check .ensures)
+    let checked = c .before .before in
+    let turn = checked .before in
+    refused-at _ _ (turn .before .loop .inv .1) _ (below turn) (c .enum-told2 .given .1) (checked .mark-check .ensures)
 
 add-i : tie.Need-add-i Inv-loop μ-loop
-add-i c = search needs
+add-i c =
+    let turn = c .before .before .before in
+    omega (arith, turn .loop-test .taken, turn .before .before .byte .ensures .1)
 
 loop-less : tie.Need-loop-less Inv-loop μ-loop
-loop-less c = search needs
+loop-less c = omega (arith, c .before .before .before .loop-test .taken)
 
 loop-again : tie.Need-loop-again Inv-loop μ-loop
 loop-again c =
-    let turn = c .before .before .before .before in
-    (search needs, passed-at _ _ (turn .loop .inv .1) (c .enum-told .given .1) (c .before .before .mark-check .ensures))
+    let checked = c .before .before in
+    let turn = checked .before in
+    let sound-so-far = turn .before .loop .inv .1 in
+    (omega (arith, turn .loop-test .taken), passed-at _ _ sound-so-far (c .enum-told .given .1) (checked .mark-check .ensures))
 
 returns-2 : tie.Need-returns-2 Inv-loop μ-loop
 unfolding told
 returns-2 c =
-    let e : c .before .loop .i ≡ lineCount (c .before .before .before .before .before .before .args .card .now) = omega arith in
+    let e : c .before .loop .i ≡ lineCount (c .before .before .before .before .before .before .args .card .now) =
+    omega (arith, c .loop-test .left, c .before .loop .inv .0, c .before .before .byte .ensures .0) in
     sym (rw e at (c .before .loop .inv .1))
 
 pub marks-check-spec : {M : Type 1} → statement M

@@ -1,6 +1,6 @@
-use Prim.Native.Nat.{_+_}
+use Prim.Native.Nat.{_+_, _≤_}
 use native.Mathlib.Omega.{arith}
-use lib.ListN.{take}
+use lib.ListN.{length, take}
 use lib.Seq.{length-take-le}
 use borrow.Author.Needs.{needs}
 use Rattle.card.specs.Format.{lineCount}
@@ -9,26 +9,40 @@ use Rattle.sheet.proofs.SheetWritten.{part-back, whole-sheet}
 use Rattle.sheet.proofs.write.Statement.{statement}
 use Rattle.sheet.proofs.write.Tie as tie
 
+-- the function's entry, once the steps are written, and that the sheet reaches past them
+abbrev entry : tie.After-slice-known3 → tie.Start
+entry c = c .before .before .before .before .before .before .before .before .before .before .before
+
+past-steps : (c : tie.After-slice-known3) → 5 + entry c .args .k ≤ length (c .before .before .write-steps .last .1 .1 .0)
+past-steps c =
+    let at-steps = c .before .before in
+    omega (arith, entry c .pre .1 .1 .1, at-steps .before .before .before .before .write-front .kept, at-steps .write-steps .kept)
+
 byte-requires : tie.Need-byte-requires
-byte-requires c κs = search needs
+byte-requires c κs = omega (arith, c .before .before .pre .0 .whole)
 
 write-front-requires : tie.Need-write-front-requires
-write-front-requires c κs = search needs
+write-front-requires c κs =
+    let start = c .before .before .before .before in
+    omega (arith, start .pre .0 .lines, start .pre .1 .1 .0, start .pre .1 .1 .1, c .before .byte .ensures .0)
 
 write-steps-requires : tie.Need-write-steps-requires
-write-steps-requires c κs = search needs
+write-steps-requires c κs =
+    let at-front = c .before .before .before in
+    let start = at-front .before .before .before .before .before in
+    omega (arith, start .pre .1, at-front .write-front .kept)
 
 add-start : tie.Need-add-start
-add-start c = search needs
+add-start c = omega (arith, entry c .pre .1 .1 .0)
 
 sub-write-marks : tie.Need-sub-write-marks
-sub-write-marks c = search needs
+sub-write-marks c = past-steps c
 
 part-write-marks-start : tie.Need-part-write-marks-start
-part-write-marks-start c = search needs
+part-write-marks-start c = past-steps c
 
 part-write-marks-end : tie.Need-part-write-marks-end
-part-write-marks-end c = search needs
+part-write-marks-end c = omega arith
 
 write-marks-requires : tie.Need-write-marks-requires
 write-marks-requires c κs = search needs

@@ -1,24 +1,28 @@
 -- The walk of the goal, then the tests of its end and of its items.
+use Prim.Native.Nat.{_≤_}
 use native.Mathlib.Omega.{arith}
-use mathlib.Core.Path.{sym, _∙_}
+use mathlib.Core.Path.{refl, sym, _∙_}
 use mathlib.Core.Bool.{false≢true}
 use Rattle.card.proofs.CardChecked.{sound-front}
 use Rattle.trace.specs.Inner.Listing.{ListedSays}
 use Rattle.trace.proofs.FollowsExactly.{start-call, astray-unlisted, past-unlisted, covered-listed, bare-unlisted}
-use borrow.Author.Needs.{needs}
 use Rattle.trace.proofs.follows.Statement.{statement}
 use Rattle.trace.proofs.follows.Tie as tie
 
+-- the step limit is a byte, so the list is short
+short : (c : tie.After-shared-slice-known) → c .before .args .k ≤ 255
+short c = omega (arith, c .before .pre .1 .1, c .shared-slice-known .given 10)
+
 enter-requires : tie.Need-enter-requires
-enter-requires c κs = search needs
+enter-requires c κs = (c .before .before .before .before .pre .0, (refl, refl))
 
 start-requires : tie.Need-start-requires
-start-requires c κs = search needs
+start-requires c κs = c .before .before .before .before .before .pre .0
 
 word-requires : tie.Need-word-requires
 word-requires c κs =
     let start = c .before .before .before .before .before .before in
-    let f = sound-front (start .args .card .now) (start .pre .0) in search needs
+    omega (arith, sound-front (start .args .card .now) (start .pre .0) .whole)
 
 walk-requires : tie.Need-walk-requires
 walk-requires c κs =
@@ -27,16 +31,14 @@ walk-requires c κs =
     let at-enter = at-start .before in
     let known = at-enter .before .before .before .before in
     let start = known .before in
-    let limit = known .shared-slice-known .given 10 in
-    let few = start .pre .1 .1 in
-    start-call (start .pre .0) (start .pre .1 .0) few (omega arith) (at-enter .enter .ensures .0) (at-enter .enter .ensures .1) _
-    (at-start .start .ensures) _ (at-word .word .ensures .0)
+    start-call (start .pre .0) (start .pre .1 .0) (start .pre .1 .1) (short known) (at-enter .enter .ensures .0)
+    (at-enter .enter .ensures .1) _ (at-start .start .ensures) _ (at-word .word .ensures .0)
 
 enum-known-walked : tie.Need-enum-known-walked
-enum-known-walked c = search needs
+enum-known-walked c = c .match .keys1
 
 enum-told : tie.Need-enum-told
-enum-told c = search needs
+enum-told c = c .match .keys2
 
 returns : tie.Need-returns
 unfolding ListedSays
@@ -47,10 +49,9 @@ returns c =
     let at-enter = at-start .before in
     let known = at-enter .before .before .before .before in
     let start = known .before in
-    let limit = known .shared-slice-known .given 10 in
-    let few = start .pre .1 .1 in
-    astray-unlisted (start .pre .0) (start .pre .1 .0) few (omega arith) (at-enter .enter .ensures .0) (at-enter .enter .ensures .1) _
-    (at-start .start .ensures) _ (at-word .word .ensures .0) (at-walk .walk .ensures) (c .enum-told .given .1)
+    astray-unlisted (start .pre .0) (start .pre .1 .0) (start .pre .1 .1) (short known) (at-enter .enter .ensures .0)
+    (at-enter .enter .ensures .1) _ (at-start .start .ensures) _ (at-word .word .ensures .0)
+    (at-walk .walk .ensures) (c .enum-told .given .1)
 
 returns-2 : tie.Need-returns-2
 unfolding ListedSays
@@ -62,13 +63,15 @@ returns-2 c =
     let at-enter = at-start .before in
     let known = at-enter .before .before .before .before in
     let start = known .before in
-    let limit = known .shared-slice-known .given 10 in
-    let few = start .pre .1 .1 in
-    past-unlisted (start .pre .0) (start .pre .1 .0) few (omega arith) (at-enter .enter .ensures .0) (at-enter .enter .ensures .1) _
-    (at-start .start .ensures) _ (at-word .word .ensures .0) (at-walk .walk .ensures) _ (at-walked .walked .given .1) (c .if1 .taken)
+    past-unlisted (start .pre .0) (start .pre .1 .0) (start .pre .1 .1) (short known) (at-enter .enter .ensures .0)
+    (at-enter .enter .ensures .1) _ (at-start .start .ensures) _ (at-word .word .ensures .0)
+    (at-walk .walk .ensures) _ (at-walked .walked .given .1) (c .if1 .taken)
 
 covers-requires : tie.Need-covers-requires
-covers-requires c κs = search needs
+covers-requires c κs =
+    let at-walk = c .before .before .before .before in
+    let at-word = at-walk .before .before .before in
+    at-word .before .before .before .before .before .before .before .pre .0
 
 returns-3 : tie.Need-returns-3
 unfolding ListedSays
@@ -82,10 +85,9 @@ returns-3 c =
     let at-enter = at-start .before in
     let known = at-enter .before .before .before .before in
     let start = known .before in
-    let limit = known .shared-slice-known .given 10 in
-    let few = start .pre .1 .1 in
-    covered-listed (start .pre .0) (start .pre .1 .0) few (omega arith) (at-enter .enter .ensures .0) (at-enter .enter .ensures .1) _
-    (at-start .start .ensures) _ (at-word .word .ensures .0) (at-walk .walk .ensures) _ (at-walked .walked .given .1)
+    covered-listed (start .pre .0) (start .pre .1 .0) (start .pre .1 .1) (short known) (at-enter .enter .ensures .0)
+    (at-enter .enter .ensures .1) _ (at-start .start .ensures) _ (at-word .word .ensures .0)
+    (at-walk .walk .ensures) _ (at-walked .walked .given .1)
     (at-else1 .if1 .left) (at-covers .covers .ensures .0 (c .if2 .taken))
 
 returns-4 : tie.Need-returns-4
@@ -100,10 +102,9 @@ returns-4 c =
     let at-enter = at-start .before in
     let known = at-enter .before .before .before .before in
     let start = known .before in
-    let limit = known .shared-slice-known .given 10 in
-    let few = start .pre .1 .1 in
-    bare-unlisted (start .pre .0) (start .pre .1 .0) few (omega arith) (at-enter .enter .ensures .0) (at-enter .enter .ensures .1) _
-    (at-start .start .ensures) _ (at-word .word .ensures .0) (at-walk .walk .ensures) _ (at-walked .walked .given .1)
+    bare-unlisted (start .pre .0) (start .pre .1 .0) (start .pre .1 .1) (short known) (at-enter .enter .ensures .0)
+    (at-enter .enter .ensures .1) _ (at-start .start .ensures) _ (at-word .word .ensures .0)
+    (at-walk .walk .ensures) _ (at-walked .walked .given .1)
     (at-else1 .if1 .left) (λ x. false≢true (sym (c .if2 .left) ∙ at-covers .covers .ensures .1 x))
 
 pub follows-spec : {M : Type 1} → statement M

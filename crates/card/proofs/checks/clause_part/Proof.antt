@@ -1,18 +1,18 @@
+use native.Mathlib.Omega.{arith}
 use borrow.Author.Tests.{lt-ltb, le-ltb}
-use borrow.Author.Needs.{needs}
 use Rattle.card.specs.Fault.{clausePart}
 use Rattle.card.proofs.checks.clause_part.Statement.{statement}
 use Rattle.card.proofs.checks.clause_part.Tie as tie
 
 kind-requires : tie.Need-kind-requires
-kind-requires c κs = search needs
+kind-requires c κs = omega (arith, c .before .before .pre, c .if1 .taken)
 
 is-clause-requires : tie.Need-is-clause-requires
-is-clause-requires c κs = search needs
+is-clause-requires c κs = tt
 
 returns : tie.Need-returns
 unfolding clausePart
-returns c = simp (lt-ltb _ _ (c .before .before .if1 .taken)) (cc)
+returns c = simp (lt-ltb _ _ (c .before .before .if1 .taken)) (rw (c .before .kind .ensures .0) at (c .is-clause .ensures))
 
 returns-2 : tie.Need-returns-2
 unfolding clausePart

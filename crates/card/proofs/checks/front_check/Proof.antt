@@ -4,7 +4,6 @@ use native.Mathlib.Omega.{arith}
 use mathlib.Core.Path.{_≡_, sym}
 use mathlib.Core.List.{List}
 use lib.ListN.{length}
-use borrow.Author.Needs.{needs}
 use borrow.Author.Tests.{ltb-false}
 use Rattle.card.specs.Verdict.{Verdict, _▹_, told, whereOf}
 use Rattle.card.specs.Fault.{frontFault}
@@ -69,44 +68,44 @@ after-4 : (c : tie.After-enum-told7) {w : Verdict} → w ≡ fault-5 (bs-4 c) �
 after-4 c q = after-3 (c .before .before .before .before) (onward (passed _ _ (c .enum-told7 .given .1) (told-4 (c .before .before))) q)
 
 refuse-requires : tie.Need-refuse-requires
-refuse-requires c κs = search needs
+refuse-requires c κs = tt
 
 enum-told : tie.Need-enum-told
-enum-told c = search needs
+enum-told c = c .match .keys1
 
 enum-told-2 : tie.Need-enum-told-2
-enum-told-2 c = search needs
+enum-told-2 c = c .match .keys2
 
 returns : tie.Need-returns
 unfolding frontFault
 returns c = refused _ (c .enum-told2 .given .1) (told-1 (c .before .before))
 
 word-requires : tie.Need-word-requires
-word-requires c κs = let l = long c in omega arith
+word-requires c κs = omega (arith, long c)
 
 refuse-requires-2 : tie.Need-refuse-requires-2
-refuse-requires-2 c κs = search needs
+refuse-requires-2 c κs = tt
 
 enum-told-3 : tie.Need-enum-told-3
-enum-told-3 c = search needs
+enum-told-3 c = c .match2 .keys1
 
 enum-told-4 : tie.Need-enum-told-4
-enum-told-4 c = search needs
+enum-told-4 c = c .match2 .keys2
 
 returns-2 : tie.Need-returns-2
 returns-2 c = after-1 (c .before .before .before .before) (refused _ (c .enum-told4 .given .1) (told-2 (c .before .before)))
 
 byte-requires : tie.Need-byte-requires
-byte-requires c κs = let l = long (c .before .before .before .before) in omega arith
+byte-requires c κs = omega (arith, long (c .before .before .before .before))
 
 refuse-requires-3 : tie.Need-refuse-requires-3
-refuse-requires-3 c κs = search needs
+refuse-requires-3 c κs = tt
 
 enum-told-5 : tie.Need-enum-told-5
-enum-told-5 c = search needs
+enum-told-5 c = c .match3 .keys1
 
 enum-told-6 : tie.Need-enum-told-6
-enum-told-6 c = search needs
+enum-told-6 c = c .match3 .keys2
 
 returns-3 : tie.Need-returns-3
 returns-3 c = after-2 (c .before .before .before .before) (refused _ (c .enum-told6 .given .1) (told-3 (c .before .before)))
@@ -115,13 +114,13 @@ in-range-requires : tie.Need-in-range-requires
 in-range-requires c κs = long (c .before .before .before .before .before .before .before .before)
 
 refuse-requires-4 : tie.Need-refuse-requires-4
-refuse-requires-4 c κs = search needs
+refuse-requires-4 c κs = tt
 
 enum-told-7 : tie.Need-enum-told-7
-enum-told-7 c = search needs
+enum-told-7 c = c .match4 .keys1
 
 enum-told-8 : tie.Need-enum-told-8
-enum-told-8 c = search needs
+enum-told-8 c = c .match4 .keys2
 
 returns-4 : tie.Need-returns-4
 returns-4 c = after-3 (c .before .before .before .before) (refused _ (c .enum-told8 .given .1) (told-4 (c .before .before)))
@@ -130,13 +129,13 @@ length-asked-requires : tie.Need-length-asked-requires
 length-asked-requires c κs = long (c .before .before .before .before .before .before .before .before .before .before .before .before)
 
 refuse-requires-5 : tie.Need-refuse-requires-5
-refuse-requires-5 c κs = search needs
+refuse-requires-5 c κs = tt
 
 enum-told-9 : tie.Need-enum-told-9
-enum-told-9 c = search needs
+enum-told-9 c = c .match5 .keys1
 
 enum-told-10 : tie.Need-enum-told-10
-enum-told-10 c = search needs
+enum-told-10 c = c .match5 .keys2
 
 returns-5 : tie.Need-returns-5
 returns-5 c = after-4 (c .before .before .before .before) (told-5 (c .before .before))

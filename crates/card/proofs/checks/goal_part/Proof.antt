@@ -1,18 +1,18 @@
+use native.Mathlib.Omega.{arith}
 use borrow.Author.Tests.{lt-ltb, le-ltb}
-use borrow.Author.Needs.{needs}
 use Rattle.card.specs.Fault.{goalPart}
 use Rattle.card.proofs.checks.goal_part.Statement.{statement}
 use Rattle.card.proofs.checks.goal_part.Tie as tie
 
 kind-requires : tie.Need-kind-requires
-kind-requires c κs = search needs
+kind-requires c κs = omega (arith, c .before .before .pre, c .if1 .taken)
 
 is-goal-requires : tie.Need-is-goal-requires
-is-goal-requires c κs = search needs
+is-goal-requires c κs = tt
 
 returns : tie.Need-returns
 unfolding goalPart
-returns c = simp (lt-ltb _ _ (c .before .before .if1 .taken)) (cc)
+returns c = simp (lt-ltb _ _ (c .before .before .if1 .taken)) (rw (c .before .kind .ensures .0) at (c .is-goal .ensures))
 
 returns-2 : tie.Need-returns-2
 unfolding goalPart

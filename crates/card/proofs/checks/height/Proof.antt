@@ -1,6 +1,6 @@
 use Prim.Native.Nat.{_+_, max}
+use native.Mathlib.Omega.{arith}
 use mathlib.Core.Path.{_∙_, ap, ap₂}
-use borrow.Author.Needs.{needs}
 use Rattle.card.specs.Kinds.{kindOf}
 use Rattle.card.specs.Fault.{partHeight}
 use Rattle.card.proofs.NodesChecked.{left-within, right-within, height-from}
@@ -15,7 +15,7 @@ kind-requires : tie.Need-kind-requires
 kind-requires c κs = c .before .pre .0 .here
 
 row-requires : tie.Need-row-requires
-row-requires c κs = search needs
+row-requires c κs = tt
 
 left-requires : tie.Need-left-requires
 left-requires c κs = start c .pre .0 .here
@@ -37,10 +37,11 @@ part-height-requires-2 c κs =
     (s .pre .0 .size, right-within _ _ (s .pre .1) (s .pre .0 .few) (x .1) (a .before .kind .ensures .0) (c .right .ensures .0))
 
 greater-requires : tie.Need-greater-requires
-greater-requires c κs = search needs
+greater-requires c κs = tt
 
 add-result : tie.Need-add-result
-add-result c = search needs
+add-result c =
+    omega (arith, c .greater .ensures, c .before .part-height2 .ensures .1, c .before .before .before .part-height .ensures .1)
 
 returns : tie.Need-returns
 returns c =

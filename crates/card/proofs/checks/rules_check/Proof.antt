@@ -1,8 +1,7 @@
 -- `rules_check` meets its contract: the rules before the present one have passed.
-use Prim.Native.Nat.{_≤_, _-_}
+use Prim.Native.Nat.{_<_, _≤_, _-_}
 use native.Mathlib.Omega.{arith}
 use mathlib.Core.Path.{_≡_, refl, sym}
-use borrow.Author.Needs.{needs}
 use Rattle.card.specs.Format.{ruleCount}
 use Rattle.card.specs.Verdict.{firstOf, sound, told}
 use Rattle.card.specs.Fault.{ruleFault}
@@ -16,42 +15,52 @@ Inv-loop card p i₀ i = (i ≤ p) × (firstOf i (ruleFault card) ≡ sound)
 abbrev μ-loop : tie.MeasureT-loop
 μ-loop card p i₀ i = p - i
 
+-- a rule that is checked is one of the card's
+below : (c : tie.In-loop Inv-loop μ-loop) → c .before .loop .i < ruleCount (c .before .before .before .before .args .card .now)
+below c = omega (arith, c .loop-test .taken, c .before .before .byte .ensures .0)
+
 byte-requires : tie.Need-byte-requires Inv-loop μ-loop
-byte-requires c κs = search needs
+byte-requires c κs = omega (arith, c .before .pre .whole)
 
 loop-holds : tie.Need-loop-holds Inv-loop μ-loop
 unfolding firstOf
-loop-holds c = (search needs, refl)
+loop-holds c = (omega arith, refl)
 
 rule-check-requires : tie.Need-rule-check-requires Inv-loop μ-loop
-rule-check-requires c κs = search needs
+rule-check-requires c κs = (c .before .before .before .before .pre, below c)
 
 enum-told : tie.Need-enum-told Inv-loop μ-loop
-enum-told c = search needs
+enum-told c = c .match .keys1
 
 enum-told-2 : tie.Need-enum-told-2 Inv-loop μ-loop
-enum-told-2 c = search needs
+enum-told-2 c = c .match .keys2
 
 returns : tie.Need-returns Inv-loop μ-loop
 returns c =
-    let turn = c .before .before .before .before in
-    refused-at _ _ (turn .loop .inv .1) _ (omega arith) (c .enum-told2 .given .1) (c .before .before .rule-check .ensures)
+    let checked = c .before .before in
+    let turn = checked .before in
+    refused-at _ _ (turn .before .loop .inv .1) _ (below turn) (c .enum-told2 .given .1) (checked .rule-check .ensures)
 
 add-i : tie.Need-add-i Inv-loop μ-loop
-add-i c = search needs
+add-i c =
+    let turn = c .before .before .before in
+    omega (arith, turn .loop-test .taken, turn .before .before .byte .ensures .1)
 
 loop-less : tie.Need-loop-less Inv-loop μ-loop
-loop-less c = search needs
+loop-less c = omega (arith, c .before .before .before .loop-test .taken)
 
 loop-again : tie.Need-loop-again Inv-loop μ-loop
 loop-again c =
-    let turn = c .before .before .before .before in
-    (search needs, passed-at _ _ (turn .loop .inv .1) (c .enum-told .given .1) (c .before .before .rule-check .ensures))
+    let checked = c .before .before in
+    let turn = checked .before in
+    let sound-so-far = turn .before .loop .inv .1 in
+    (omega (arith, turn .loop-test .taken), passed-at _ _ sound-so-far (c .enum-told .given .1) (checked .rule-check .ensures))
 
 returns-2 : tie.Need-returns-2 Inv-loop μ-loop
 unfolding told
 returns-2 c =
-    let e : c .before .loop .i ≡ ruleCount (c .before .before .before .before .args .card .now) = omega arith in
+    let e : c .before .loop .i ≡ ruleCount (c .before .before .before .before .args .card .now) =
+    omega (arith, c .loop-test .left, c .before .loop .inv .0, c .before .before .byte .ensures .0) in
     sym (rw e at (c .before .loop .inv .1))
 
 pub rules-check-spec : {M : Type 1} → statement M

@@ -372,26 +372,35 @@ behind-μ-loop card waits tape₀ nodes₀ heads₀ way₀ names table masks cod
 behind-sub-top : (t : ℕ) → behind-lts.Need-sub-top (behind-claims t) (behind-at t) behind.Post behind-Inv-loop behind-μ-loop
 behind-sub-top t c =
     let start = c .before .before .before .before .before .before .before in
-    omega (arith, (start .pre .1 .1 .0) .some)
+    let q = start .pre .1 .1 .0 in
+    omega (arith, q .some)
 
 behind-node-requires : (t : ℕ) → behind-lts.Need-node-requires (behind-claims t) (behind-at t) behind.Post behind-Inv-loop behind-μ-loop
 behind-node-requires t c κs =
     let start = c .before .before .before .before .before .before .before in
-    (top-within (start .args .b) ((start .pre .1 .0) .sound) ((start .pre .1 .1 .0) .laid) ((start .pre .1 .1 .0) .some), (start .pre .1 .1 .0) .laid .room)
+    let rd = start .pre .1 .0 in
+    let q = start .pre .1 .1 .0 in
+    (top-within (start .args .b) (rd .sound) (q .laid) (q .some), q .laid .room)
 
 behind-nest-requires : (t : ℕ) → behind-lts.Need-nest-requires (behind-claims t) (behind-at t) behind.Post behind-Inv-loop behind-μ-loop
 behind-nest-requires t c κs =
     let start = c .before .before .before .before .before .before .before .before in
-    (top-within (start .args .b) ((start .pre .1 .0) .sound) ((start .pre .1 .1 .0) .laid) ((start .pre .1 .1 .0) .some), (start .pre .1 .1 .0) .laid .room)
+    let rd = start .pre .1 .0 in
+    let q = start .pre .1 .1 .0 in
+    (top-within (start .args .b) (rd .sound) (q .laid) (q .some), q .laid .room)
 
 behind-last-requires : (t : ℕ) → behind-lts.Need-last-requires (behind-claims t) (behind-at t) behind.Post behind-Inv-loop behind-μ-loop
 behind-last-requires t c κs =
     let at-nest = c .before .before .before .before .before .before .before in
     let at-node = at-nest .before in
     let start = at-node .before .before .before .before .before .before .before .before in
-    let falls = alone-next (start .pre .1 .1 .0) (at-node .node .ensures) (at-nest .nest .ensures) in (
-      omega (arith, falls, (start .pre .0)),
-      ((start .pre .1 .0), (goal-next (start .pre .1 .1 .0) (at-node .node .ensures) (at-nest .nest .ensures), (start .pre .1 .1 .1))),
+    let rd = start .pre .1 .0 in
+    let q = start .pre .1 .1 .0 in
+    let eq = start .pre .1 .1 .1 in
+    let number-is = start .pre .0 in
+    let falls = alone-next q (at-node .node .ensures) (at-nest .nest .ensures) in (
+      omega (arith, falls, number-is),
+      (rd, (goal-next q (at-node .node .ensures) (at-nest .nest .ensures), eq)),
     )
 
 behind-same-length : (t : ℕ) → behind-lts.Need-same-length (behind-claims t) (behind-at t) behind.Post behind-Inv-loop behind-μ-loop
@@ -410,15 +419,18 @@ behind-returns t c =
     let at-if1 = at-last .before .before .before .before .before .before .before in
     let at-nest = at-if1 .before in
     let at-node = at-nest .before in
-    let start = at-node .before .before .before .before .before .before .before .before in (
-      searched-as (agenda-last (start .pre .1 .1 .0) (at-node .node .ensures) (at-nest .nest .ensures) (at-if1 .if1 .taken)) (at-last .last .ensures .0),
+    let start = at-node .before .before .before .before .before .before .before .before in
+    let q = start .pre .1 .1 .0 in (
+      searched-as (agenda-last q (at-node .node .ensures) (at-nest .nest .ensures) (at-if1 .if1 .taken)) (at-last .last .ensures .0),
       at-last .last .ensures .1,
     )
 
 behind-loop-holds : (t : ℕ) → behind-lts.Need-loop-holds (behind-claims t) (behind-at t) behind.Post behind-Inv-loop behind-μ-loop
 behind-loop-holds t c =
     let start = c .before .before .before .before .before .before .before .before .before .before in
-    (turns-start _ _ _ (start .pre .1 .0), ((start .pre .1 .1 .1), large-self))
+    let rd = start .pre .1 .0 in
+    let eq = start .pre .1 .1 .1 in
+    (turns-start _ _ _ rd, (eq, large-self))
 
 behind-lead-requires : (t : ℕ) → behind-lts.Need-lead-requires (behind-claims t) (behind-at t) behind.Post behind-Inv-loop behind-μ-loop
 behind-lead-requires t c κs = search needs
@@ -430,12 +442,16 @@ behind-part-requires t c κs =
     let at-nest = at-loop .before .before in
     let at-node = at-nest .before in
     let start = at-node .before .before .before .before .before .before .before .before in
+    let q = start .pre .1 .1 .0 in
+    let number-is = start .pre .0 in
+    let turn = at-loop .loop .inv .0 in
+    let kit = at-loop .loop .inv .1 .0 in
     let eg = at-node .node .ensures in
     let en = at-nest .nest .ensures in
-    let falls = alone-next (start .pre .1 .1 .0) eg en in
+    let falls = alone-next q eg en in
     rw (at-lead .lead .ensures) (
-      omega (arith, falls, (start .pre .0)),
-      (ready-lead ((at-loop .loop .inv .0) .ready), ((goal-lead (goal-next (start .pre .1 .1 .0) eg en), fresh-lead (start .args .b)), (at-loop .loop .inv .1 .0))),
+      omega (arith, falls, number-is),
+      (ready-lead (turn .ready), ((goal-lead (goal-next q eg en), fresh-lead (start .args .b)), kit)),
     )
 
 behind-enum-told : (t : ℕ) → behind-lts.Need-enum-told (behind-claims t) (behind-at t) behind.Post behind-Inv-loop behind-μ-loop
@@ -445,13 +461,15 @@ behind-same-length-3 : (t : ℕ) → behind-lts.Need-same-length-3 (behind-claim
 behind-same-length-3 t c =
     let at-part = c .before .before .before .before .before in
     let at-loop = at-part .before .before .before .before .before .before .before .before in
-    (large-on (at-loop .loop .inv .1 .1) (at-part .part .ensures .1)) .code-same
+    let large = at-loop .loop .inv .1 .1 in
+    (large-on large (at-part .part .ensures .1)) .code-same
 
 behind-same-length-4 : (t : ℕ) → behind-lts.Need-same-length-4 (behind-claims t) (behind-at t) behind.Post behind-Inv-loop behind-μ-loop
 behind-same-length-4 t c =
     let at-part = c .before .before .before .before .before in
     let at-loop = at-part .before .before .before .before .before .before .before .before in
-    (large-on (at-loop .loop .inv .1 .1) (at-part .part .ensures .1)) .same
+    let large = at-loop .loop .inv .1 .1 in
+    (large-on large (at-part .part .ensures .1)) .same
 
 behind-returns-2 : (t : ℕ) → behind-lts.Need-returns-2 (behind-claims t) (behind-at t) behind.Post behind-Inv-loop behind-μ-loop
 behind-returns-2 t c =
@@ -462,9 +480,13 @@ behind-returns-2 t c =
     let at-nest = at-loop .before .before in
     let at-node = at-nest .before in
     let start = at-node .before .before .before .before .before .before .before .before in
+    let q = start .pre .1 .1 .0 in
+    let turn = at-loop .loop .inv .0 in
+    let large = at-loop .loop .inv .1 .1 in
+    let same-agenda = agenda-same q (at-node .node .ensures) (at-nest .nest .ensures) in
     let R = searched-at (at-lead .lead .ensures) (at-part .part .ensures .0) in (
-      searched-as (agenda-same (start .pre .1 .1 .0) (at-node .node .ensures) (at-nest .nest .ensures)) (behind-unsolved _ _ (at-loop .loop .inv .0) _ R (unsolved _ (at-match .match .keys2) _)),
-      stays-back (at-loop .loop .inv .1 .1) (at-part .part .ensures .1),
+      searched-as (same-agenda) (behind-unsolved _ _ turn _ R (unsolved _ (at-match .match .keys2) _)),
+      stays-back large (at-part .part .ensures .1),
     )
 
 behind-way-in-requires : (t : ℕ) → behind-lts.Need-way-in-requires (behind-claims t) (behind-at t) behind.Post behind-Inv-loop behind-μ-loop
@@ -478,7 +500,8 @@ behind-past-requires t c κs = search needs
 behind-past-tensor-requires : (t : ℕ) → behind-lts.Need-past-tensor-requires (behind-claims t) (behind-at t) behind.Post behind-Inv-loop behind-μ-loop
 behind-past-tensor-requires t c κs =
     let start = c .before .before .before .before .before .before .before .before .before .before .before .before .before .before .before .before .before .before .before .before .before .before .before .before .before .before .before .before .before .before .before .before .before .before .before .before in
-    (start .pre .1 .1 .0) .some
+    let q = start .pre .1 .1 .0 in
+    q .some
 
 behind-solve-requires : (t : ℕ) → behind-lts.Need-solve-requires (behind-claims t) (behind-at t) behind.Post behind-Inv-loop behind-μ-loop
 behind-solve-requires t c κs =
@@ -490,14 +513,23 @@ behind-solve-requires t c κs =
     let at-lead = at-part .before in
     let at-loop = at-lead .before .before .before .before .before .before .before in
     let start = at-loop .before .before .before .before .before .before .before .before .before .before .before in
+    let rd = start .pre .1 .0 in
+    let q = start .pre .1 .1 .0 in
+    let number-is = start .pre .0 in
+    let turn = at-loop .loop .inv .0 in
+    let kit = at-loop .loop .inv .1 .0 in
     let R = searched-at (at-lead .lead .ensures) (at-part .part .ensures .0) in
     let solved = solved-said (at-enum-told .enum-told .given .1) _ ∙ ap Solved (sym (at-way-in .way-in .ensures)) in
-    let asked = behind-rest-asks _ _ (at-loop .loop .inv .0) _ R _ solved _ _ _ (at-past .past .ensures) (at-past-tensor .past-tensor .ensures) (start .pre .1 .1 .0) in
-    let kept = behind-nodes-kept _ _ (at-loop .loop .inv .0) _ R in (
-      omega (arith, asked .0, (start .pre .0)),
+    let asked = behind-rest-asks _ _ turn _ R _ solved _ _ _ (at-past .past .ensures) (at-past-tensor .past-tensor .ensures) q in
+    let kept = behind-nodes-kept _ _ turn _ R in (
+      omega (arith, asked .0, number-is),
       (
         asked .1 .0,
-        (asked .1 .1, equipped-at (tensor-count _ _ _ (at-past-tensor .past-tensor .ensures)) (equipped-on (at-loop .loop .inv .1 .0) kept ((start .pre .1 .0) .scoped) (at-part .part .ensures .1))),
+        (
+          asked .1 .1,
+          equipped-at (tensor-count _ _ _ (at-past-tensor .past-tensor .ensures)) (equipped-on kit kept (rd .scoped)
+              (at-part .part .ensures .1)),
+        ),
       ),
     )
 
@@ -517,14 +549,18 @@ behind-same-length-5 t c =
     let at-solve = c .before .before .before .before .before .before .before .before .before in
     let at-part = at-solve .before .before .before .before .before .before .before .before .before .before .before .before .before .before .before .before .before .before .before in
     let at-loop = at-part .before .before .before .before .before .before .before .before in
-    (large-on (large-on (at-loop .loop .inv .1 .1) (at-part .part .ensures .1)) (at-solve .solve .ensures .1)) .code-same
+    let large = at-loop .loop .inv .1 .1 in
+    let large₂ = large-on large (at-part .part .ensures .1) in
+    (large-on large₂ (at-solve .solve .ensures .1)) .code-same
 
 behind-same-length-6 : (t : ℕ) → behind-lts.Need-same-length-6 (behind-claims t) (behind-at t) behind.Post behind-Inv-loop behind-μ-loop
 behind-same-length-6 t c =
     let at-solve = c .before .before .before .before .before .before .before .before .before in
     let at-part = at-solve .before .before .before .before .before .before .before .before .before .before .before .before .before .before .before .before .before .before .before in
     let at-loop = at-part .before .before .before .before .before .before .before .before in
-    (large-on (large-on (at-loop .loop .inv .1 .1) (at-part .part .ensures .1)) (at-solve .solve .ensures .1)) .same
+    let large = at-loop .loop .inv .1 .1 in
+    let large₂ = large-on large (at-part .part .ensures .1) in
+    (large-on large₂ (at-solve .solve .ensures .1)) .same
 
 behind-returns-3 : (t : ℕ) → behind-lts.Need-returns-3 (behind-claims t) (behind-at t) behind.Post behind-Inv-loop behind-μ-loop
 unfolding answerIn
@@ -543,12 +579,18 @@ behind-returns-3 t c =
     let at-nest = at-loop .before .before in
     let at-node = at-nest .before in
     let start = at-node .before .before .before .before .before .before .before .before in
+    let q = start .pre .1 .1 .0 in
+    let turn = at-loop .loop .inv .0 in
+    let large = at-loop .loop .inv .1 .1 in
+    let large₂ = large-on large (at-part .part .ensures .1) in
+    let same-agenda = agenda-same q (at-node .node .ensures) (at-nest .nest .ensures) in
     let R = searched-at (at-lead .lead .ensures) (at-part .part .ensures .0) in
     let solved = solved-said (at-enum-told .enum-told .given .1) _ ∙ ap Solved (sym (at-way-in .way-in .ensures)) in
-    let Q₁ = rest-told _ _ (at-loop .loop .inv .0) _ R _ solved _ _ _ (at-past .past .ensures) (at-past-tensor .past-tensor .ensures) (at-solve .solve .ensures .0) in
-    let done = behind-solved _ _ (at-loop .loop .inv .0) _ R _ solved _ Q₁ _ (solved-said (at-enum-told2 .enum-told2 .given .1) _) in (
-      rw (at-follow .follow .ensures .0, at-both .both .ensures) (searched-as (agenda-same (start .pre .1 .1 .0) (at-node .node .ensures) (at-nest .nest .ensures)) done),
-      stays-from (large-on (at-loop .loop .inv .1 .1) (at-part .part .ensures .1)) (at-solve .solve .ensures .1) _ (at-follow .follow .ensures .1) (weary-solved _),
+    let Q₁ = rest-told _ _ turn _ R _ solved _ _ _ (at-past .past .ensures) (at-past-tensor .past-tensor .ensures) (at-solve .solve
+    .ensures .0) in
+    let done = behind-solved _ _ turn _ R _ solved _ Q₁ _ (solved-said (at-enum-told2 .enum-told2 .given .1) _) in (
+      rw (at-follow .follow .ensures .0, at-both .both .ensures) (searched-as (same-agenda) done),
+      stays-from large₂ (at-solve .solve .ensures .1) _ (at-follow .follow .ensures .1) (weary-solved _),
     )
 
 behind-enum-told-3 : (t : ℕ) → behind-lts.Need-enum-told-3 (behind-claims t) (behind-at t) behind.Post behind-Inv-loop behind-μ-loop
@@ -559,14 +601,18 @@ behind-same-length-7 t c =
     let at-solve = c .before .before .before .before .before .before .before .before .before in
     let at-part = at-solve .before .before .before .before .before .before .before .before .before .before .before .before .before .before .before .before .before .before .before in
     let at-loop = at-part .before .before .before .before .before .before .before .before in
-    (large-on (large-on (at-loop .loop .inv .1 .1) (at-part .part .ensures .1)) (at-solve .solve .ensures .1)) .code-same
+    let large = at-loop .loop .inv .1 .1 in
+    let large₂ = large-on large (at-part .part .ensures .1) in
+    (large-on large₂ (at-solve .solve .ensures .1)) .code-same
 
 behind-same-length-8 : (t : ℕ) → behind-lts.Need-same-length-8 (behind-claims t) (behind-at t) behind.Post behind-Inv-loop behind-μ-loop
 behind-same-length-8 t c =
     let at-solve = c .before .before .before .before .before .before .before .before .before in
     let at-part = at-solve .before .before .before .before .before .before .before .before .before .before .before .before .before .before .before .before .before .before .before in
     let at-loop = at-part .before .before .before .before .before .before .before .before in
-    (large-on (large-on (at-loop .loop .inv .1 .1) (at-part .part .ensures .1)) (at-solve .solve .ensures .1)) .same
+    let large = at-loop .loop .inv .1 .1 in
+    let large₂ = large-on large (at-part .part .ensures .1) in
+    (large-on large₂ (at-solve .solve .ensures .1)) .same
 
 behind-returns-4 : (t : ℕ) → behind-lts.Need-returns-4 (behind-claims t) (behind-at t) behind.Post behind-Inv-loop behind-μ-loop
 unfolding answerIn
@@ -584,11 +630,18 @@ behind-returns-4 t c =
     let at-nest = at-loop .before .before in
     let at-node = at-nest .before in
     let start = at-node .before .before .before .before .before .before .before .before in
+    let q = start .pre .1 .1 .0 in
+    let turn = at-loop .loop .inv .0 in
+    let large = at-loop .loop .inv .1 .1 in
+    let large₂ = large-on large (at-part .part .ensures .1) in
+    let same-agenda = agenda-same q (at-node .node .ensures) (at-nest .nest .ensures) in
     let R = searched-at (at-lead .lead .ensures) (at-part .part .ensures .0) in
     let solved = solved-said (at-enum-told .enum-told .given .1) _ ∙ ap Solved (sym (at-way-in .way-in .ensures)) in
-    let Q₁ = rest-told _ _ (at-loop .loop .inv .0) _ R _ solved _ _ _ (at-past .past .ensures) (at-past-tensor .past-tensor .ensures) (at-solve .solve .ensures .0) in (
-      searched-as (agenda-same (start .pre .1 .1 .0) (at-node .node .ensures) (at-nest .nest .ensures)) (behind-nosteps _ _ (at-loop .loop .inv .0) _ R _ solved _ Q₁ (stuck-said (at-enum-told3 .enum-told3 .given .1) _) (at-if2 .if2 .taken)),
-      stays-from (large-on (at-loop .loop .inv .1 .1) (at-part .part .ensures .1)) (at-solve .solve .ensures .1) _ (at-solve .solve .ensures .1 .way-room) (weary-stuck _),
+    let Q₁ = rest-told _ _ turn _ R _ solved _ _ _ (at-past .past .ensures) (at-past-tensor .past-tensor .ensures) (at-solve .solve
+    .ensures .0) in (
+      searched-as (same-agenda) (behind-nosteps _ _ turn _ R _ solved _ Q₁ (stuck-said (at-enum-told3 .enum-told3 .given .1) _)
+          (at-if2 .if2 .taken)),
+      stays-from large₂ (at-solve .solve .ensures .1) _ (at-solve .solve .ensures .1 .way-room) (weary-stuck _),
     )
 
 behind-raise-requires : (t : ℕ) → behind-lts.Need-raise-requires (behind-claims t) (behind-at t) behind.Post behind-Inv-loop behind-μ-loop
@@ -603,10 +656,12 @@ behind-raise-requires t c κs =
     let at-part = at-enum-told .before .before .before .before .before .before in
     let at-lead = at-part .before in
     let at-loop = at-lead .before .before .before .before .before .before .before in
+    let turn = at-loop .loop .inv .0 in
     let R = searched-at (at-lead .lead .ensures) (at-part .part .ensures .0) in
     let solved = solved-said (at-enum-told .enum-told .given .1) _ ∙ ap Solved (sym (at-way-in .way-in .ensures)) in
-    let Q₁ = rest-told _ _ (at-loop .loop .inv .0) _ R _ solved _ _ _ (at-past .past .ensures) (at-past-tensor .past-tensor .ensures) (at-solve .solve .ensures .0) in
-    behind-raise-asks _ _ (at-loop .loop .inv .0) _ R _ solved _ Q₁ (stuck-said (at-enum-told3 .enum-told3 .given .1) _) (at-if2 .if2 .left)
+    let Q₁ = rest-told _ _ turn _ R _ solved _ _ _ (at-past .past .ensures) (at-past-tensor .past-tensor .ensures) (at-solve .solve
+    .ensures .0) in
+    behind-raise-asks _ _ turn _ R _ solved _ Q₁ (stuck-said (at-enum-told3 .enum-told3 .given .1) _) (at-if2 .if2 .left)
 
 behind-loop-less : (t : ℕ) → behind-lts.Need-loop-less (behind-claims t) (behind-at t) behind.Post behind-Inv-loop behind-μ-loop
 behind-loop-less t c =
@@ -621,10 +676,12 @@ behind-loop-less t c =
     let at-part = at-enum-told .before .before .before .before .before .before in
     let at-lead = at-part .before in
     let at-loop = at-lead .before .before .before .before .before .before .before in
+    let turn = at-loop .loop .inv .0 in
     let R = searched-at (at-lead .lead .ensures) (at-part .part .ensures .0) in
     let solved = solved-said (at-enum-told .enum-told .given .1) _ ∙ ap Solved (sym (at-way-in .way-in .ensures)) in
-    let Q₁ = rest-told _ _ (at-loop .loop .inv .0) _ R _ solved _ _ _ (at-past .past .ensures) (at-past-tensor .past-tensor .ensures) (at-solve .solve .ensures .0) in
-    behind-falls _ _ (at-loop .loop .inv .0) _ R _ solved _ Q₁ (stuck-said (at-enum-told3 .enum-told3 .given .1) _) (at-if2 .if2 .left) _
+    let Q₁ = rest-told _ _ turn _ R _ solved _ _ _ (at-past .past .ensures) (at-past-tensor .past-tensor .ensures) (at-solve .solve
+    .ensures .0) in
+    behind-falls _ _ turn _ R _ solved _ Q₁ (stuck-said (at-enum-told3 .enum-told3 .given .1) _) (at-if2 .if2 .left) _
     (at-raise .raise .ensures .0) (at-raise .raise .ensures .1)
 
 behind-loop-again : (t : ℕ) → behind-lts.Need-loop-again (behind-claims t) (behind-at t) behind.Post behind-Inv-loop behind-μ-loop
@@ -641,13 +698,19 @@ behind-loop-again t c =
     let at-lead = at-part .before in
     let at-loop = at-lead .before .before .before .before .before .before .before in
     let start = at-loop .before .before .before .before .before .before .before .before .before .before .before in
+    let rd = start .pre .1 .0 in
+    let turn = at-loop .loop .inv .0 in
+    let kit = at-loop .loop .inv .1 .0 in
+    let large = at-loop .loop .inv .1 .1 in
+    let large₂ = large-on large (at-part .part .ensures .1) in
     let R = searched-at (at-lead .lead .ensures) (at-part .part .ensures .0) in
     let solved = solved-said (at-enum-told .enum-told .given .1) _ ∙ ap Solved (sym (at-way-in .way-in .ensures)) in
-    let Q₁ = rest-told _ _ (at-loop .loop .inv .0) _ R _ solved _ _ _ (at-past .past .ensures) (at-past-tensor .past-tensor .ensures) (at-solve .solve .ensures .0) in
-    let kept = behind-nodes-on _ _ (at-loop .loop .inv .0) _ R _ solved _ Q₁ in (
-      behind-again _ _ (at-loop .loop .inv .0) _ R _ solved _ Q₁ (stuck-said (at-enum-told3 .enum-told3 .given .1) _) (at-if2 .if2 .left) _
+    let Q₁ = rest-told _ _ turn _ R _ solved _ _ _ (at-past .past .ensures) (at-past-tensor .past-tensor .ensures) (at-solve .solve
+    .ensures .0) in
+    let kept = behind-nodes-on _ _ turn _ R _ solved _ Q₁ in (
+      behind-again _ _ turn _ R _ solved _ Q₁ (stuck-said (at-enum-told3 .enum-told3 .given .1) _) (at-if2 .if2 .left) _
           (at-raise .raise .ensures .0) (at-raise .raise .ensures .1),
-      (equipped-on (at-loop .loop .inv .1 .0) kept ((start .pre .1 .0) .scoped) (at-solve .solve .ensures .1), large-on (large-on (at-loop .loop .inv .1 .1) (at-part .part .ensures .1)) (at-solve .solve .ensures .1)),
+      (equipped-on kit kept (rd .scoped) (at-solve .solve .ensures .1), large-on large₂ (at-solve .solve .ensures .1)),
     )
 
 behind-enum-told-4 : (t : ℕ) → behind-lts.Need-enum-told-4 (behind-claims t) (behind-at t) behind.Post behind-Inv-loop behind-μ-loop
@@ -658,14 +721,18 @@ behind-same-length-9 t c =
     let at-solve = c .before .before .before .before .before .before in
     let at-part = at-solve .before .before .before .before .before .before .before .before .before .before .before .before .before .before .before .before .before .before .before in
     let at-loop = at-part .before .before .before .before .before .before .before .before in
-    (large-on (large-on (at-loop .loop .inv .1 .1) (at-part .part .ensures .1)) (at-solve .solve .ensures .1)) .code-same
+    let large = at-loop .loop .inv .1 .1 in
+    let large₂ = large-on large (at-part .part .ensures .1) in
+    (large-on large₂ (at-solve .solve .ensures .1)) .code-same
 
 behind-same-length-10 : (t : ℕ) → behind-lts.Need-same-length-10 (behind-claims t) (behind-at t) behind.Post behind-Inv-loop behind-μ-loop
 behind-same-length-10 t c =
     let at-solve = c .before .before .before .before .before .before in
     let at-part = at-solve .before .before .before .before .before .before .before .before .before .before .before .before .before .before .before .before .before .before .before in
     let at-loop = at-part .before .before .before .before .before .before .before .before in
-    (large-on (large-on (at-loop .loop .inv .1 .1) (at-part .part .ensures .1)) (at-solve .solve .ensures .1)) .same
+    let large = at-loop .loop .inv .1 .1 in
+    let large₂ = large-on large (at-part .part .ensures .1) in
+    (large-on large₂ (at-solve .solve .ensures .1)) .same
 
 behind-returns-5 : (t : ℕ) → behind-lts.Need-returns-5 (behind-claims t) (behind-at t) behind.Post behind-Inv-loop behind-μ-loop
 unfolding answerIn
@@ -682,11 +749,17 @@ behind-returns-5 t c =
     let at-nest = at-loop .before .before in
     let at-node = at-nest .before in
     let start = at-node .before .before .before .before .before .before .before .before in
+    let q = start .pre .1 .1 .0 in
+    let turn = at-loop .loop .inv .0 in
+    let large = at-loop .loop .inv .1 .1 in
+    let large₂ = large-on large (at-part .part .ensures .1) in
+    let same-agenda = agenda-same q (at-node .node .ensures) (at-nest .nest .ensures) in
     let R = searched-at (at-lead .lead .ensures) (at-part .part .ensures .0) in
     let solved = solved-said (at-enum-told .enum-told .given .1) _ ∙ ap Solved (sym (at-way-in .way-in .ensures)) in
-    let Q₁ = rest-told _ _ (at-loop .loop .inv .0) _ R _ solved _ _ _ (at-past .past .ensures) (at-past-tensor .past-tensor .ensures) (at-solve .solve .ensures .0) in (
-      searched-as (agenda-same (start .pre .1 .1 .0) (at-node .node .ensures) (at-nest .nest .ensures)) (behind-tired _ _ (at-loop .loop .inv .0) _ R _ solved _ Q₁),
-      stays-tired (at-enum-told4 .enum-told4 .given .1) (large-on (at-loop .loop .inv .1 .1) (at-part .part .ensures .1)) (at-solve .solve .ensures .1),
+    let Q₁ = rest-told _ _ turn _ R _ solved _ _ _ (at-past .past .ensures) (at-past-tensor .past-tensor .ensures) (at-solve .solve
+    .ensures .0) in (
+      searched-as (same-agenda) (behind-tired _ _ turn _ R _ solved _ Q₁),
+      stays-tired (at-enum-told4 .enum-told4 .given .1) large₂ (at-solve .solve .ensures .1),
     )
 
 abbrev both-ways-Inv-loop : both-ways-lts.InvT-loop
@@ -701,24 +774,32 @@ both-ways-μ-loop card waits tape₀ nodes₀ heads₀ way₀ names table masks 
 both-ways-left-requires : (t : ℕ) → both-ways-lts.Need-left-requires (both-ways-claims t) (both-ways-at t) both-ways.Post both-ways-Inv-loop both-ways-μ-loop
 both-ways-left-requires t c κs =
     let start = c .before .before .before .before .before .before in
-    node-here ((start .pre .1 .0) .sound) (start .args .goal) (goal-low ((start .pre .1 .0) .sound) (start .pre .1 .1 .0 .0 .0))
+    let rd = start .pre .1 .0 in
+    let gr = start .pre .1 .1 .0 .0 .0 in
+    node-here (rd .sound) (start .args .goal) (goal-low (rd .sound) gr)
 
 both-ways-right-requires : (t : ℕ) → both-ways-lts.Need-right-requires (both-ways-claims t) (both-ways-at t) both-ways.Post both-ways-Inv-loop both-ways-μ-loop
 both-ways-right-requires t c κs =
     let start = c .before .before .before .before .before .before .before in
-    node-here ((start .pre .1 .0) .sound) (start .args .goal) (goal-low ((start .pre .1 .0) .sound) (start .pre .1 .1 .0 .0 .0))
+    let rd = start .pre .1 .0 in
+    let gr = start .pre .1 .1 .0 .0 .0 in
+    node-here (rd .sound) (start .args .goal) (goal-low (rd .sound) gr)
 
 both-ways-loop-holds : (t : ℕ) → both-ways-lts.Need-loop-holds (both-ways-claims t) (both-ways-at t) both-ways.Post both-ways-Inv-loop both-ways-μ-loop
 both-ways-loop-holds t c =
     let start = c .before .before .before .before .before .before .before .before in
-    (turns-start _ _ _ (start .pre .1 .0), ((start .pre .1 .1 .1), large-self))
+    let rd = start .pre .1 .0 in
+    let eq = start .pre .1 .1 .1 in
+    (turns-start _ _ _ rd, (eq, large-self))
 
 both-ways-put-requires : (t : ℕ) → both-ways-lts.Need-put-requires (both-ways-claims t) (both-ways-at t) both-ways.Post both-ways-Inv-loop both-ways-μ-loop
 both-ways-put-requires t c κs =
     let at-left = c .before .before .before in
     let start = at-left .before .before .before .before .before .before .before in
+    let rd = start .pre .1 .0 in
+    let gr = start .pre .1 .1 .0 .0 .0 in
     let el = at-left .left .ensures .0 in
-    ((omega arith, (omega (arith, el, part-low ((start .pre .1 .0) .sound) (start .pre .1 .1 .0 .0 .0) .0), (start .pre .1 .1 .0 .0 .0) .nested)), refl)
+    ((omega arith, (omega (arith, el, part-low (rd .sound) gr .0), gr .nested)), refl)
 
 both-ways-solve-requires : (t : ℕ) → both-ways-lts.Need-solve-requires (both-ways-claims t) (both-ways-at t) both-ways.Post both-ways-Inv-loop both-ways-μ-loop
 both-ways-solve-requires t c κs =
@@ -726,8 +807,15 @@ both-ways-solve-requires t c κs =
     let at-loop = at-put .before .before in
     let at-left = at-loop .before .before in
     let start = at-left .before .before .before .before .before .before .before in
-    let asked = left-asks ((start .pre .1 .0) .sound) (start .pre .1 .1 .0 .0 .0) (replicate 104 0) refl (start .pre .1 .1 .0 .1) (start .pre .1 .1 .0 .0 .1) (at-left .left .ensures .0) (at-put .put .ensures) in
-    (omega (arith, asked .0, (start .pre .0)), ((at-loop .loop .inv .0) .ready, (asked .1, (at-loop .loop .inv .1 .0))))
+    let rd = start .pre .1 .0 in
+    let number-is = start .pre .0 in
+    let turn = at-loop .loop .inv .0 in
+    let kit = at-loop .loop .inv .1 .0 in
+    let gr = start .pre .1 .1 .0 .0 .0 in
+    let fb = start .pre .1 .1 .0 .0 .1 in
+    let kd = start .pre .1 .1 .0 .1 in
+    let asked = left-asks (rd .sound) gr (replicate 104 0) refl kd fb (at-left .left .ensures .0) (at-put .put .ensures) in
+    (omega (arith, asked .0, number-is), (turn .ready, (asked .1, kit)))
 
 both-ways-enum-told : (t : ℕ) → both-ways-lts.Need-enum-told (both-ways-claims t) (both-ways-at t) both-ways.Post both-ways-Inv-loop both-ways-μ-loop
 both-ways-enum-told t c = search needs
@@ -736,13 +824,15 @@ both-ways-same-length : (t : ℕ) → both-ways-lts.Need-same-length (both-ways-
 both-ways-same-length t c =
     let at-solve = c .before .before .before .before .before in
     let at-loop = at-solve .before .before .before .before .before .before .before .before .before .before in
-    (large-on (at-loop .loop .inv .1 .1) (at-solve .solve .ensures .1)) .code-same
+    let large = at-loop .loop .inv .1 .1 in
+    (large-on large (at-solve .solve .ensures .1)) .code-same
 
 both-ways-same-length-2 : (t : ℕ) → both-ways-lts.Need-same-length-2 (both-ways-claims t) (both-ways-at t) both-ways.Post both-ways-Inv-loop both-ways-μ-loop
 both-ways-same-length-2 t c =
     let at-solve = c .before .before .before .before .before in
     let at-loop = at-solve .before .before .before .before .before .before .before .before .before .before in
-    (large-on (at-loop .loop .inv .1 .1) (at-solve .solve .ensures .1)) .same
+    let large = at-loop .loop .inv .1 .1 in
+    (large-on large (at-solve .solve .ensures .1)) .same
 
 both-ways-returns : (t : ℕ) → both-ways-lts.Need-returns (both-ways-claims t) (both-ways-at t) both-ways.Post both-ways-Inv-loop both-ways-μ-loop
 both-ways-returns t c =
@@ -752,10 +842,18 @@ both-ways-returns t c =
     let at-loop = at-put .before .before in
     let at-left = at-loop .before .before in
     let start = at-left .before .before .before .before .before .before .before in
-    let R = searched-as (one-task _ (replicate 104 0) ((start .pre .1 .1 .0 .0 .0) .nested) refl ((start .pre .1 .1 .0 .0 .1) .len) (at-left .left .ensures .0) (at-put .put .ensures))
+    let rd = start .pre .1 .0 in
+    let turn = at-loop .loop .inv .0 in
+    let large = at-loop .loop .inv .1 .1 in
+    let gr = start .pre .1 .1 .0 .0 .0 in
+    let fb = start .pre .1 .1 .0 .0 .1 in
+    let kd = start .pre .1 .1 .0 .1 in
+    let same-goal = ap (λ (G : Goal). task G (start .args .n) ∷ []) (either-goal (rd .sound) gr (replicate 104 0) refl kd) in
+    let R = searched-as (one-task _ (replicate 104 0) (gr .nested) refl (fb .len) (at-left .left .ensures .0) (at-put .put
+    .ensures))
     (at-solve .solve .ensures .0) in (
-      searched-as (ap (λ (G : Goal). task G (start .args .n) ∷ []) (either-goal ((start .pre .1 .0) .sound) (start .pre .1 .1 .0 .0 .0) (replicate 104 0) refl (start .pre .1 .1 .0 .1))) (either-unsolved _ _ _ (start .pre .1 .1 .0 .0 .1) (at-loop .loop .inv .0) _ R (unsolved _ (at-match .match .keys2) _)),
-      stays-back (at-loop .loop .inv .1 .1) (at-solve .solve .ensures .1),
+      searched-as (same-goal) (either-unsolved _ _ _ fb turn _ R (unsolved _ (at-match .match .keys2) _)),
+      stays-back large (at-solve .solve .ensures .1),
     )
 
 both-ways-way-in-requires : (t : ℕ) → both-ways-lts.Need-way-in-requires (both-ways-claims t) (both-ways-at t) both-ways.Post both-ways-Inv-loop both-ways-μ-loop
@@ -767,8 +865,10 @@ both-ways-put-requires-2 : (t : ℕ) → both-ways-lts.Need-put-requires-2 (both
 both-ways-put-requires-2 t c κs =
     let at-right = c .before .before .before .before .before .before .before .before .before .before .before .before .before .before .before .before .before .before .before .before in
     let start = at-right .before .before .before .before .before .before .before .before in
+    let rd = start .pre .1 .0 in
+    let gr = start .pre .1 .1 .0 .0 .0 in
     let er = at-right .right .ensures .0 in
-    ((omega arith, (omega (arith, er, part-low ((start .pre .1 .0) .sound) (start .pre .1 .1 .0 .0 .0) .1), (start .pre .1 .1 .0 .0 .0) .nested)), refl)
+    ((omega arith, (omega (arith, er, part-low (rd .sound) gr .1), gr .nested)), refl)
 
 both-ways-past-requires : (t : ℕ) → both-ways-lts.Need-past-requires (both-ways-claims t) (both-ways-at t) both-ways.Post both-ways-Inv-loop both-ways-μ-loop
 both-ways-past-requires t c κs = search needs
@@ -789,16 +889,29 @@ both-ways-solve-requires-2 t c κs =
     let at-right = at-loop .before in
     let at-left = at-right .before in
     let start = at-left .before .before .before .before .before .before .before in
-    let R = searched-as (one-task _ (replicate 104 0) ((start .pre .1 .1 .0 .0 .0) .nested) refl ((start .pre .1 .1 .0 .0 .1) .len) (at-left .left .ensures .0) (at-put .put .ensures))
+    let rd = start .pre .1 .0 in
+    let number-is = start .pre .0 in
+    let turn = at-loop .loop .inv .0 in
+    let kit = at-loop .loop .inv .1 .0 in
+    let gr = start .pre .1 .1 .0 .0 .0 in
+    let fb = start .pre .1 .1 .0 .0 .1 in
+    let kd = start .pre .1 .1 .0 .1 in
+    let R = searched-as (one-task _ (replicate 104 0) (gr .nested) refl (fb .len) (at-left .left .ensures .0) (at-put .put
+    .ensures))
     (at-solve .solve .ensures .0) in
     let solved = solved-said (at-enum-told .enum-told .given .1) _ ∙ ap Solved (sym (at-way-in .way-in .ensures)) in
-    let asked = either-rest-asks _ _ _ (start .pre .1 .1 .0 .0 .1) (at-loop .loop .inv .0) _ R _ solved (at-past .past .ensures) (at-past-with .past-with .ensures) (start .pre .1 .1 .0 .0 .0) (start .pre .1 .1 .0 .1) (replicate 104 0) refl
+    let asked = either-rest-asks _ _ _ fb turn _ R _ solved (at-past .past .ensures) (at-past-with .past-with .ensures) gr kd
+    (replicate 104 0) refl
     (at-right .right .ensures .0) (at-put2 .put2 .ensures) in
-    let kept = either-nodes-kept _ _ _ (start .pre .1 .1 .0 .0 .1) (at-loop .loop .inv .0) _ R in (
-      omega (arith, asked .0, (start .pre .0)),
+    let kept = either-nodes-kept _ _ _ fb turn _ R in (
+      omega (arith, asked .0, number-is),
       (
         asked .1 .0,
-        (asked .1 .1, equipped-at (with-count _ _ _ (at-past-with .past-with .ensures)) (equipped-on (at-loop .loop .inv .1 .0) kept ((start .pre .1 .0) .scoped) (at-solve .solve .ensures .1))),
+        (
+          asked .1 .1,
+          equipped-at (with-count _ _ _ (at-past-with .past-with .ensures)) (equipped-on kit kept (rd .scoped) (at-solve
+              .solve .ensures .1)),
+        ),
       ),
     )
 
@@ -831,14 +944,18 @@ both-ways-same-length-3 t c =
     let at-solve2 = c .before .before .before .before .before .before .before .before .before .before .before .before .before .before in
     let at-solve = at-solve2 .before .before .before .before .before .before .before .before .before .before .before .before .before .before .before .before .before .before .before .before in
     let at-loop = at-solve .before .before .before .before .before .before .before .before .before .before in
-    (large-on (large-on (at-loop .loop .inv .1 .1) (at-solve .solve .ensures .1)) (at-solve2 .solve2 .ensures .1)) .code-same
+    let large = at-loop .loop .inv .1 .1 in
+    let large₂ = large-on large (at-solve .solve .ensures .1) in
+    (large-on large₂ (at-solve2 .solve2 .ensures .1)) .code-same
 
 both-ways-same-length-4 : (t : ℕ) → both-ways-lts.Need-same-length-4 (both-ways-claims t) (both-ways-at t) both-ways.Post both-ways-Inv-loop both-ways-μ-loop
 both-ways-same-length-4 t c =
     let at-solve2 = c .before .before .before .before .before .before .before .before .before .before .before .before .before .before in
     let at-solve = at-solve2 .before .before .before .before .before .before .before .before .before .before .before .before .before .before .before .before .before .before .before .before in
     let at-loop = at-solve .before .before .before .before .before .before .before .before .before .before in
-    (large-on (large-on (at-loop .loop .inv .1 .1) (at-solve .solve .ensures .1)) (at-solve2 .solve2 .ensures .1)) .same
+    let large = at-loop .loop .inv .1 .1 in
+    let large₂ = large-on large (at-solve .solve .ensures .1) in
+    (large-on large₂ (at-solve2 .solve2 .ensures .1)) .same
 
 both-ways-returns-2 : (t : ℕ) → both-ways-lts.Need-returns-2 (both-ways-claims t) (both-ways-at t) both-ways.Post both-ways-Inv-loop both-ways-μ-loop
 unfolding answerIn
@@ -861,16 +978,27 @@ both-ways-returns-2 t c =
     let at-right = at-loop .before in
     let at-left = at-right .before in
     let start = at-left .before .before .before .before .before .before .before in
-    let R = searched-as (one-task _ (replicate 104 0) ((start .pre .1 .1 .0 .0 .0) .nested) refl ((start .pre .1 .1 .0 .0 .1) .len) (at-left .left .ensures .0) (at-put .put .ensures))
+    let rd = start .pre .1 .0 in
+    let turn = at-loop .loop .inv .0 in
+    let large = at-loop .loop .inv .1 .1 in
+    let gr = start .pre .1 .1 .0 .0 .0 in
+    let fb = start .pre .1 .1 .0 .0 .1 in
+    let kd = start .pre .1 .1 .0 .1 in
+    let large₂ = large-on large (at-solve .solve .ensures .1) in
+    let same-goal = ap (λ (G : Goal). task G (start .args .n) ∷ []) (either-goal (rd .sound) gr (replicate 104 0) refl kd) in
+    let R = searched-as (one-task _ (replicate 104 0) (gr .nested) refl (fb .len) (at-left .left .ensures .0) (at-put .put
+    .ensures))
     (at-solve .solve .ensures .0) in
     let solved = solved-said (at-enum-told .enum-told .given .1) _ ∙ ap Solved (sym (at-way-in .way-in .ensures)) in
     let Q₁ = searched-past (at-past .past .ensures) (at-past-with .past-with .ensures)
-    (searched-as (one-task _ (replicate 104 0) ((start .pre .1 .1 .0 .0 .0) .nested) refl (with-len _ _ (at-past-with .past-with .ensures)) (at-right .right .ensures .0)
+    (searched-as (one-task _ (replicate 104 0) (gr .nested) refl (with-len _ _ (at-past-with .past-with .ensures)) (at-right .right
+    .ensures .0)
     (at-put2 .put2 .ensures)) (at-solve2 .solve2 .ensures .0)) in
     let second = solved-said (at-enum-told2 .enum-told2 .given .1) _ ∙ ap Solved (sym (at-way-in2 .way-in2 .ensures)) in
-    let done = either-solved _ _ _ (start .pre .1 .1 .0 .0 .1) (at-loop .loop .inv .0) _ R _ solved _ Q₁ _ second in (
-      rw (at-follow .follow .ensures .0, at-both .both .ensures, at-put-way .put-way .ensures .0, at-beside .beside .ensures) (searched-as (ap (λ (G : Goal). task G (start .args .n) ∷ []) (either-goal ((start .pre .1 .0) .sound) (start .pre .1 .1 .0 .0 .0) (replicate 104 0) refl (start .pre .1 .1 .0 .1))) done),
-      stays-from (large-on (at-loop .loop .inv .1 .1) (at-solve .solve .ensures .1)) (at-solve2 .solve2 .ensures .1) _ (at-follow .follow .ensures .1) (weary-solved _),
+    let done = either-solved _ _ _ fb turn _ R _ solved _ Q₁ _ second in (
+      rw (at-follow .follow .ensures .0, at-both .both .ensures, at-put-way .put-way .ensures .0, at-beside .beside .ensures)
+          (searched-as (same-goal) done),
+      stays-from large₂ (at-solve2 .solve2 .ensures .1) _ (at-follow .follow .ensures .1) (weary-solved _),
     )
 
 both-ways-enum-told-3 : (t : ℕ) → both-ways-lts.Need-enum-told-3 (both-ways-claims t) (both-ways-at t) both-ways.Post both-ways-Inv-loop both-ways-μ-loop
@@ -881,14 +1009,18 @@ both-ways-same-length-5 t c =
     let at-solve2 = c .before .before .before .before .before .before .before .before .before in
     let at-solve = at-solve2 .before .before .before .before .before .before .before .before .before .before .before .before .before .before .before .before .before .before .before .before in
     let at-loop = at-solve .before .before .before .before .before .before .before .before .before .before in
-    (large-on (large-on (at-loop .loop .inv .1 .1) (at-solve .solve .ensures .1)) (at-solve2 .solve2 .ensures .1)) .code-same
+    let large = at-loop .loop .inv .1 .1 in
+    let large₂ = large-on large (at-solve .solve .ensures .1) in
+    (large-on large₂ (at-solve2 .solve2 .ensures .1)) .code-same
 
 both-ways-same-length-6 : (t : ℕ) → both-ways-lts.Need-same-length-6 (both-ways-claims t) (both-ways-at t) both-ways.Post both-ways-Inv-loop both-ways-μ-loop
 both-ways-same-length-6 t c =
     let at-solve2 = c .before .before .before .before .before .before .before .before .before in
     let at-solve = at-solve2 .before .before .before .before .before .before .before .before .before .before .before .before .before .before .before .before .before .before .before .before in
     let at-loop = at-solve .before .before .before .before .before .before .before .before .before .before in
-    (large-on (large-on (at-loop .loop .inv .1 .1) (at-solve .solve .ensures .1)) (at-solve2 .solve2 .ensures .1)) .same
+    let large = at-loop .loop .inv .1 .1 in
+    let large₂ = large-on large (at-solve .solve .ensures .1) in
+    (large-on large₂ (at-solve2 .solve2 .ensures .1)) .same
 
 both-ways-returns-3 : (t : ℕ) → both-ways-lts.Need-returns-3 (both-ways-claims t) (both-ways-at t) both-ways.Post both-ways-Inv-loop both-ways-μ-loop
 unfolding answerIn
@@ -907,14 +1039,25 @@ both-ways-returns-3 t c =
     let at-right = at-loop .before in
     let at-left = at-right .before in
     let start = at-left .before .before .before .before .before .before .before in
-    let R = searched-as (one-task _ (replicate 104 0) ((start .pre .1 .1 .0 .0 .0) .nested) refl ((start .pre .1 .1 .0 .0 .1) .len) (at-left .left .ensures .0) (at-put .put .ensures))
+    let rd = start .pre .1 .0 in
+    let turn = at-loop .loop .inv .0 in
+    let large = at-loop .loop .inv .1 .1 in
+    let gr = start .pre .1 .1 .0 .0 .0 in
+    let fb = start .pre .1 .1 .0 .0 .1 in
+    let kd = start .pre .1 .1 .0 .1 in
+    let large₂ = large-on large (at-solve .solve .ensures .1) in
+    let same-goal = ap (λ (G : Goal). task G (start .args .n) ∷ []) (either-goal (rd .sound) gr (replicate 104 0) refl kd) in
+    let R = searched-as (one-task _ (replicate 104 0) (gr .nested) refl (fb .len) (at-left .left .ensures .0) (at-put .put
+    .ensures))
     (at-solve .solve .ensures .0) in
     let solved = solved-said (at-enum-told .enum-told .given .1) _ ∙ ap Solved (sym (at-way-in .way-in .ensures)) in
     let Q₁ = searched-past (at-past .past .ensures) (at-past-with .past-with .ensures)
-    (searched-as (one-task _ (replicate 104 0) ((start .pre .1 .1 .0 .0 .0) .nested) refl (with-len _ _ (at-past-with .past-with .ensures)) (at-right .right .ensures .0)
+    (searched-as (one-task _ (replicate 104 0) (gr .nested) refl (with-len _ _ (at-past-with .past-with .ensures)) (at-right .right
+    .ensures .0)
     (at-put2 .put2 .ensures)) (at-solve2 .solve2 .ensures .0)) in (
-      searched-as (ap (λ (G : Goal). task G (start .args .n) ∷ []) (either-goal ((start .pre .1 .0) .sound) (start .pre .1 .1 .0 .0 .0) (replicate 104 0) refl (start .pre .1 .1 .0 .1))) (either-nosteps _ _ _ (start .pre .1 .1 .0 .0 .1) (at-loop .loop .inv .0) _ R _ solved _ Q₁ (stuck-said (at-enum-told3 .enum-told3 .given .1) _) (at-if1 .if1 .taken)),
-      stays-from (large-on (at-loop .loop .inv .1 .1) (at-solve .solve .ensures .1)) (at-solve2 .solve2 .ensures .1) _ (at-solve2 .solve2 .ensures .1 .way-room) (weary-stuck _),
+      searched-as (same-goal) (either-nosteps _ _ _ fb turn _ R _ solved _ Q₁ (stuck-said (at-enum-told3 .enum-told3 .given .1) _)
+          (at-if1 .if1 .taken)),
+      stays-from large₂ (at-solve2 .solve2 .ensures .1) _ (at-solve2 .solve2 .ensures .1 .way-room) (weary-stuck _),
     )
 
 both-ways-raise-requires : (t : ℕ) → both-ways-lts.Need-raise-requires (both-ways-claims t) (both-ways-at t) both-ways.Post both-ways-Inv-loop both-ways-μ-loop
@@ -933,13 +1076,18 @@ both-ways-raise-requires t c κs =
     let at-right = at-loop .before in
     let at-left = at-right .before in
     let start = at-left .before .before .before .before .before .before .before in
-    let R = searched-as (one-task _ (replicate 104 0) ((start .pre .1 .1 .0 .0 .0) .nested) refl ((start .pre .1 .1 .0 .0 .1) .len) (at-left .left .ensures .0) (at-put .put .ensures))
+    let turn = at-loop .loop .inv .0 in
+    let gr = start .pre .1 .1 .0 .0 .0 in
+    let fb = start .pre .1 .1 .0 .0 .1 in
+    let R = searched-as (one-task _ (replicate 104 0) (gr .nested) refl (fb .len) (at-left .left .ensures .0) (at-put .put
+    .ensures))
     (at-solve .solve .ensures .0) in
     let solved = solved-said (at-enum-told .enum-told .given .1) _ ∙ ap Solved (sym (at-way-in .way-in .ensures)) in
     let Q₁ = searched-past (at-past .past .ensures) (at-past-with .past-with .ensures)
-    (searched-as (one-task _ (replicate 104 0) ((start .pre .1 .1 .0 .0 .0) .nested) refl (with-len _ _ (at-past-with .past-with .ensures)) (at-right .right .ensures .0)
+    (searched-as (one-task _ (replicate 104 0) (gr .nested) refl (with-len _ _ (at-past-with .past-with .ensures)) (at-right .right
+    .ensures .0)
     (at-put2 .put2 .ensures)) (at-solve2 .solve2 .ensures .0)) in
-    either-raise-asks _ _ _ (start .pre .1 .1 .0 .0 .1) (at-loop .loop .inv .0) _ R _ solved _ Q₁ (stuck-said (at-enum-told3 .enum-told3 .given .1) _) (at-if1 .if1 .left)
+    either-raise-asks _ _ _ fb turn _ R _ solved _ Q₁ (stuck-said (at-enum-told3 .enum-told3 .given .1) _) (at-if1 .if1 .left)
 
 both-ways-loop-less : (t : ℕ) → both-ways-lts.Need-loop-less (both-ways-claims t) (both-ways-at t) both-ways.Post both-ways-Inv-loop both-ways-μ-loop
 both-ways-loop-less t c =
@@ -958,13 +1106,19 @@ both-ways-loop-less t c =
     let at-right = at-loop .before in
     let at-left = at-right .before in
     let start = at-left .before .before .before .before .before .before .before in
-    let R = searched-as (one-task _ (replicate 104 0) ((start .pre .1 .1 .0 .0 .0) .nested) refl ((start .pre .1 .1 .0 .0 .1) .len) (at-left .left .ensures .0) (at-put .put .ensures))
+    let turn = at-loop .loop .inv .0 in
+    let gr = start .pre .1 .1 .0 .0 .0 in
+    let fb = start .pre .1 .1 .0 .0 .1 in
+    let R = searched-as (one-task _ (replicate 104 0) (gr .nested) refl (fb .len) (at-left .left .ensures .0) (at-put .put
+    .ensures))
     (at-solve .solve .ensures .0) in
     let solved = solved-said (at-enum-told .enum-told .given .1) _ ∙ ap Solved (sym (at-way-in .way-in .ensures)) in
     let Q₁ = searched-past (at-past .past .ensures) (at-past-with .past-with .ensures)
-    (searched-as (one-task _ (replicate 104 0) ((start .pre .1 .1 .0 .0 .0) .nested) refl (with-len _ _ (at-past-with .past-with .ensures)) (at-right .right .ensures .0)
+    (searched-as (one-task _ (replicate 104 0) (gr .nested) refl (with-len _ _ (at-past-with .past-with .ensures)) (at-right .right
+    .ensures .0)
     (at-put2 .put2 .ensures)) (at-solve2 .solve2 .ensures .0)) in
-    either-falls _ _ _ (start .pre .1 .1 .0 .0 .1) (at-loop .loop .inv .0) _ R _ solved _ Q₁ (stuck-said (at-enum-told3 .enum-told3 .given .1) _) (at-if1 .if1 .left) _ (at-raise .raise .ensures .0) (at-raise .raise .ensures .1)
+    either-falls _ _ _ fb turn _ R _ solved _ Q₁ (stuck-said (at-enum-told3 .enum-told3 .given .1) _) (at-if1 .if1 .left) _
+    (at-raise .raise .ensures .0) (at-raise .raise .ensures .1)
 
 both-ways-loop-again : (t : ℕ) → both-ways-lts.Need-loop-again (both-ways-claims t) (both-ways-at t) both-ways.Post both-ways-Inv-loop both-ways-μ-loop
 both-ways-loop-again t c =
@@ -983,15 +1137,25 @@ both-ways-loop-again t c =
     let at-right = at-loop .before in
     let at-left = at-right .before in
     let start = at-left .before .before .before .before .before .before .before in
-    let R = searched-as (one-task _ (replicate 104 0) ((start .pre .1 .1 .0 .0 .0) .nested) refl ((start .pre .1 .1 .0 .0 .1) .len) (at-left .left .ensures .0) (at-put .put .ensures))
+    let rd = start .pre .1 .0 in
+    let turn = at-loop .loop .inv .0 in
+    let kit = at-loop .loop .inv .1 .0 in
+    let large = at-loop .loop .inv .1 .1 in
+    let gr = start .pre .1 .1 .0 .0 .0 in
+    let fb = start .pre .1 .1 .0 .0 .1 in
+    let large₂ = large-on large (at-solve .solve .ensures .1) in
+    let R = searched-as (one-task _ (replicate 104 0) (gr .nested) refl (fb .len) (at-left .left .ensures .0) (at-put .put
+    .ensures))
     (at-solve .solve .ensures .0) in
     let solved = solved-said (at-enum-told .enum-told .given .1) _ ∙ ap Solved (sym (at-way-in .way-in .ensures)) in
     let Q₁ = searched-past (at-past .past .ensures) (at-past-with .past-with .ensures)
-    (searched-as (one-task _ (replicate 104 0) ((start .pre .1 .1 .0 .0 .0) .nested) refl (with-len _ _ (at-past-with .past-with .ensures)) (at-right .right .ensures .0)
+    (searched-as (one-task _ (replicate 104 0) (gr .nested) refl (with-len _ _ (at-past-with .past-with .ensures)) (at-right .right
+    .ensures .0)
     (at-put2 .put2 .ensures)) (at-solve2 .solve2 .ensures .0)) in
-    let kept = either-nodes-on _ _ _ (start .pre .1 .1 .0 .0 .1) (at-loop .loop .inv .0) _ R _ solved _ Q₁ in (
-      either-again _ _ _ (start .pre .1 .1 .0 .0 .1) (at-loop .loop .inv .0) _ R _ solved _ Q₁ (stuck-said (at-enum-told3 .enum-told3 .given .1) _) (at-if1 .if1 .left) _ (at-raise .raise .ensures .0) (at-raise .raise .ensures .1),
-      (equipped-on (at-loop .loop .inv .1 .0) kept ((start .pre .1 .0) .scoped) (at-solve2 .solve2 .ensures .1), large-on (large-on (at-loop .loop .inv .1 .1) (at-solve .solve .ensures .1)) (at-solve2 .solve2 .ensures .1)),
+    let kept = either-nodes-on _ _ _ fb turn _ R _ solved _ Q₁ in (
+      either-again _ _ _ fb turn _ R _ solved _ Q₁ (stuck-said (at-enum-told3 .enum-told3 .given .1) _) (at-if1 .if1 .left) _
+          (at-raise .raise .ensures .0) (at-raise .raise .ensures .1),
+      (equipped-on kit kept (rd .scoped) (at-solve2 .solve2 .ensures .1), large-on large₂ (at-solve2 .solve2 .ensures .1)),
     )
 
 both-ways-enum-told-4 : (t : ℕ) → both-ways-lts.Need-enum-told-4 (both-ways-claims t) (both-ways-at t) both-ways.Post both-ways-Inv-loop both-ways-μ-loop
@@ -1002,14 +1166,18 @@ both-ways-same-length-7 t c =
     let at-solve2 = c .before .before .before .before .before .before in
     let at-solve = at-solve2 .before .before .before .before .before .before .before .before .before .before .before .before .before .before .before .before .before .before .before .before in
     let at-loop = at-solve .before .before .before .before .before .before .before .before .before .before in
-    (large-on (large-on (at-loop .loop .inv .1 .1) (at-solve .solve .ensures .1)) (at-solve2 .solve2 .ensures .1)) .code-same
+    let large = at-loop .loop .inv .1 .1 in
+    let large₂ = large-on large (at-solve .solve .ensures .1) in
+    (large-on large₂ (at-solve2 .solve2 .ensures .1)) .code-same
 
 both-ways-same-length-8 : (t : ℕ) → both-ways-lts.Need-same-length-8 (both-ways-claims t) (both-ways-at t) both-ways.Post both-ways-Inv-loop both-ways-μ-loop
 both-ways-same-length-8 t c =
     let at-solve2 = c .before .before .before .before .before .before in
     let at-solve = at-solve2 .before .before .before .before .before .before .before .before .before .before .before .before .before .before .before .before .before .before .before .before in
     let at-loop = at-solve .before .before .before .before .before .before .before .before .before .before in
-    (large-on (large-on (at-loop .loop .inv .1 .1) (at-solve .solve .ensures .1)) (at-solve2 .solve2 .ensures .1)) .same
+    let large = at-loop .loop .inv .1 .1 in
+    let large₂ = large-on large (at-solve .solve .ensures .1) in
+    (large-on large₂ (at-solve2 .solve2 .ensures .1)) .same
 
 both-ways-returns-4 : (t : ℕ) → both-ways-lts.Need-returns-4 (both-ways-claims t) (both-ways-at t) both-ways.Post both-ways-Inv-loop both-ways-μ-loop
 unfolding answerIn
@@ -1027,14 +1195,24 @@ both-ways-returns-4 t c =
     let at-right = at-loop .before in
     let at-left = at-right .before in
     let start = at-left .before .before .before .before .before .before .before in
-    let R = searched-as (one-task _ (replicate 104 0) ((start .pre .1 .1 .0 .0 .0) .nested) refl ((start .pre .1 .1 .0 .0 .1) .len) (at-left .left .ensures .0) (at-put .put .ensures))
+    let rd = start .pre .1 .0 in
+    let turn = at-loop .loop .inv .0 in
+    let large = at-loop .loop .inv .1 .1 in
+    let gr = start .pre .1 .1 .0 .0 .0 in
+    let fb = start .pre .1 .1 .0 .0 .1 in
+    let kd = start .pre .1 .1 .0 .1 in
+    let large₂ = large-on large (at-solve .solve .ensures .1) in
+    let same-goal = ap (λ (G : Goal). task G (start .args .n) ∷ []) (either-goal (rd .sound) gr (replicate 104 0) refl kd) in
+    let R = searched-as (one-task _ (replicate 104 0) (gr .nested) refl (fb .len) (at-left .left .ensures .0) (at-put .put
+    .ensures))
     (at-solve .solve .ensures .0) in
     let solved = solved-said (at-enum-told .enum-told .given .1) _ ∙ ap Solved (sym (at-way-in .way-in .ensures)) in
     let Q₁ = searched-past (at-past .past .ensures) (at-past-with .past-with .ensures)
-    (searched-as (one-task _ (replicate 104 0) ((start .pre .1 .1 .0 .0 .0) .nested) refl (with-len _ _ (at-past-with .past-with .ensures)) (at-right .right .ensures .0)
+    (searched-as (one-task _ (replicate 104 0) (gr .nested) refl (with-len _ _ (at-past-with .past-with .ensures)) (at-right .right
+    .ensures .0)
     (at-put2 .put2 .ensures)) (at-solve2 .solve2 .ensures .0)) in (
-      searched-as (ap (λ (G : Goal). task G (start .args .n) ∷ []) (either-goal ((start .pre .1 .0) .sound) (start .pre .1 .1 .0 .0 .0) (replicate 104 0) refl (start .pre .1 .1 .0 .1))) (either-tired _ _ _ (start .pre .1 .1 .0 .0 .1) (at-loop .loop .inv .0) _ R _ solved _ Q₁),
-      stays-tired (at-enum-told4 .enum-told4 .given .1) (large-on (at-loop .loop .inv .1 .1) (at-solve .solve .ensures .1)) (at-solve2 .solve2 .ensures .1),
+      searched-as (same-goal) (either-tired _ _ _ fb turn _ R _ solved _ Q₁),
+      stays-tired (at-enum-told4 .enum-told4 .given .1) large₂ (at-solve2 .solve2 .ensures .1),
     )
 
 last-own-requires : (t : ℕ) → last-lts.Need-own-requires (last-claims t) (last-at t) last.Post
@@ -1044,9 +1222,13 @@ last-part-requires : (t : ℕ) → last-lts.Need-part-requires (last-claims t) (
 last-part-requires t c κs =
     let at-own = c in
     let start = at-own .before .before .before .before .before .before .before .before .before .before .before .before .before in
+    let rd = start .pre .1 .0 in
+    let q = start .pre .1 .1 .0 in
+    let eq = start .pre .1 .1 .1 in
+    let number-is = start .pre .0 in
     rw (at-own .own .ensures) (
-      omega (arith, (start .pre .0)),
-      (ready-own (start .pre .1 .0), ((goal-own (start .pre .1 .1 .0), fresh-own (start .args .b)), (start .pre .1 .1 .1))),
+      omega (arith, number-is),
+      (ready-own rd, ((goal-own q, fresh-own (start .args .b)), eq)),
     )
 
 last-enum-told : (t : ℕ) → last-lts.Need-enum-told (last-claims t) (last-at t) last.Post
@@ -1104,49 +1286,66 @@ last-returns-2 t c =
     let at-part = at-enum-told .before .before .before .before .before .before in
     let at-own = at-part .before in
     let solved = solved-said (at-enum-told .enum-told .given .1) _ ∙ ap Solved (sym (at-way-in .way-in .ensures)) in (
-      rw (at-put-way .put-way .ensures .0, at-joined .joined .ensures) (own-solved _ (searched-at (at-own .own .ensures) (at-part .part .ensures .0)) solved),
+      rw (at-put-way .put-way .ensures .0, at-joined .joined .ensures) (own-solved _ (searched-at (at-own .own .ensures) (at-part
+          .part .ensures .0)) solved),
       stays-from large-self (at-part .part .ensures .1) _ (at-put-way .put-way .ensures .1) (weary-solved _),
     )
 
 lent-left-requires : (t : ℕ) → lent-lts.Need-left-requires (lent-claims t) (lent-at t) lent.Post
 lent-left-requires t c κs =
     let start = c .before .before .before .before .before .before .before .before in
-    node-here ((start .pre .1 .0) .sound) (start .args .goal) (goal-low ((start .pre .1 .0) .sound) (start .pre .1 .1 .0 .0 .0))
+    let rd = start .pre .1 .0 in
+    let gr = start .pre .1 .1 .0 .0 .0 in
+    node-here (rd .sound) (start .args .goal) (goal-low (rd .sound) gr)
 
 lent-put-requires : (t : ℕ) → lent-lts.Need-put-requires (lent-claims t) (lent-at t) lent.Post
 lent-put-requires t c κs =
     let at-left = c in
     let start = at-left .before .before .before .before .before .before .before .before .before in
+    let rd = start .pre .1 .0 in
+    let gr = start .pre .1 .1 .0 .0 .0 in
+    let fb = start .pre .1 .1 .0 .0 .1 in
+    let kd = start .pre .1 .1 .0 .1 in
     let e = at-left .left .ensures .0 in
-    ((start .pre .1 .0) .sound, (rw e (lent-clause (start .pre .1 .0) (start .pre .1 .1 .0 .0 .0) (start .pre .1 .1 .0 .0 .1) (start .pre .1 .1 .0 .1)), (lent-count (start .pre .1 .0) (start .pre .1 .1 .0 .0 .0) (start .pre .1 .1 .0 .0 .1) (start .pre .1 .1 .0 .1), ((start .pre .1 .0) .entered .node-room, (start .pre .1 .0) .entered .head-room))))
+    (rd .sound, (rw e (lent-clause rd gr fb kd), (lent-count rd gr fb kd, (rd .entered .node-room, rd .entered .head-room))))
 
 lent-byte-requires : (t : ℕ) → lent-lts.Need-byte-requires (lent-claims t) (lent-at t) lent.Post
 lent-byte-requires t c κs =
     let start = c .before .before .before .before .before .before .before .before .before .before in
-    let f = sound-front (start .args .card .now) ((start .pre .1 .0) .sound) .whole in omega (arith, f)
+    let rd = start .pre .1 .0 in
+    let f = sound-front (start .args .card .now) (rd .sound) .whole in omega (arith, f)
 
 lent-sub-item : (t : ℕ) → lent-lts.Need-sub-item (lent-claims t) (lent-at t) lent.Post
 lent-sub-item t c =
     let at-byte = c in
     let start = at-byte .before .before .before .before .before .before .before .before .before .before .before in
-    omega (arith, (start .pre .1 .0) .scoped, at-byte .byte .ensures .0)
+    let rd = start .pre .1 .0 in
+    omega (arith, rd .scoped, at-byte .byte .ensures .0)
 
 lent-right-requires : (t : ℕ) → lent-lts.Need-right-requires (lent-claims t) (lent-at t) lent.Post
 lent-right-requires t c κs =
     let start = c .before .before .before .before .before .before .before .before .before .before .before .before in
-    node-here ((start .pre .1 .0) .sound) (start .args .goal) (goal-low ((start .pre .1 .0) .sound) (start .pre .1 .1 .0 .0 .0))
+    let rd = start .pre .1 .0 in
+    let gr = start .pre .1 .1 .0 .0 .0 in
+    node-here (rd .sound) (start .args .goal) (goal-low (rd .sound) gr)
 
 lent-put-requires-2 : (t : ℕ) → lent-lts.Need-put-requires-2 (lent-claims t) (lent-at t) lent.Post
 lent-put-requires-2 t c κs =
     let at-right = c in
     let start = at-right .before .before .before .before .before .before .before .before .before .before .before .before .before in
+    let rd = start .pre .1 .0 in
+    let gr = start .pre .1 .1 .0 .0 .0 in
     let e = at-right .right .ensures .0 in
-    ((omega arith, (omega (arith, e, part-low ((start .pre .1 .0) .sound) (start .pre .1 .1 .0 .0 .0) .1), (start .pre .1 .1 .0 .0 .0) .nested)), refl)
+    ((omega arith, (omega (arith, e, part-low (rd .sound) gr .1), gr .nested)), refl)
 
 lent-lent-requires : (t : ℕ) → lent-lts.Need-lent-requires (lent-claims t) (lent-at t) lent.Post
 lent-lent-requires t c κs =
     let start = c .before .before .before .before .before .before .before .before .before .before .before .before .before .before .before .before .before .before .before .before .before in
-    let few = lent-count (start .pre .1 .0) (start .pre .1 .1 .0 .0 .0) (start .pre .1 .1 .0 .0 .1) (start .pre .1 .1 .0 .1) in omega arith
+    let rd = start .pre .1 .0 in
+    let gr = start .pre .1 .1 .0 .0 .0 in
+    let fb = start .pre .1 .1 .0 .0 .1 in
+    let kd = start .pre .1 .1 .0 .1 in
+    let few = lent-count rd gr fb kd in omega arith
 
 lent-solve-requires : (t : ℕ) → lent-lts.Need-solve-requires (lent-claims t) (lent-at t) lent.Post
 lent-solve-requires t c κs =
@@ -1157,17 +1356,24 @@ lent-solve-requires t c κs =
     let at-put = at-byte .before in
     let at-left = at-put .before in
     let start = at-left .before .before .before .before .before .before .before .before .before in
+    let rd = start .pre .1 .0 in
+    let eq = start .pre .1 .1 .1 in
+    let number-is = start .pre .0 in
+    let gr = start .pre .1 .1 .0 .0 .0 in
+    let fb = start .pre .1 .1 .0 .0 .1 in
+    let kd = start .pre .1 .1 .0 .1 in
     let el = at-left .left .ensures .0 in
     let put = at-put .put .ensures in
-    let asked = lent-asks (start .pre .1 .0) (start .pre .1 .1 .0 .0 .0) (start .pre .1 .1 .0 .0 .1) (start .pre .1 .1 .0 .1) el (put .0) (put .1) _ (at-byte .byte .ensures .0) (at-lent .lent .ensures) (replicate 104 0) refl
+    let asked = lent-asks rd gr fb kd el (put .0) (put .1) _ (at-byte .byte .ensures .0) (at-lent .lent .ensures) (replicate 104 0)
+    refl
     (at-right .right .ensures .0) (at-put2 .put2 .ensures) in (
-      omega (arith, asked .0, (start .pre .0)),
+      omega (arith, asked .0, number-is),
       (
         asked .1 .0,
         (
           asked .1 .1,
           equipped-at (ap (λ (x : Branch). x .count) (at-lent .lent .ensures))
-              (equipped-lent (start .pre .1 .1 .1) (goal-low ((start .pre .1 .0) .sound) (start .pre .1 .1 .0 .0 .0)) (start .pre .1 .1 .0 .1) (lent-count (start .pre .1 .0) (start .pre .1 .1 .0 .0 .0) (start .pre .1 .1 .0 .0 .1) (start .pre .1 .1 .0 .1)) ((start .pre .1 .0) .entered .node-room) ((start .pre .1 .0) .scoped) el (put .0)),
+              (equipped-lent eq (goal-low (rd .sound) gr) kd (lent-count rd gr fb kd) (rd .entered .node-room) (rd .scoped) el (put .0)),
         ),
       ),
     )
@@ -1196,12 +1402,16 @@ lent-returns t c =
     let at-put = at-byte .before in
     let at-left = at-put .before in
     let start = at-left .before .before .before .before .before .before .before .before .before in
+    let rd = start .pre .1 .0 in
+    let gr = start .pre .1 .1 .0 .0 .0 in
+    let fb = start .pre .1 .1 .0 .0 .1 in
+    let kd = start .pre .1 .1 .0 .1 in
     let el = at-left .left .ensures .0 in
     let put = at-put .put .ensures in
-    let S = searched-at (lent-branch (start .pre .1 .0) (start .pre .1 .1 .0 .0 .0) (start .pre .1 .1 .0 .0 .1) (start .pre .1 .1 .0 .1) el (put .0) (put .1) _ (at-byte .byte .ensures .0) (at-lent .lent .ensures))
-    (searched-as (one-task _ (replicate 104 0) ((start .pre .1 .1 .0 .0 .0) .nested) refl (ap (λ (x : Branch). x .len) (at-lent .lent .ensures))
+    let S = searched-at (lent-branch rd gr fb kd el (put .0) (put .1) _ (at-byte .byte .ensures .0) (at-lent .lent .ensures))
+    (searched-as (one-task _ (replicate 104 0) (gr .nested) refl (ap (λ (x : Branch). x .len) (at-lent .lent .ensures))
     (at-right .right .ensures .0) (at-put2 .put2 .ensures)) (at-solve .solve .ensures .0)) in
-    (lent-unsolved (start .pre .1 .0) (start .pre .1 .1 .0 .0 .0) (start .pre .1 .1 .0 .0 .1) (start .pre .1 .1 .0 .1) el (put .0) (put .1) S (unsolved _ (at-match .match .keys2) _), at-solve .solve .ensures .1)
+    (lent-unsolved rd gr fb kd el (put .0) (put .1) S (unsolved _ (at-match .match .keys2) _), at-solve .solve .ensures .1)
 
 lent-way-in-requires : (t : ℕ) → lent-lts.Need-way-in-requires (lent-claims t) (lent-at t) lent.Post
 lent-way-in-requires t c κs =
@@ -1241,25 +1451,33 @@ lent-returns-2 t c =
     let at-put = at-byte .before in
     let at-left = at-put .before in
     let start = at-left .before .before .before .before .before .before .before .before .before in
+    let rd = start .pre .1 .0 in
+    let gr = start .pre .1 .1 .0 .0 .0 in
+    let fb = start .pre .1 .1 .0 .0 .1 in
+    let kd = start .pre .1 .1 .0 .1 in
     let el = at-left .left .ensures .0 in
     let put = at-put .put .ensures in
-    let S = searched-at (lent-branch (start .pre .1 .0) (start .pre .1 .1 .0 .0 .0) (start .pre .1 .1 .0 .0 .1) (start .pre .1 .1 .0 .1) el (put .0) (put .1) _ (at-byte .byte .ensures .0) (at-lent .lent .ensures))
-    (searched-as (one-task _ (replicate 104 0) ((start .pre .1 .1 .0 .0 .0) .nested) refl (ap (λ (x : Branch). x .len) (at-lent .lent .ensures))
+    let S = searched-at (lent-branch rd gr fb kd el (put .0) (put .1) _ (at-byte .byte .ensures .0) (at-lent .lent .ensures))
+    (searched-as (one-task _ (replicate 104 0) (gr .nested) refl (ap (λ (x : Branch). x .len) (at-lent .lent .ensures))
     (at-right .right .ensures .0) (at-put2 .put2 .ensures)) (at-solve .solve .ensures .0)) in
     let solved = solved-said (at-enum-told .enum-told .given .1) _ ∙ ap Solved (sym (at-way-in .way-in .ensures)) in (
-      rw (at-put-way .put-way .ensures .0, at-without .without .ensures, at-byte .byte .ensures .0) (lent-solved (start .pre .1 .0) (start .pre .1 .1 .0 .0 .0) (start .pre .1 .1 .0 .0 .1) (start .pre .1 .1 .0 .1) el (put .0) (put .1) S _ solved),
+      rw (at-put-way .put-way .ensures .0, at-without .without .ensures, at-byte .byte .ensures .0) (lent-solved rd gr fb kd el (put
+          .0) (put .1) S _ solved),
       stays-from large-self (at-solve .solve .ensures .1) _ (at-put-way .put-way .ensures .1) (weary-solved _),
     )
 
 need-sub-nest : (t : ℕ) → need-lts.Need-sub-nest (need-claims t) (need-at t) need.Post
 need-sub-nest t c =
     let start = c .before .before .before .before .before .before .before in
-    let some = (start .pre .1 .1 .0) .some in search needs
+    let q = start .pre .1 .1 .0 in
+    let some = q .some in search needs
 
 need-nest-requires : (t : ℕ) → need-lts.Need-nest-requires (need-claims t) (need-at t) need.Post
 need-nest-requires t c κs =
     let start = c .before .before .before .before .before .before .before in
-    top-inside (start .pre .1 .0) (start .pre .1 .1 .0)
+    let rd = start .pre .1 .0 in
+    let q = start .pre .1 .1 .0 in
+    top-inside rd q
 
 need-returns : (t : ℕ) → need-lts.Need-returns (need-claims t) (need-at t) need.Post
 unfolding answerIn
@@ -1267,19 +1485,28 @@ need-returns t c =
     let at-if1 = c in
     let at-nest = at-if1 .before in
     let start = at-nest .before .before .before .before .before .before .before .before in
-    (unnested (start .pre .1 .0) (start .pre .1 .1 .0) (sym (at-nest .nest .ensures) ∙ at-if1 .if1 .taken), stays-stuck (start .pre .1 .1 .1))
+    let rd = start .pre .1 .0 in
+    let q = start .pre .1 .1 .0 in
+    let eq = start .pre .1 .1 .1 in
+    (unnested rd q (sym (at-nest .nest .ensures) ∙ at-if1 .if1 .taken), stays-stuck eq)
 
 need-returns-2 : (t : ℕ) → need-lts.Need-returns-2 (need-claims t) (need-at t) need.Post
 unfolding answerIn
 need-returns-2 t c =
     let at-if2 = c in
     let start = at-if2 .before .before .before .before .before .before .before .before .before .before .before in
-    (roomless (start .pre .1 .0) (start .pre .1 .1 .0) (at-if2 .if2 .taken), stays-stuck (start .pre .1 .1 .1))
+    let rd = start .pre .1 .0 in
+    let q = start .pre .1 .1 .0 in
+    let eq = start .pre .1 .1 .1 in
+    (roomless rd q (at-if2 .if2 .taken), stays-stuck eq)
 
 need-doomed-requires : (t : ℕ) → need-lts.Need-doomed-requires (need-claims t) (need-at t) need.Post
 need-doomed-requires t c κs =
     let start = c .before .before .before .before .before .before .before .before .before .before .before .before .before .before in
-    (asks (start .pre .1 .0) (start .pre .1 .1 .0) ((start .pre .1 .1 .1) .rooted), (start .pre .1 .1 .1) .stocked)
+    let rd = start .pre .1 .0 in
+    let q = start .pre .1 .1 .0 in
+    let eq = start .pre .1 .1 .1 in
+    (asks rd q (eq .rooted), eq .stocked)
 
 need-same-length : (t : ℕ) → need-lts.Need-same-length (need-claims t) (need-at t) need.Post
 need-same-length t c = refl
@@ -1293,12 +1520,16 @@ need-returns-3 t c =
     let at-if3 = c in
     let at-doomed = at-if3 .before in
     let start = at-doomed .before .before .before .before .before .before .before .before .before .before .before .before .before .before .before in
-    (doomed-told (start .pre .1 .0) (start .pre .1 .1 .0) (at-doomed .doomed .ensures (at-if3 .if3 .taken)), stays-stuck (start .pre .1 .1 .1))
+    let rd = start .pre .1 .0 in
+    let q = start .pre .1 .1 .0 in
+    let eq = start .pre .1 .1 .1 in
+    (doomed-told rd q (at-doomed .doomed .ensures (at-if3 .if3 .taken)), stays-stuck eq)
 
 need-first-at-requires : (t : ℕ) → need-lts.Need-first-at-requires (need-claims t) (need-at t) need.Post
 need-first-at-requires t c κs =
     let start = c .before .before .before .before .before .before .before .before .before .before .before .before .before .before .before .before .before .before in
-    ((start .pre .1 .0) .fixed, (start .pre .1 .0) .tape-room)
+    let rd = start .pre .1 .0 in
+    (rd .fixed, rd .tape-room)
 
 need-others-requires : (t : ℕ) → need-lts.Need-others-requires (need-claims t) (need-at t) need.Post
 need-others-requires t c κs =
@@ -1307,9 +1538,12 @@ need-others-requires t c κs =
     let at-if1 = at-if2 .before .before in
     let at-nest = at-if1 .before in
     let start = at-nest .before .before .before .before .before .before .before .before in
-    let N = name-open (start .pre .1 .1 .0) _ (at-nest .nest .ensures) (at-if1 .if1 .left) (at-if2 .if2 .left) in
-    let m = (start .pre .0) in
-    (omega arith, ((start .pre .1 .0), ((N, at-first-at .first-at .ensures), (start .pre .1 .1 .1))))
+    let rd = start .pre .1 .0 in
+    let q = start .pre .1 .1 .0 in
+    let eq = start .pre .1 .1 .1 in
+    let number-is = start .pre .0 in
+    let N = name-open q _ (at-nest .nest .ensures) (at-if1 .if1 .left) (at-if2 .if2 .left) in
+    (omega arith, (rd, ((N, at-first-at .first-at .ensures), eq)))
 
 need-same-length-3 : (t : ℕ) → need-lts.Need-same-length-3 (need-claims t) (need-at t) need.Post
 need-same-length-3 t c =
@@ -1338,29 +1572,40 @@ others-μ-loop card waits tape₀ nodes₀ heads₀ way₀ names table masks cod
 others-sub-node : (t : ℕ) → others-lts.Need-sub-node (others-claims t) (others-at t) others.Post others-Inv-loop others-μ-loop
 others-sub-node t c =
     let start = c .before .before .before .before .before .before .before in
-    let some = (start .pre .1 .1 .0 .0) .next .some in search needs
+    let step = start .pre .1 .1 .0 .0 in
+    let some = step .next .some in search needs
 
 others-node-requires : (t : ℕ) → others-lts.Need-node-requires (others-claims t) (others-at t) others.Post others-Inv-loop others-μ-loop
 others-node-requires t c κs =
     let start = c .before .before .before .before .before .before .before in
-    top-inside (start .pre .1 .0) ((start .pre .1 .1 .0 .0) .next)
+    let rd = start .pre .1 .0 in
+    let step = start .pre .1 .1 .0 .0 in
+    top-inside rd (step .next)
 
 others-left-requires : (t : ℕ) → others-lts.Need-left-requires (others-claims t) (others-at t) others.Post others-Inv-loop others-μ-loop
 others-left-requires t c κs =
     let at-node = c in
     let start = at-node .before .before .before .before .before .before .before .before in
-    name-here (start .pre .1 .0) ((start .pre .1 .1 .0 .0) .next) _ (at-node .node .ensures)
+    let rd = start .pre .1 .0 in
+    let step = start .pre .1 .1 .0 .0 in
+    name-here rd (step .next) _ (at-node .node .ensures)
 
 others-loop-holds : (t : ℕ) → others-lts.Need-loop-holds (others-claims t) (others-at t) others.Post others-Inv-loop others-μ-loop
 others-loop-holds t c =
     let start = c .before .before .before .before .before .before .before .before .before in
-    (round-start (start .pre .1 .0) (start .pre .1 .1 .0 .1) _ refl, ((start .pre .1 .1 .1), large-self))
+    let rd = start .pre .1 .0 in
+    let eq = start .pre .1 .1 .1 in
+    let least = start .pre .1 .1 .0 .1 in
+    (round-start rd least _ refl, (eq, large-self))
 
 others-seek-requires : (t : ℕ) → others-lts.Need-seek-requires (others-claims t) (others-at t) others.Post others-Inv-loop others-μ-loop
 others-seek-requires t c κs =
     let at-loop = c .before in
     let start = at-loop .before .before .before .before .before .before .before .before .before .before in
-    testing (round-ready (start .pre .1 .0) (start .pre .1 .1 .0 .0) (at-loop .loop .inv .0))
+    let rd = start .pre .1 .0 in
+    let step = start .pre .1 .1 .0 .0 in
+    let turn = at-loop .loop .inv .0 in
+    testing (round-ready rd step turn)
 
 others-enum-known-next : (t : ℕ) → others-lts.Need-enum-known-next (others-claims t) (others-at t) others.Post others-Inv-loop others-μ-loop
 others-enum-known-next t c = search needs
@@ -1380,11 +1625,16 @@ others-dead-end-requires t c κs =
     let at-left = at-loop .before in
     let at-node = at-left .before in
     let start = at-node .before .before .before .before .before .before .before .before in
-    let name = name-of ((start .pre .1 .1 .0 .0) .next) _ _ (at-left .left .ensures .0) (at-node .node .ensures) in
-    let none = round-ends (start .pre .1 .0) (start .pre .1 .1 .0 .0) _ name _ (at-seek .seek .ensures) (at-loop .loop .inv .0) (at-enum-told .enum-told .given .1) in
-    let k = round-kept (start .pre .1 .0) (start .pre .1 .1 .0 .0) (at-loop .loop .inv .0) in (
-      asks (round-ready (start .pre .1 .0) (start .pre .1 .1 .0 .0) (at-loop .loop .inv .0)) ((start .pre .1 .1 .0 .0) .next) ((at-loop .loop .inv .1 .0) .rooted),
-      ((at-loop .loop .inv .1 .0) .stocked .memory, λ o. dead-barren _ (start .pre .1 .0) (start .pre .1 .1 .0 .1) (k .1 .0) none (sym (at-unfloored .unfloored .ensures) ∙ o)),
+    let rd = start .pre .1 .0 in
+    let step = start .pre .1 .1 .0 .0 in
+    let least = start .pre .1 .1 .0 .1 in
+    let turn = at-loop .loop .inv .0 in
+    let kit = at-loop .loop .inv .1 .0 in
+    let name = name-of (step .next) _ _ (at-left .left .ensures .0) (at-node .node .ensures) in
+    let none = round-ends rd step _ name _ (at-seek .seek .ensures) turn (at-enum-told .enum-told .given .1) in
+    let k = round-kept rd step turn in (
+      asks (round-ready rd step turn) (step .next) (kit .rooted),
+      (kit .stocked .memory, λ o. dead-barren _ rd least (k .1 .0) none (sym (at-unfloored .unfloored .ensures) ∙ o)),
     )
 
 others-given-up-requires : (t : ℕ) → others-lts.Need-given-up-requires (others-claims t) (others-at t) others.Post others-Inv-loop others-μ-loop
@@ -1394,13 +1644,15 @@ others-same-length : (t : ℕ) → others-lts.Need-same-length (others-claims t)
 others-same-length t c =
     let at-dead-end = c .before .before .before .before .before in
     let at-loop = at-dead-end .before .before .before .before .before .before .before .before .before in
-    at-dead-end .dead-end .ensures .1 .0 .0 ∙ (at-loop .loop .inv .1 .1) .code-same
+    let large = at-loop .loop .inv .1 .1 in
+    at-dead-end .dead-end .ensures .1 .0 .0 ∙ large .code-same
 
 others-same-length-2 : (t : ℕ) → others-lts.Need-same-length-2 (others-claims t) (others-at t) others.Post others-Inv-loop others-μ-loop
 others-same-length-2 t c =
     let at-dead-end = c .before .before .before .before .before in
     let at-loop = at-dead-end .before .before .before .before .before .before .before .before .before in
-    at-dead-end .dead-end .ensures .1 .0 .1 ∙ (at-loop .loop .inv .1 .1) .same
+    let large = at-loop .loop .inv .1 .1 in
+    at-dead-end .dead-end .ensures .1 .0 .1 ∙ large .same
 
 others-returns : (t : ℕ) → others-lts.Need-returns (others-claims t) (others-at t) others.Post others-Inv-loop others-μ-loop
 others-returns t c =
@@ -1412,11 +1664,17 @@ others-returns t c =
     let at-left = at-loop .before in
     let at-node = at-left .before in
     let start = at-node .before .before .before .before .before .before .before .before in
-    let name = name-of ((start .pre .1 .1 .0 .0) .next) _ _ (at-left .left .ensures .0) (at-node .node .ensures) in
-    let none = round-ends (start .pre .1 .0) (start .pre .1 .1 .0 .0) _ name _ (at-seek .seek .ensures) (at-loop .loop .inv .0) (at-enum-told .enum-told .given .1) in
+    let rd = start .pre .1 .0 in
+    let step = start .pre .1 .1 .0 .0 in
+    let turn = at-loop .loop .inv .0 in
+    let kit = at-loop .loop .inv .1 .0 in
+    let large = at-loop .loop .inv .1 .1 in
+    let name = name-of (step .next) _ _ (at-left .left .ensures .0) (at-node .node .ensures) in
+    let none = round-ends rd step _ name _ (at-seek .seek .ensures) turn (at-enum-told .enum-told .given .1) in
     rw (at-given-up .given-up .ensures) (
       dead-told _ _ (at-dead-end .dead-end .result) none,
-      stays-dead (at-dead-end .dead-end .result) (at-loop .loop .inv .1 .0) (at-loop .loop .inv .1 .1) (at-dead-end .dead-end .ensures .0) (at-dead-end .dead-end .ensures .1 .0) (at-dead-end .dead-end .ensures .1 .1),
+      stays-dead (at-dead-end .dead-end .result) kit large (at-dead-end .dead-end .ensures .0) (at-dead-end .dead-end .ensures .1 .0)
+          (at-dead-end .dead-end .ensures .1 .1),
     )
 
 others-keeps-requires : (t : ℕ) → others-lts.Need-keeps-requires (others-claims t) (others-at t) others.Post others-Inv-loop others-μ-loop
@@ -1434,11 +1692,15 @@ others-use-clause-requires t c κs =
     let at-left = at-loop .before in
     let at-node = at-left .before in
     let start = at-node .before .before .before .before .before .before .before .before in
-    let name = name-of ((start .pre .1 .1 .0 .0) .next) _ _ (at-left .left .ensures .0) (at-node .node .ensures) in
-    let seen = seek-at (start .pre .1 .1 .0 .0) _ _ _ _ name _ (at-seek .seek .ensures) _ (at-next .next .given .1) in
-    let can = round-use (start .pre .1 .1 .0 .0) _ _ _ _ name _ (at-seek .seek .ensures) _ (at-next .next .given .1) in
-    let m = (start .pre .0) in
-    (omega arith, (round-call (start .pre .1 .0) (start .pre .1 .1 .0 .0) (at-loop .loop .inv .0) _ (at-past .past .ensures), (can, (at-loop .loop .inv .1 .0))))
+    let rd = start .pre .1 .0 in
+    let number-is = start .pre .0 in
+    let step = start .pre .1 .1 .0 .0 in
+    let turn = at-loop .loop .inv .0 in
+    let kit = at-loop .loop .inv .1 .0 in
+    let name = name-of (step .next) _ _ (at-left .left .ensures .0) (at-node .node .ensures) in
+    let seen = seek-at step _ _ _ _ name _ (at-seek .seek .ensures) _ (at-next .next .given .1) in
+    let can = round-use step _ _ _ _ name _ (at-seek .seek .ensures) _ (at-next .next .given .1) in
+    (omega arith, (round-call rd step turn _ (at-past .past .ensures), (can, kit)))
 
 others-enum-told-2 : (t : ℕ) → others-lts.Need-enum-told-2 (others-claims t) (others-at t) others.Post others-Inv-loop others-μ-loop
 others-enum-told-2 t c = search needs
@@ -1452,13 +1714,15 @@ others-same-length-3 : (t : ℕ) → others-lts.Need-same-length-3 (others-claim
 others-same-length-3 t c =
     let at-use-clause = c .before .before .before .before .before .before .before .before in
     let at-loop = at-use-clause .before .before .before .before .before .before .before .before .before .before .before .before .before .before in
-    (large-on (at-loop .loop .inv .1 .1) (at-use-clause .use-clause .ensures .1)) .code-same
+    let large = at-loop .loop .inv .1 .1 in
+    (large-on large (at-use-clause .use-clause .ensures .1)) .code-same
 
 others-same-length-4 : (t : ℕ) → others-lts.Need-same-length-4 (others-claims t) (others-at t) others.Post others-Inv-loop others-μ-loop
 others-same-length-4 t c =
     let at-use-clause = c .before .before .before .before .before .before .before .before in
     let at-loop = at-use-clause .before .before .before .before .before .before .before .before .before .before .before .before .before .before in
-    (large-on (at-loop .loop .inv .1 .1) (at-use-clause .use-clause .ensures .1)) .same
+    let large = at-loop .loop .inv .1 .1 in
+    (large-on large (at-use-clause .use-clause .ensures .1)) .same
 
 others-returns-2 : (t : ℕ) → others-lts.Need-returns-2 (others-claims t) (others-at t) others.Post others-Inv-loop others-μ-loop
 unfolding answerIn
@@ -1474,11 +1738,17 @@ others-returns-2 t c =
     let at-left = at-loop .before in
     let at-node = at-left .before in
     let start = at-node .before .before .before .before .before .before .before .before in
-    let name = name-of ((start .pre .1 .1 .0 .0) .next) _ _ (at-left .left .ensures .0) (at-node .node .ensures) in
-    let seen = seek-at (start .pre .1 .1 .0 .0) _ _ _ _ name _ (at-seek .seek .ensures) _ (at-next .next .given .1) in
+    let rd = start .pre .1 .0 in
+    let step = start .pre .1 .1 .0 .0 in
+    let least = start .pre .1 .1 .0 .1 in
+    let turn = at-loop .loop .inv .0 in
+    let large = at-loop .loop .inv .1 .1 in
+    let name = name-of (step .next) _ _ (at-left .left .ensures .0) (at-node .node .ensures) in
+    let seen = seek-at step _ _ _ _ name _ (at-seek .seek .ensures) _ (at-next .next .given .1) in
     let X = solved-using (at-use-clause .use-clause .ensures .0) (solved-said (at-enum-told2 .enum-told2 .given .1) _) in (
-      round-found (start .pre .1 .0) (start .pre .1 .1 .0 .0) (start .pre .1 .1 .0 .1) (at-loop .loop .inv .0) seen _ _ (at-keeps .keeps .ensures) (at-past .past .ensures) _ X _ (at-follow .follow .ensures .0),
-      stays-from (at-loop .loop .inv .1 .1) (at-use-clause .use-clause .ensures .1) _ (at-follow .follow .ensures .1) (weary-solved _),
+      round-found rd step least turn seen _ _ (at-keeps .keeps .ensures) (at-past .past .ensures) _ X _ (at-follow .follow .ensures
+          .0),
+      stays-from large (at-use-clause .use-clause .ensures .1) _ (at-follow .follow .ensures .1) (weary-solved _),
     )
 
 others-enum-told-3 : (t : ℕ) → others-lts.Need-enum-told-3 (others-claims t) (others-at t) others.Post others-Inv-loop others-μ-loop
@@ -1492,9 +1762,12 @@ others-add-from t c =
     let at-left = at-loop .before in
     let at-node = at-left .before in
     let start = at-node .before .before .before .before .before .before .before .before in
-    let name = name-of ((start .pre .1 .1 .0 .0) .next) _ _ (at-left .left .ensures .0) (at-node .node .ensures) in
-    let can = round-use (start .pre .1 .1 .0 .0) _ _ _ _ name _ (at-seek .seek .ensures) _ (at-next .next .given .1) in
-    let low = entry-byte (round-ready (start .pre .1 .0) (start .pre .1 .1 .0 .0) (at-loop .loop .inv .0)) ((start .pre .1 .1 .0 .0) .next) can in search needs
+    let rd = start .pre .1 .0 in
+    let step = start .pre .1 .1 .0 .0 in
+    let turn = at-loop .loop .inv .0 in
+    let name = name-of (step .next) _ _ (at-left .left .ensures .0) (at-node .node .ensures) in
+    let can = round-use step _ _ _ _ name _ (at-seek .seek .ensures) _ (at-next .next .given .1) in
+    let low = entry-byte (round-ready rd step turn) (step .next) can in search needs
 
 others-loop-less : (t : ℕ) → others-lts.Need-loop-less (others-claims t) (others-at t) others.Post others-Inv-loop others-μ-loop
 others-loop-less t c =
@@ -1503,9 +1776,10 @@ others-loop-less t c =
     let at-left = at-seek .before .before .before in
     let at-node = at-left .before in
     let start = at-node .before .before .before .before .before .before .before .before in
-    let name = name-of ((start .pre .1 .1 .0 .0) .next) _ _ (at-left .left .ensures .0) (at-node .node .ensures) in
-    let can = round-use (start .pre .1 .1 .0 .0) _ _ _ _ name _ (at-seek .seek .ensures) _ (at-next .next .given .1) in
-    let on = round-onward (start .pre .1 .1 .0 .0) _ _ _ _ name _ (at-seek .seek .ensures) _ (at-next .next .given .1) in
+    let step = start .pre .1 .1 .0 .0 in
+    let name = name-of (step .next) _ _ (at-left .left .ensures .0) (at-node .node .ensures) in
+    let can = round-use step _ _ _ _ name _ (at-seek .seek .ensures) _ (at-next .next .given .1) in
+    let on = round-onward step _ _ _ _ name _ (at-seek .seek .ensures) _ (at-next .next .given .1) in
     omega (arith, can .inside)
 
 others-loop-again : (t : ℕ) → others-lts.Need-loop-again (others-claims t) (others-at t) others.Post others-Inv-loop others-μ-loop
@@ -1520,13 +1794,19 @@ others-loop-again t c =
     let at-left = at-loop .before in
     let at-node = at-left .before in
     let start = at-node .before .before .before .before .before .before .before .before in
-    let name = name-of ((start .pre .1 .1 .0 .0) .next) _ _ (at-left .left .ensures .0) (at-node .node .ensures) in
-    let seen = seek-at (start .pre .1 .1 .0 .0) _ _ _ _ name _ (at-seek .seek .ensures) _ (at-next .next .given .1) in
+    let rd = start .pre .1 .0 in
+    let eq = start .pre .1 .1 .1 in
+    let step = start .pre .1 .1 .0 .0 in
+    let least = start .pre .1 .1 .0 .1 in
+    let turn = at-loop .loop .inv .0 in
+    let large = at-loop .loop .inv .1 .1 in
+    let name = name-of (step .next) _ _ (at-left .left .ensures .0) (at-node .node .ensures) in
+    let seen = seek-at step _ _ _ _ name _ (at-seek .seek .ensures) _ (at-next .next .given .1) in
     let X = stuck-using (at-use-clause .use-clause .ensures .0) (stuck-said (at-enum-told3 .enum-told3 .given .1) _) in
-    let next = round-next (start .pre .1 .0) (start .pre .1 .1 .0 .0) (start .pre .1 .1 .0 .1) (at-loop .loop .inv .0) seen _ _ (at-keeps .keeps .ensures) (at-past .past .ensures) X _ refl in
+    let next = round-next rd step least turn seen _ _ (at-keeps .keeps .ensures) (at-past .past .ensures) X _ refl in
     let stays = at-use-clause .use-clause .ensures .1 in
-    let k = round-kept (start .pre .1 .0) (start .pre .1 .1 .0 .0) next in
-    (next, (equipped-on (start .pre .1 .1 .1) (k .1 .0) ((start .pre .1 .0) .scoped) stays, large-on (at-loop .loop .inv .1 .1) stays))
+    let k = round-kept rd step next in
+    (next, (equipped-on eq (k .1 .0) (rd .scoped) stays, large-on large stays))
 
 others-enum-told-4 : (t : ℕ) → others-lts.Need-enum-told-4 (others-claims t) (others-at t) others.Post others-Inv-loop others-μ-loop
 others-enum-told-4 t c = search needs
@@ -1535,13 +1815,15 @@ others-same-length-5 : (t : ℕ) → others-lts.Need-same-length-5 (others-claim
 others-same-length-5 t c =
     let at-use-clause = c .before .before .before .before .before .before in
     let at-loop = at-use-clause .before .before .before .before .before .before .before .before .before .before .before .before .before .before in
-    (large-on (at-loop .loop .inv .1 .1) (at-use-clause .use-clause .ensures .1)) .code-same
+    let large = at-loop .loop .inv .1 .1 in
+    (large-on large (at-use-clause .use-clause .ensures .1)) .code-same
 
 others-same-length-6 : (t : ℕ) → others-lts.Need-same-length-6 (others-claims t) (others-at t) others.Post others-Inv-loop others-μ-loop
 others-same-length-6 t c =
     let at-use-clause = c .before .before .before .before .before .before in
     let at-loop = at-use-clause .before .before .before .before .before .before .before .before .before .before .before .before .before .before in
-    (large-on (at-loop .loop .inv .1 .1) (at-use-clause .use-clause .ensures .1)) .same
+    let large = at-loop .loop .inv .1 .1 in
+    (large-on large (at-use-clause .use-clause .ensures .1)) .same
 
 others-returns-3 : (t : ℕ) → others-lts.Need-returns-3 (others-claims t) (others-at t) others.Post others-Inv-loop others-μ-loop
 unfolding answerIn
@@ -1556,24 +1838,36 @@ others-returns-3 t c =
     let at-left = at-loop .before in
     let at-node = at-left .before in
     let start = at-node .before .before .before .before .before .before .before .before in
-    let name = name-of ((start .pre .1 .1 .0 .0) .next) _ _ (at-left .left .ensures .0) (at-node .node .ensures) in
-    let seen = seek-at (start .pre .1 .1 .0 .0) _ _ _ _ name _ (at-seek .seek .ensures) _ (at-next .next .given .1) in (
-      round-tired (start .pre .1 .0) (start .pre .1 .1 .0 .0) (start .pre .1 .1 .0 .1) (at-loop .loop .inv .0) seen _ _ (at-keeps .keeps .ensures) (at-past .past .ensures) (at-use-clause .use-clause .ensures .0),
-      stays-tired (at-enum-told4 .enum-told4 .given .1) (at-loop .loop .inv .1 .1) (at-use-clause .use-clause .ensures .1),
+    let rd = start .pre .1 .0 in
+    let step = start .pre .1 .1 .0 .0 in
+    let least = start .pre .1 .1 .0 .1 in
+    let turn = at-loop .loop .inv .0 in
+    let large = at-loop .loop .inv .1 .1 in
+    let name = name-of (step .next) _ _ (at-left .left .ensures .0) (at-node .node .ensures) in
+    let seen = seek-at step _ _ _ _ name _ (at-seek .seek .ensures) _ (at-next .next .given .1) in (
+      round-tired rd step least turn seen _ _ (at-keeps .keeps .ensures) (at-past .past .ensures) (at-use-clause .use-clause .ensures
+          .0),
+      stays-tired (at-enum-told4 .enum-told4 .given .1) large (at-use-clause .use-clause .ensures .1),
     )
 
 part-kind-requires : (t : ℕ) → part-lts.Need-kind-requires (part-claims t) (part-at t) part.Post
 part-kind-requires t c κs =
     let start = c .before .before .before .before .before .before in
-    node-here ((start .pre .1 .0) .sound) (start .args .goal) (goal-low ((start .pre .1 .0) .sound) ((start .pre .1 .1 .0) .0))
+    let rd = start .pre .1 .0 in
+    let q = start .pre .1 .1 .0 in
+    node-here (rd .sound) (start .args .goal) (goal-low (rd .sound) (q .0))
 
 part-both-ways-requires : (t : ℕ) → part-lts.Need-both-ways-requires (part-claims t) (part-at t) part.Post
 part-both-ways-requires t c κs =
     let at-if1 = c .before .before .before .before .before .before in
     let at-kind = at-if1 .before in
-    let start = at-kind .before .before .before .before .before .before .before in (
-      omega (arith, (start .pre .0)),
-      ((start .pre .1 .0), (((start .pre .1 .1 .0), sym (at-kind .kind .ensures .0) ∙ at-if1 .if1 .taken), (start .pre .1 .1 .1))),
+    let start = at-kind .before .before .before .before .before .before .before in
+    let rd = start .pre .1 .0 in
+    let q = start .pre .1 .1 .0 in
+    let eq = start .pre .1 .1 .1 in
+    let number-is = start .pre .0 in (
+      omega (arith, number-is),
+      (rd, ((q, sym (at-kind .kind .ensures .0) ∙ at-if1 .if1 .taken), eq)),
     )
 
 part-same-length : (t : ℕ) → part-lts.Need-same-length (part-claims t) (part-at t) part.Post
@@ -1595,9 +1889,13 @@ part-lent-requires : (t : ℕ) → part-lts.Need-lent-requires (part-claims t) (
 part-lent-requires t c κs =
     let at-if1 = c .before .before .before .before .before .before in
     let at-kind = at-if1 .before in
-    let start = at-kind .before .before .before .before .before .before .before in (
-      omega (arith, (start .pre .0)),
-      ((start .pre .1 .0), (((start .pre .1 .1 .0), goal-six ((start .pre .1 .0) .sound) ((start .pre .1 .1 .0) .0) (λ e. at-if1 .if1 .left (at-kind .kind .ensures .0 ∙ e))), (start .pre .1 .1 .1))),
+    let start = at-kind .before .before .before .before .before .before .before in
+    let rd = start .pre .1 .0 in
+    let q = start .pre .1 .1 .0 in
+    let eq = start .pre .1 .1 .1 in
+    let number-is = start .pre .0 in (
+      omega (arith, number-is),
+      (rd, ((q, goal-six (rd .sound) (q .0) (λ e. at-if1 .if1 .left (at-kind .kind .ensures .0 ∙ e))), eq)),
     )
 
 part-same-length-3 : (t : ℕ) → part-lts.Need-same-length-3 (part-claims t) (part-at t) part.Post
@@ -1631,10 +1929,13 @@ solve-returns t c =
     let at-if1 = at-closed .before .before in
     let at-unwind = at-if1 .before .before in
     let start = at-unwind .before .before .before .before .before .before .before .before in
+    let rd = start .pre .1 .0 in
+    let eq = start .pre .1 .1 .1 in
     let u = at-unwind .unwind .ensures .0 in (
       unwound-searched u
-          (closed-searched (unwound-ready u (start .pre .1 .0)) (at-closed .closed .ensures .1 .0) _ (at-if1 .if1 .taken) (at-closed .closed .ensures .0)),
-      awake-stays (start .pre .1 .1 .1) (at-closed .closed .ensures .1 .1 .0) (at-closed .closed .ensures .1 .1 .1),
+          (closed-searched (unwound-ready u rd) (at-closed .closed .ensures .1 .0) _ (at-if1 .if1 .taken) (at-closed .closed .ensures
+          .0)),
+      awake-stays eq (at-closed .closed .ensures .1 .1 .0) (at-closed .closed .ensures .1 .1 .1),
     )
 
 solve-sub-node : (t : ℕ) → solve-lts.Need-sub-node (solve-claims t) (solve-at t) solve.Post
@@ -1647,9 +1948,10 @@ solve-node-requires t c κs =
     let at-if1 = c .before .before in
     let at-unwind = at-if1 .before .before in
     let start = at-unwind .before .before .before .before .before .before .before .before in
+    let rd = start .pre .1 .0 in
     let u = at-unwind .unwind .ensures .0 in
     let some = at-if1 .if1 .left in
-    (top-within (at-unwind .unwind .result) ((start .pre .1 .0) .sound) (u .laid) (omega arith), u .laid .room)
+    (top-within (at-unwind .unwind .result) (rd .sound) (u .laid) (omega arith), u .laid .room)
 
 solve-kind-requires : (t : ℕ) → solve-lts.Need-kind-requires (solve-claims t) (solve-at t) solve.Post
 solve-kind-requires t c κs =
@@ -1657,9 +1959,10 @@ solve-kind-requires t c κs =
     let at-if1 = at-node .before .before .before in
     let at-unwind = at-if1 .before .before in
     let start = at-unwind .before .before .before .before .before .before .before .before in
+    let rd = start .pre .1 .0 in
     let u = at-unwind .unwind .ensures .0 in
     let some = at-if1 .if1 .left in
-    let here = top-here (at-unwind .unwind .result) ((start .pre .1 .0) .sound) (u .laid) (omega arith) in
+    let here = top-here (at-unwind .unwind .result) (rd .sound) (u .laid) (omega arith) in
     rw (at-node .node .ensures) here
 
 solve-need-requires : (t : ℕ) → solve-lts.Need-need-requires (solve-claims t) (solve-at t) solve.Post
@@ -1670,17 +1973,20 @@ solve-need-requires t c κs =
     let at-if1 = at-node .before .before .before in
     let at-unwind = at-if1 .before .before in
     let start = at-unwind .before .before .before .before .before .before .before .before in
+    let rd = start .pre .1 .0 in
+    let eq = start .pre .1 .1 .1 in
+    let number-is = start .pre .0 in
     let u = at-unwind .unwind .ensures .0 in
     let some = at-if1 .if1 .left in
     let top = at-node .node .ensures in
     let falls = unwound-number u in (
-      omega (arith, falls, (start .pre .0)),
+      omega (arith, falls, number-is),
       (
-        unwound-ready u (start .pre .1 .0),
+        unwound-ready u rd,
         (
           name-next (u .laid) (at-unwind .unwind .ensures .1) (omega arith)
               (at-kind .kind .ensures .0 ∙ ap (kindAt (start .args .card .now)) top) (at-if2 .if2 .taken),
-          equipped-at (u .same-count) (start .pre .1 .1 .1),
+          equipped-at (u .same-count) eq,
         ),
       ),
     )
@@ -1709,17 +2015,20 @@ solve-behind-requires t c κs =
     let at-if1 = at-node .before .before .before in
     let at-unwind = at-if1 .before .before in
     let start = at-unwind .before .before .before .before .before .before .before .before in
+    let rd = start .pre .1 .0 in
+    let eq = start .pre .1 .1 .1 in
+    let number-is = start .pre .0 in
     let u = at-unwind .unwind .ensures .0 in
     let some = at-if1 .if1 .left in
     let top = at-node .node .ensures in
     let falls = unwound-number u in (
-      omega (arith, falls, (start .pre .0)),
+      omega (arith, falls, number-is),
       (
-        unwound-ready u (start .pre .1 .0),
+        unwound-ready u rd,
         (
           part-next (u .laid) (at-unwind .unwind .ensures .1) (omega arith)
               (at-kind .kind .ensures .0 ∙ ap (kindAt (start .args .card .now)) top) (at-if2 .if2 .left),
-          equipped-at (u .same-count) (start .pre .1 .1 .1),
+          equipped-at (u .same-count) eq,
         ),
       ),
     )
@@ -1743,66 +2052,86 @@ solve-returns-3 t c =
 use-clause-cast-tape : (t : ℕ) → use-clause-lts.Need-cast-tape (use-clause-claims t) (use-clause-at t) use-clause.Post
 use-clause-cast-tape t c =
     let start = c .before .before .before .before .before .before in
-    let low = entry-byte (start .pre .1 .0) ((start .pre .1 .1 .0) .step .next) (start .pre .1 .1 .0) in search needs
+    let rd = start .pre .1 .0 in
+    let can = start .pre .1 .1 .0 in
+    let low = entry-byte rd (can .step .next) can in search needs
 
 use-clause-element-write-tape : (t : ℕ) → use-clause-lts.Need-element-write-tape (use-clause-claims t) (use-clause-at t) use-clause.Post
 use-clause-element-write-tape t c =
     let start = c .before .before .before .before .before .before in
-    let low = at-inside (start .pre .1 .0) ((start .pre .1 .1 .0) .step .next) (start .pre .1 .1 .0) in search needs
+    let rd = start .pre .1 .0 in
+    let can = start .pre .1 .1 .0 in
+    let low = at-inside rd (can .step .next) can in search needs
 
 use-clause-sub-top : (t : ℕ) → use-clause-lts.Need-sub-top (use-clause-claims t) (use-clause-at t) use-clause.Post
 use-clause-sub-top t c =
     let start = c .before .before .before .before .before .before .before in
-    let some = (start .pre .1 .1 .0) .step .next .some in search needs
+    let can = start .pre .1 .1 .0 in
+    let some = can .step .next .some in search needs
 
 use-clause-mul-clause : (t : ℕ) → use-clause-lts.Need-mul-clause (use-clause-claims t) (use-clause-at t) use-clause.Post
 use-clause-mul-clause t c =
     let start = c .before .before .before .before .before .before .before in
-    let low = entry-byte (start .pre .1 .0) ((start .pre .1 .1 .0) .step .next) (start .pre .1 .1 .0) in omega arith
+    let rd = start .pre .1 .0 in
+    let can = start .pre .1 .1 .0 in
+    let low = entry-byte rd (can .step .next) can in omega arith
 
 use-clause-element-copy-out-clause : (t : ℕ) → use-clause-lts.Need-element-copy-out-clause (use-clause-claims t) (use-clause-at t) use-clause.Post
 use-clause-element-copy-out-clause t c =
     let start = c .before .before .before .before .before .before .before in
-    let low = entry-byte (start .pre .1 .0) ((start .pre .1 .1 .0) .step .next) (start .pre .1 .1 .0) in search needs
+    let rd = start .pre .1 .0 in
+    let can = start .pre .1 .1 .0 in
+    let low = entry-byte rd (can .step .next) can in search needs
 
 use-clause-cast-clause : (t : ℕ) → use-clause-lts.Need-cast-clause (use-clause-claims t) (use-clause-at t) use-clause.Post
 use-clause-cast-clause t c =
     let start = c .before .before .before .before .before .before .before .before in
-    let low = clause-lower _ _ _ (entry-clause (start .pre .1 .0) ((start .pre .1 .1 .0) .step .next) (start .pre .1 .1 .0)) in
-    let f = sound-front _ ((start .pre .1 .0) .sound) in omega arith
+    let rd = start .pre .1 .0 in
+    let can = start .pre .1 .1 .0 in
+    let low = clause-lower _ _ _ (entry-clause rd (can .step .next) can) in
+    let f = sound-front _ (rd .sound) in omega arith
 
 use-clause-nest-requires : (t : ℕ) → use-clause-lts.Need-nest-requires (use-clause-claims t) (use-clause-at t) use-clause.Post
 use-clause-nest-requires t c κs =
     let start = c .before .before .before .before .before .before .before .before .before .before in
-    top-inside (start .pre .1 .0) ((start .pre .1 .1 .0) .step .next)
+    let rd = start .pre .1 .0 in
+    let can = start .pre .1 .1 .0 in
+    top-inside rd (can .step .next)
 
 use-clause-sub-push : (t : ℕ) → use-clause-lts.Need-sub-push (use-clause-claims t) (use-clause-at t) use-clause.Post
 use-clause-sub-push t c =
     let at-nest = c in
     let start = at-nest .before .before .before .before .before .before .before .before .before .before .before in
-    let deep = (start .pre .1 .1 .0) .step .deep in omega (arith, at-nest .nest .ensures)
+    let can = start .pre .1 .1 .0 in
+    let deep = can .step .deep in omega (arith, at-nest .nest .ensures)
 
 use-clause-push-requires : (t : ℕ) → use-clause-lts.Need-push-requires (use-clause-claims t) (use-clause-at t) use-clause.Post
 use-clause-push-requires t c κs =
     let at-nest = c in
     let start = at-nest .before .before .before .before .before .before .before .before .before .before .before in
-    let q = push-room (start .pre .1 .0) ((start .pre .1 .1 .0) .step .next) (start .pre .1 .1 .0) _ _ refl (ap (λ m. m - 1) (at-nest .nest .ensures)) in
-    ((start .pre .1 .0) .sound, (q .0, (q .1 .0, (q .1 .1, top-inside (start .pre .1 .0) ((start .pre .1 .1 .0) .step .next) .1))))
+    let rd = start .pre .1 .0 in
+    let can = start .pre .1 .1 .0 in
+    let q = push-room rd (can .step .next) can _ _ refl (ap (λ m. m - 1) (at-nest .nest .ensures)) in
+    (rd .sound, (q .0, (q .1 .0, (q .1 .1, top-inside rd (can .step .next) .1))))
 
 use-clause-byte-requires : (t : ℕ) → use-clause-lts.Need-byte-requires (use-clause-claims t) (use-clause-at t) use-clause.Post
 use-clause-byte-requires t c κs =
     let start = c .before .before .before .before .before .before .before .before .before .before .before .before in
-    card-front ((start .pre .1 .0) .sound) 3 (omega arith)
+    let rd = start .pre .1 .0 in
+    card-front (rd .sound) 3 (omega arith)
 
 use-clause-byte-requires-2 : (t : ℕ) → use-clause-lts.Need-byte-requires-2 (use-clause-claims t) (use-clause-at t) use-clause.Post
 use-clause-byte-requires-2 t c κs =
     let start = c .before .before .before .before .before .before .before .before .before .before .before .before .before in
-    card-front ((start .pre .1 .0) .sound) 4 (omega arith)
+    let rd = start .pre .1 .0 in
+    card-front (rd .sound) 4 (omega arith)
 
 use-clause-using-requires : (t : ℕ) → use-clause-lts.Need-using-requires (use-clause-claims t) (use-clause-at t) use-clause.Post
 use-clause-using-requires t c κs =
     let start = c .before .before .before .before .before .before .before .before .before .before .before .before .before .before in
-    at-inside (start .pre .1 .0) ((start .pre .1 .1 .0) .step .next) (start .pre .1 .1 .0)
+    let rd = start .pre .1 .0 in
+    let can = start .pre .1 .1 .0 in
+    at-inside rd (can .step .next) can
 
 use-clause-solve-requires : (t : ℕ) → use-clause-lts.Need-solve-requires (use-clause-claims t) (use-clause-at t) use-clause.Post
 use-clause-solve-requires t c κs =
@@ -1812,9 +2141,14 @@ use-clause-solve-requires t c κs =
     let at-push = at-byte .before in
     let at-nest = at-push .before in
     let start = at-nest .before .before .before .before .before .before .before .before .before .before .before in
-    let asked = use-call (start .pre .1 .0) ((start .pre .1 .1 .0) .step .next) (start .pre .1 .1 .0) _ _ _ refl (ap (λ m. m - 1) (at-nest .nest .ensures))
-    (at-push .push .ensures) _ _ (at-byte .byte .ensures .0) (at-byte2 .byte2 .ensures .0) _ (at-using .«using» .ensures) t (start .pre .0) in
-    (asked .0, (asked .1 .0, (asked .1 .1, equipped-at (using-count _ _ _ _ _ _ (at-using .«using» .ensures)) (start .pre .1 .1 .1))))
+    let rd = start .pre .1 .0 in
+    let eq = start .pre .1 .1 .1 in
+    let number-is = start .pre .0 in
+    let can = start .pre .1 .1 .0 in
+    let asked = use-call rd (can .step .next) can _ _ _ refl (ap (λ m. m - 1) (at-nest .nest .ensures))
+    (at-push .push .ensures) _ _ (at-byte .byte .ensures .0) (at-byte2 .byte2 .ensures .0) _ (at-using .«using» .ensures) t
+    number-is in
+    (asked .0, (asked .1 .0, (asked .1 .1, equipped-at (using-count _ _ _ _ _ _ (at-using .«using» .ensures)) eq)))
 
 use-clause-same-length : (t : ℕ) → use-clause-lts.Need-same-length (use-clause-claims t) (use-clause-at t) use-clause.Post
 use-clause-same-length t c =
@@ -1834,9 +2168,12 @@ use-clause-returns t c =
     let at-byte = at-byte2 .before in
     let at-push = at-byte .before in
     let at-nest = at-push .before in
-    let start = at-nest .before .before .before .before .before .before .before .before .before .before .before in (
-      use-told (start .pre .1 .0) ((start .pre .1 .1 .0) .step .next) (start .pre .1 .1 .0) _ _ _ refl (ap (λ m. m - 1) (at-nest .nest .ensures))
-          (at-push .push .ensures) _ _ (at-byte .byte .ensures .0) (at-byte2 .byte2 .ensures .0) _ (at-using .«using» .ensures) (at-solve .solve .ensures .0),
+    let start = at-nest .before .before .before .before .before .before .before .before .before .before .before in
+    let rd = start .pre .1 .0 in
+    let can = start .pre .1 .1 .0 in (
+      use-told rd (can .step .next) can _ _ _ refl (ap (λ m. m - 1) (at-nest .nest .ensures))
+          (at-push .push .ensures) _ _ (at-byte .byte .ensures .0) (at-byte2 .byte2 .ensures .0) _ (at-using .«using» .ensures) (at-solve
+          .solve .ensures .0),
       at-solve .solve .ensures .1,
     )
 

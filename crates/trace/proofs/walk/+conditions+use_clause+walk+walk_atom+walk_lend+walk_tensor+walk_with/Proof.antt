@@ -1,7 +1,6 @@
 -- The walk by its connectives: each call is ready, and each answer tells of the part walked. Nesting left, steps left and node fall.
 use mathlib.Core.Path.{refl, sym, _∙_}
 use native.Mathlib.Omega.{arith}
-use borrow.Author.Needs.{needs}
 use Prim.Native.Nat.{_+_, _*_}
 use mathlib.Core.Bool.{true, false}
 use Rattle.calculus.specs.Formula.{topᴳ, oneᴳ}
@@ -227,7 +226,7 @@ conditions-kind-requires t c κs =
     clause-here (start .pre .1 .0) _ _ (start .pre .1 .1)
 
 conditions-ended-requires : (t : ℕ) → conditions-lts.Need-ended-requires (conditions-claims t) (conditions-at t) conditions.Post
-conditions-ended-requires t c κs = search needs
+conditions-ended-requires t c κs = tt
 
 conditions-returns : (t : ℕ) → conditions-lts.Need-returns (conditions-claims t) (conditions-at t) conditions.Post
 conditions-returns t c =
@@ -251,10 +250,10 @@ conditions-conditions-requires t c κs =
     (at-right .right .ensures .0)
 
 conditions-enum-known-first : (t : ℕ) → conditions-lts.Need-enum-known-first (conditions-claims t) (conditions-at t) conditions.Post
-conditions-enum-known-first t c = search needs
+conditions-enum-known-first t c = c .match .keys1
 
 conditions-enum-told : (t : ℕ) → conditions-lts.Need-enum-told (conditions-claims t) (conditions-at t) conditions.Post
-conditions-enum-told t c = search needs
+conditions-enum-told t c = c .match .keys2
 
 conditions-returns-2 : (t : ℕ) → conditions-lts.Need-returns-2 (conditions-claims t) (conditions-at t) conditions.Post
 conditions-returns-2 t c =
@@ -272,7 +271,7 @@ conditions-left-requires t c κs =
     clause-here (start .pre .1 .0) _ _ (start .pre .1 .1)
 
 conditions-on-requires : (t : ℕ) → conditions-lts.Need-on-requires (conditions-claims t) (conditions-at t) conditions.Post
-conditions-on-requires t c κs = search needs
+conditions-on-requires t c κs = tt
 
 conditions-walk-requires : (t : ℕ) → conditions-lts.Need-walk-requires (conditions-claims t) (conditions-at t) conditions.Post
 conditions-walk-requires t c κs =
@@ -286,10 +285,10 @@ conditions-walk-requires t c κs =
     .given .1) (at-conditions .conditions .ensures) t (start .pre .0) _ (at-left .left .ensures .0) _ (c .on .ensures)
 
 conditions-enum-known-second : (t : ℕ) → conditions-lts.Need-enum-known-second (conditions-claims t) (conditions-at t) conditions.Post
-conditions-enum-known-second t c = search needs
+conditions-enum-known-second t c = c .match2 .keys1
 
 conditions-enum-told-2 : (t : ℕ) → conditions-lts.Need-enum-told-2 (conditions-claims t) (conditions-at t) conditions.Post
-conditions-enum-told-2 t c = search needs
+conditions-enum-told-2 t c = c .match2 .keys2
 
 conditions-returns-3 : (t : ℕ) → conditions-lts.Need-returns-3 (conditions-claims t) (conditions-at t) conditions.Post
 conditions-returns-3 t c =
@@ -307,7 +306,7 @@ conditions-returns-3 t c =
     (at-right .right .ensures .0) _ (at-left .left .ensures .0)) (c .enum-told2 .given .1)
 
 conditions-tensor-requires : (t : ℕ) → conditions-lts.Need-tensor-requires (conditions-claims t) (conditions-at t) conditions.Post
-conditions-tensor-requires t c κs = search needs
+conditions-tensor-requires t c κs = tt
 
 conditions-returns-4 : (t : ℕ) → conditions-lts.Need-returns-4 (conditions-claims t) (conditions-at t) conditions.Post
 conditions-returns-4 t c =
@@ -332,7 +331,7 @@ use-clause-mul-node t c =
     let few = start .pre .1 .0 .few in
     let in-it = start .pre .1 .1 .0 .inside in
     let f = sound-front _ (start .pre .1 .0 .sound) in
-    omega arith
+    omega (arith, few, in-it, f .rules, f .lines)
 
 use-clause-element-copy-out-node : (t : ℕ) → use-clause-lts.Need-element-copy-out-node (use-clause-claims t) (use-clause-at t) use-clause.Post
 use-clause-element-copy-out-node t c =
@@ -340,14 +339,14 @@ use-clause-element-copy-out-node t c =
     let few = start .pre .1 .0 .few in
     let in-it = start .pre .1 .1 .0 .inside in
     let f = sound-front _ (start .pre .1 .0 .sound) in
-    search needs
+    omega (arith, few, in-it, f .rules, f .lines)
 
 use-clause-cast-node : (t : ℕ) → use-clause-lts.Need-cast-node (use-clause-claims t) (use-clause-at t) use-clause.Post
 use-clause-cast-node t c =
     let start = c .before .before .before in
     let low = clause-lower _ _ _ (start .pre .1 .0 .entered .clauses _ (start .pre .1 .1 .0 .inside)) in
     let f = sound-front _ (start .pre .1 .0 .sound) in
-    omega arith
+    omega (arith, low, f .few)
 
 use-clause-element-copy-out-gone : (t : ℕ) → use-clause-lts.Need-element-copy-out-gone (use-clause-claims t) (use-clause-at t) use-clause.Post
 use-clause-element-copy-out-gone t c =
@@ -355,14 +354,14 @@ use-clause-element-copy-out-gone t c =
     let few = start .pre .1 .0 .few in
     let in-it = start .pre .1 .1 .0 .inside in
     let f = sound-front _ (start .pre .1 .0 .sound) in
-    search needs
+    omega (arith, few, in-it, f .rules, f .lines)
 
 use-clause-deeper-requires : (t : ℕ) → use-clause-lts.Need-deeper-requires (use-clause-claims t) (use-clause-at t) use-clause.Post
 use-clause-deeper-requires t c κs =
     let start = c .before .before .before .before .before .before in
     let room = start .pre .1 .1 .0 .room in
     let short = start .pre .1 .0 .short in
-    (omega arith, start .pre .1 .1 .0 .deep)
+    (omega (arith, room, short), start .pre .1 .1 .0 .deep)
 
 use-clause-conditions-requires : (t : ℕ) → use-clause-lts.Need-conditions-requires (use-clause-claims t) (use-clause-at t) use-clause.Post
 use-clause-conditions-requires t c κs =
@@ -370,10 +369,10 @@ use-clause-conditions-requires t c κs =
     use-call (start .pre .1 .0) _ _ (start .pre .1 .1 .0) (start .pre .1 .1 .1) t (start .pre .0) _ refl _ (c .deeper .ensures)
 
 use-clause-enum-known-inner : (t : ℕ) → use-clause-lts.Need-enum-known-inner (use-clause-claims t) (use-clause-at t) use-clause.Post
-use-clause-enum-known-inner t c = search needs
+use-clause-enum-known-inner t c = c .match .keys1
 
 use-clause-enum-told : (t : ℕ) → use-clause-lts.Need-enum-told (use-clause-claims t) (use-clause-at t) use-clause.Post
-use-clause-enum-told t c = search needs
+use-clause-enum-told t c = c .match .keys2
 
 use-clause-returns : (t : ℕ) → use-clause-lts.Need-returns (use-clause-claims t) (use-clause-at t) use-clause.Post
 use-clause-returns t c =
@@ -419,10 +418,10 @@ walk-walk-atom-requires t c κs =
     )
 
 walk-ended-requires : (t : ℕ) → walk-lts.Need-ended-requires (walk-claims t) (walk-at t) walk.Post
-walk-ended-requires t c κs = search needs
+walk-ended-requires t c κs = tt
 
 walk-ended-requires-2 : (t : ℕ) → walk-lts.Need-ended-requires-2 (walk-claims t) (walk-at t) walk.Post
-walk-ended-requires-2 t c κs = search needs
+walk-ended-requires-2 t c κs = tt
 
 walk-walk-tensor-requires : (t : ℕ) → walk-lts.Need-walk-tensor-requires (walk-claims t) (walk-at t) walk.Post
 walk-walk-tensor-requires t c κs =
@@ -513,10 +512,10 @@ walk-atom-next-step-requires t c κs =
     (start .pre .1 .0)
 
 walk-atom-enum-known-next : (t : ℕ) → walk-atom-lts.Need-enum-known-next (walk-atom-claims t) (walk-atom-at t) walk-atom.Post
-walk-atom-enum-known-next t c = search needs
+walk-atom-enum-known-next t c = c .match .keys1
 
 walk-atom-enum-told : (t : ℕ) → walk-atom-lts.Need-enum-told (walk-atom-claims t) (walk-atom-at t) walk-atom.Post
-walk-atom-enum-told t c = search needs
+walk-atom-enum-told t c = c .match .keys2
 
 walk-atom-returns : (t : ℕ) → walk-atom-lts.Need-returns (walk-atom-claims t) (walk-atom-at t) walk-atom.Post
 walk-atom-returns t c =
@@ -580,10 +579,10 @@ walk-lend-walk-requires t c κs =
     (at-put .put .ensures .1) _ (at-lent .lent .ensures) t (start .pre .0) _ (at-right .right .ensures .0)
 
 walk-lend-enum-known-inner : (t : ℕ) → walk-lend-lts.Need-enum-known-inner (walk-lend-claims t) (walk-lend-at t) walk-lend.Post
-walk-lend-enum-known-inner t c = search needs
+walk-lend-enum-known-inner t c = c .match .keys1
 
 walk-lend-enum-told : (t : ℕ) → walk-lend-lts.Need-enum-told (walk-lend-claims t) (walk-lend-at t) walk-lend.Post
-walk-lend-enum-told t c = search needs
+walk-lend-enum-told t c = c .match .keys2
 
 walk-lend-returns : (t : ℕ) → walk-lend-lts.Need-returns (walk-lend-claims t) (walk-lend-at t) walk-lend.Post
 walk-lend-returns t c =
@@ -597,7 +596,7 @@ walk-lend-returns t c =
     (at-put .put .ensures .1) _ (at-lent .lent .ensures) _ (at-right .right .ensures .0) (at-walk .walk .ensures) (c .enum-told .given .1)
 
 walk-lend-without-requires : (t : ℕ) → walk-lend-lts.Need-without-requires (walk-lend-claims t) (walk-lend-at t) walk-lend.Post
-walk-lend-without-requires t c κs = search needs
+walk-lend-without-requires t c κs = tt
 
 walk-lend-returns-2 : (t : ℕ) → walk-lend-lts.Need-returns-2 (walk-lend-claims t) (walk-lend-at t) walk-lend.Post
 walk-lend-returns-2 t c =
@@ -625,10 +624,10 @@ walk-tensor-walk-requires t c κs =
     left-call (start .pre .1 .0) _ (start .pre .1 .1 .0) (parts .0) (parts .1) (parts .2) t (start .pre .0) _ (at-left .left .ensures .0)
 
 walk-tensor-enum-known-first : (t : ℕ) → walk-tensor-lts.Need-enum-known-first (walk-tensor-claims t) (walk-tensor-at t) walk-tensor.Post
-walk-tensor-enum-known-first t c = search needs
+walk-tensor-enum-known-first t c = c .match .keys1
 
 walk-tensor-enum-told : (t : ℕ) → walk-tensor-lts.Need-enum-told (walk-tensor-claims t) (walk-tensor-at t) walk-tensor.Post
-walk-tensor-enum-told t c = search needs
+walk-tensor-enum-told t c = c .match .keys2
 
 walk-tensor-returns : (t : ℕ) → walk-tensor-lts.Need-returns (walk-tensor-claims t) (walk-tensor-at t) walk-tensor.Post
 walk-tensor-returns t c =
@@ -644,7 +643,7 @@ walk-tensor-right-requires t c κs =
     goal-here (start .pre .1 .0) _ (start .pre .1 .1 .0)
 
 walk-tensor-on-requires : (t : ℕ) → walk-tensor-lts.Need-on-requires (walk-tensor-claims t) (walk-tensor-at t) walk-tensor.Post
-walk-tensor-on-requires t c κs = search needs
+walk-tensor-on-requires t c κs = tt
 
 walk-tensor-walk-requires-2 : (t : ℕ) → walk-tensor-lts.Need-walk-requires-2 (walk-tensor-claims t) (walk-tensor-at t) walk-tensor.Post
 walk-tensor-walk-requires-2 t c κs =
@@ -657,10 +656,10 @@ walk-tensor-walk-requires-2 t c κs =
     .ensures) t (start .pre .0) _ (at-right .right .ensures .0) _ (c .on .ensures)
 
 walk-tensor-enum-known-second : (t : ℕ) → walk-tensor-lts.Need-enum-known-second (walk-tensor-claims t) (walk-tensor-at t) walk-tensor.Post
-walk-tensor-enum-known-second t c = search needs
+walk-tensor-enum-known-second t c = c .match2 .keys1
 
 walk-tensor-enum-told-2 : (t : ℕ) → walk-tensor-lts.Need-enum-told-2 (walk-tensor-claims t) (walk-tensor-at t) walk-tensor.Post
-walk-tensor-enum-told-2 t c = search needs
+walk-tensor-enum-told-2 t c = c .match2 .keys2
 
 walk-tensor-returns-2 : (t : ℕ) → walk-tensor-lts.Need-returns-2 (walk-tensor-claims t) (walk-tensor-at t) walk-tensor.Post
 walk-tensor-returns-2 t c =
@@ -676,7 +675,7 @@ walk-tensor-returns-2 t c =
     .1 .1 .1)) (c .enum-told2 .given .1)
 
 walk-tensor-tensor-requires : (t : ℕ) → walk-tensor-lts.Need-tensor-requires (walk-tensor-claims t) (walk-tensor-at t) walk-tensor.Post
-walk-tensor-tensor-requires t c κs = search needs
+walk-tensor-tensor-requires t c κs = tt
 
 walk-tensor-returns-3 : (t : ℕ) → walk-tensor-lts.Need-returns-3 (walk-tensor-claims t) (walk-tensor-at t) walk-tensor.Post
 walk-tensor-returns-3 t c =
@@ -706,10 +705,10 @@ walk-with-walk-requires t c κs =
     left-call (start .pre .1 .0) _ (start .pre .1 .1 .0) (parts .0) (parts .1) (parts .2) t (start .pre .0) _ (at-left .left .ensures .0)
 
 walk-with-enum-known-first : (t : ℕ) → walk-with-lts.Need-enum-known-first (walk-with-claims t) (walk-with-at t) walk-with.Post
-walk-with-enum-known-first t c = search needs
+walk-with-enum-known-first t c = c .match .keys1
 
 walk-with-enum-told : (t : ℕ) → walk-with-lts.Need-enum-told (walk-with-claims t) (walk-with-at t) walk-with.Post
-walk-with-enum-told t c = search needs
+walk-with-enum-told t c = c .match .keys2
 
 walk-with-returns : (t : ℕ) → walk-with-lts.Need-returns (walk-with-claims t) (walk-with-at t) walk-with.Post
 walk-with-returns t c =
@@ -725,7 +724,7 @@ walk-with-right-requires t c κs =
     goal-here (start .pre .1 .0) _ (start .pre .1 .1 .0)
 
 walk-with-on-requires : (t : ℕ) → walk-with-lts.Need-on-requires (walk-with-claims t) (walk-with-at t) walk-with.Post
-walk-with-on-requires t c κs = search needs
+walk-with-on-requires t c κs = tt
 
 walk-with-walk-requires-2 : (t : ℕ) → walk-with-lts.Need-walk-requires-2 (walk-with-claims t) (walk-with-at t) walk-with.Post
 walk-with-walk-requires-2 t c κs =
@@ -738,10 +737,10 @@ walk-with-walk-requires-2 t c κs =
     .ensures) t (start .pre .0) _ (at-right .right .ensures .0) _ (c .on .ensures)
 
 walk-with-enum-known-second : (t : ℕ) → walk-with-lts.Need-enum-known-second (walk-with-claims t) (walk-with-at t) walk-with.Post
-walk-with-enum-known-second t c = search needs
+walk-with-enum-known-second t c = c .match2 .keys1
 
 walk-with-enum-told-2 : (t : ℕ) → walk-with-lts.Need-enum-told-2 (walk-with-claims t) (walk-with-at t) walk-with.Post
-walk-with-enum-told-2 t c = search needs
+walk-with-enum-told-2 t c = c .match2 .keys2
 
 walk-with-returns-2 : (t : ℕ) → walk-with-lts.Need-returns-2 (walk-with-claims t) (walk-with-at t) walk-with.Post
 walk-with-returns-2 t c =
@@ -757,7 +756,7 @@ walk-with-returns-2 t c =
     .1 .1)) (c .enum-told2 .given .1)
 
 walk-with-beside-requires : (t : ℕ) → walk-with-lts.Need-beside-requires (walk-with-claims t) (walk-with-at t) walk-with.Post
-walk-with-beside-requires t c κs = search needs
+walk-with-beside-requires t c κs = tt
 
 walk-with-returns-3 : (t : ℕ) → walk-with-lts.Need-returns-3 (walk-with-claims t) (walk-with-at t) walk-with.Post
 walk-with-returns-3 t c =

@@ -1,0 +1,93 @@
+//! Depot kits and recursive cards: each reaches the search, and is planned or refused as by counting. A card that
+//! takes counting or the planner too long is left out; to tell, the planner is first asked in a process of its own.
+//! Runs without the test harness, and prints what was compared.
+mod asked;
+mod cards;
+mod families;
+mod met;
+mod model;
+
+use asked::{Asked, ROOM};
+use cards::{Draft, Random};
+use families::{kits, recursive};
+use met::{compare_plan, Met, LONG};
+use std::time::Duration;
+
+/// What counting may spend on a card.
+const BUDGET: usize = 200_000;
+/// How long the planner may take for one.
+const LIMIT: Duration = Duration::from_millis(50);
+
+/// Cards of one kind from a fixed seed.
+struct Kind {
+    name: &'static str,
+    seed: u64,
+    cards: usize,
+    card: fn(&mut Random) -> Draft,
+    /// The longest list has so many steps, or more.
+    longest: usize,
+}
+
+const KINDS: &[Kind] = &[
+    Kind { name: "kits, 20 to 64 lines", seed: 41, cards: 5_000, card: kits::any, longest: 100 },
+    Kind { name: "kits, 4 to 20 lines", seed: 42, cards: 8_000, card: kits::small, longest: 40 },
+    Kind { name: "recursive", seed: 43, cards: 10_000, card: recursive::any, longest: 55 },
+];
+
+/// Compares the cards of a kind, but for those that are left out.
+fn compare(kind: &Kind, asked: &mut Asked) -> Met {
+    // what is left out has no part in which cards are drawn
+    let (mut drawn, mut buffers) = (Random::new(kind.seed), Random::new(kind.seed + 100));
+    let mut met = Met::default();
+    for _ in 0..kind.cards {
+        let card = (kind.card)(&mut drawn).bytes();
+        let wanted = model::plan_by_count(&card, ROOM, BUDGET);
+        if wanted.is_some() && asked.ask(&card, LIMIT).is_none() {
+            met.given_up += 1;
+            continue;
+        }
+        compare_plan(&mut buffers, &mut met, &card, ROOM, wanted);
+    }
+    met
+}
+
+fn print_row(kind: &Kind, met: &Met) {
+    let (name, cards, planned, refused) = (kind.name, kind.cards, met.planned(), met.refused());
+    let Met { skipped, given_up, longest, long, .. } = met;
+    println!("{name:<22}{cards:>8}{planned:>9}{refused:>9}{skipped:>8}{given_up:>7}{longest:>9}{long:>7}");
+}
+
+/// Of each kind many were planned and many refused, and fewer than one in eight left out.
+fn check(kind: &Kind, met: &Met) {
+    let name = kind.name;
+    assert_eq!(met.searched() + met.left_out(), kind.cards, "{name}: some did not reach the search");
+    assert!(met.planned() >= 3_000, "{name}: too few planned");
+    assert!(met.refused() >= 700, "{name}: too few refused");
+    assert!(met.longest >= kind.longest, "{name}: no list of {} steps", kind.longest);
+    assert!(met.left_out() * 8 < kind.cards, "{name}: too many left out");
+}
+
+fn main() {
+    asked::serve(|_, card, sheet| kit_planner::plan(card, sheet).is_err().into());
+    println!(
+        "Left out: by counting after {BUDGET} pairs, by the planner after {} ms. Long: {LONG} steps or more.",
+        LIMIT.as_millis()
+    );
+    println!(
+        "\n{:<22}{:>8}{:>9}{:>9}{:>8}{:>7}{:>9}{:>7}",
+        "", "cards", "planned", "refused", "pairs", "time", "longest", "long"
+    );
+    let (mut asked, mut all) = (Asked::start(0), Vec::new());
+    for kind in KINDS {
+        let met = compare(kind, &mut asked);
+        print_row(kind, &met);
+        check(kind, &met);
+        all.push(met);
+    }
+    let sum = |of: fn(&Met) -> usize| all.iter().map(of).sum::<usize>();
+    let (compared, left_out, long) = (sum(Met::searched), sum(Met::left_out), sum(|m| m.long));
+    println!("\n{compared} compared, {left_out} left out, {long} lists long");
+    assert!(compared >= 20_000, "too few compared");
+    assert!(left_out * 12 < compared + left_out, "one in twelve or more left out");
+    assert!(long >= 1_000, "too few long lists");
+}
