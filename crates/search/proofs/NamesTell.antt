@@ -55,7 +55,7 @@ use Rattle.search.specs.Inner.Engine.{FirstEntry, firstAt, keepsBy, open
 use Rattle.dead.specs.Inner.Barren.{BarrenIn}
 use Rattle.dead.proofs.DeadStaysDead.{none-barren}
 use Rattle.prune.specs.Inner.Prune.{Rooted, Asks, Doom}
-use Rattle.search.proofs.PlacesMove.{openF, run-cons, run-length, written, given-past, from-here, from-past, floor-gone, open-floor}
+use Rattle.search.proofs.PlacesMove.{openF, ready-moved, next-from, from-low, run-cons, run-length, written, given-past, from-here, from-past, floor-gone, open-floor}
 use Rattle.search.proofs.PlacesMove.{given-step, floor-place, spending-items, spent-items, use-place}
 use Rattle.search.proofs.NumbersFall.{number, step-falls}
 
@@ -134,9 +134,6 @@ alike-self f b t = record { alike = λ kept z h. (refl, refl) }
 next-past : {l F F₁ F₂ : List ℕ} {f f₁ f₂ : ℕ} → (F₁ ≡ F₂) × (f₁ ≡ f₂) → Next l F f F₁ f₁ → Next l F f F₂ f₂
 next-past e n = rw (← e .0, ← e .1) n
 
-next-from : {l F₁ F₂ F : List ℕ} {f₁ f₂ f : ℕ} → (F₁ ≡ F₂) × (f₁ ≡ f₂) → Next l F₁ f₁ F f → Next l F₂ f₂ F f
-next-from e n = rw (← e .0, ← e .1) n
-
 -- What is told at a place is told at the same place on another tape.
 told-same : (bs : List ℕ) (es : Scope) (A : Agenda) (f g : Floor) (b : Branch) (t t₀ t′ : List ℕ) (r : Answer)
     → placeOf (ruleCount bs) g b t ≡ placeOf (ruleCount bs) f b t₀ → (givenAt g (b .at) t ≡ givenAt f (b .at) t₀)
@@ -189,39 +186,12 @@ name-open N n e d r = record { next = N; deep = omega (arith, d); room = r }
 
 pub ready-floor : {bs waits tape nodes heads : List ℕ} {f : Floor} {b : Branch} (g : Floor) → Ready bs waits tape nodes heads f b
     → g .fixed ≤ 255 → g .from ≤ 256 → Ready bs waits tape nodes heads g b
-ready-floor g R h k = record {
-  sound = R .sound;
-  waiting = R .waiting;
-  tape-room = R .tape-room;
-  entered = R .entered;
-  scoped = R .scoped;
-  few = R .few;
-  at = R .at;
-  limit = R .limit;
-  fixed = h;
-  from = k;
-  bounded = R .bounded;
-  seen = R .seen;
-}
+ready-floor {tape = tape} {nodes = nodes} {heads = heads} {b = b} g R =
+    ready-moved g R (kept-self (b .at) tape) (kept-self (b .count) nodes) (kept-self (b .count) heads)
 
 pub ready-kept : {bs waits tape tape′ nodes nodes′ heads heads′ : List ℕ} {f : Floor} {b : Branch} → Ready bs waits tape nodes heads f b
     → Kept (b .at) tape tape′ → Kept (b .count) nodes nodes′ → Kept (b .count) heads heads′ → Ready bs waits tape′ nodes′ heads′ f b
-ready-kept {bs} {nodes′} {heads′} {b} R t n h = record {
-  sound = R .sound;
-  waiting = R .waiting;
-  tape-room = t .size ∙ R .tape-room;
-  entered = entered-kept nodes′ heads′ (R .entered) (n .size ∙ R .entered .node-room) (h .size ∙ R .entered .head-room) (sym (n .same))
-      (sym (h .same));
-  scoped = R .scoped;
-  few = R .few;
-  at = R .at;
-  limit = R .limit;
-  fixed = R .fixed;
-  from = R .from;
-  bounded =
-      subst (λ es. Bounded es (items (ruleCount bs) (b .strict) ∪ items (ruleCount bs) (b .lax))) (sym (kept-scope bs n)) (R .bounded);
-  seen = subst (λ l. Seen bs (b .seen) l) (sym (t .same)) (R .seen);
-}
+ready-kept {f = f} R t n h = ready-moved f R t n h (R .fixed) (R .from)
 
 -- At a name, every list sought begins with e or higher.
 pub record Tries (bs codes tape nodes : List ℕ) (f : Floor) (b : Branch) (e : ℕ) : Type 0 where
@@ -624,14 +594,6 @@ open-alike f b first t e h = record { alike = at }
           from-here (openF b first) z (omega arith) ∙ e ∙ ap (fromAt f) q),
     )
     at false z l = (refl, refl)
-
-from-low : (f : Floor) (a : ℕ) → f .from ≤ 256 → fromAt f a ≤ 256
-unfolding fromAt
-from-low f a h = at (leb a (f .fixed))
-  where
-    at : (c : Bool) → cond c (f .from) 0 ≤ 256
-    at true = h
-    at false = omega arith
 
 module _ {bs waits tape nodes heads : List ℕ} {f : Floor} {b : Branch} (R : Ready bs waits tape nodes heads f b) where
   module _ (first : ℕ) (e : first ≡ fromAt f (b .at)) where

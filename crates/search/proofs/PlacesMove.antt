@@ -18,12 +18,15 @@ use Rattle.lines.specs.Inner.Set.{emptyS, addS, takeS, cutS, joinS}
 use Rattle.scope.specs.Inner.Sets.{items}
 use Rattle.scope.specs.Inner.Tables.{Kept}
 use Rattle.scope.proofs.SetsAreItems.{items-empty, items-join, items-cut, items-add, items-take}
+use Rattle.entries.specs.Inner.Entries.{scopeIn}
+use Rattle.entries.proofs.TablesAreScopes.{scope-kept, entered-kept}
+use Rattle.agenda.specs.Inner.Order.{Next}
 use Rattle.agenda.specs.Inner.Sought.{floored, lead, past, pastLead, pastWith, lentPlace, pastUse, spent, spending}
 use Rattle.segment.specs.declared.branch.Branch.{Branch}
 use Rattle.segment.specs.declared.branch.Way.{Way}
 use Rattle.segment.specs.declared.branch.Floor.{Floor}
 use Rattle.segment.specs.Inner.Values.{leadB, pastTensorB, pastWithB, lentB, usingB}
-use Rattle.search.specs.Inner.Engine.{givenAt, fromAt, raisedF, placeOf}
+use Rattle.search.specs.Inner.Engine.{givenAt, fromAt, raisedF, placeOf, Ready}
 
 -- the floor of the entries from the given one on
 abbrev pub openF : Branch → ℕ → Floor
@@ -244,3 +247,36 @@ lent-place es P f b t e h k = λ i. record {
   where
     joins : items P (addS (b .strict) (b .count - P)) ≡ items P (b .strict) ∪ only (size es)
     joins = rw e (items-add P (b .strict) (b .count) h k)
+
+-- What two parts of the engine's laws need
+
+-- tape and tables changed behind what the branch needs
+pub ready-moved : {bs waits tape tape′ nodes nodes′ heads heads′ : List ℕ} {f : Floor} (g : Floor) {b : Branch}
+    → Ready bs waits tape nodes heads f b → Kept (b .at) tape tape′ → Kept (b .count) nodes nodes′ → Kept (b .count) heads heads′
+    → g .fixed ≤ 255 → g .from ≤ 256 → Ready bs waits tape′ nodes′ heads′ g b
+ready-moved {bs} {nodes} {nodes′} {heads} {heads′} g {b} r t n h x y = record {
+  sound = r .sound;
+  waiting = r .waiting;
+  tape-room = t .size ∙ r .tape-room;
+  entered = entered-kept nodes′ heads′ (r .entered) (n .size ∙ r .entered .node-room) (h .size ∙ r .entered .head-room)
+      (sym (n .same)) (sym (h .same));
+  scoped = r .scoped;
+  few = r .few;
+  at = r .at;
+  limit = r .limit;
+  fixed = x;
+  from = y;
+  bounded = rw (scope-kept bs nodes′ nodes (b .count) (n .same)) (r .bounded);
+  seen = rw (t .same) (r .seen);
+}
+
+pub next-from : {l F₁ F₂ F : List ℕ} {f₁ f₂ f : ℕ} → (F₁ ≡ F₂) × (f₁ ≡ f₂) → Next l F₁ f₁ F f → Next l F₂ f₂ F f
+next-from e n = rw (← e .0, ← e .1) n
+
+pub from-low : (f : Floor) (a : ℕ) → f .from ≤ 256 → fromAt f a ≤ 256
+unfolding fromAt
+from-low f a h = at (leb a (f .fixed))
+  where
+    at : (c : Bool) → cond c (f .from) 0 ≤ 256
+    at true = h
+    at false = omega arith

@@ -35,7 +35,7 @@ use Rattle.segment.specs.Inner.Values.{Answer, Stuck, Tired}
 use Rattle.segment.specs.Inner.Values.{leadB, ownB, pastF}
 use Rattle.search.specs.Inner.Engine.{givenAt, fromAt, raisedF, placeOf, Ready, Fresh}
 use Rattle.search.specs.Inner.Engine.{Told, Searches}
-use Rattle.search.proofs.PlacesMove.{run-length, given-run, given-past, from-here, raised-given, floor-place}
+use Rattle.search.proofs.PlacesMove.{ready-moved, next-from, from-low, run-length, given-run, given-past, from-here, raised-given, floor-place}
 use Rattle.search.proofs.RaisesEnd.{ByteSteps, leftOver, raise-falls, run-last, bytes-run}
 
 -- Items and slack, gathered
@@ -74,9 +74,6 @@ next-nil next-here = (refl, refl)
 
 next-to : {l F F′ F″ : List ℕ} {f f′ f″ : ℕ} → F″ ≡ F′ → f″ ≡ f′ → Next l F f F′ f′ → Next l F f F″ f″
 next-to e d n = rw e (rw d n)
-
-next-from : {l F F₀ F′ : List ℕ} {f f₀ f′ : ℕ} → (F ≡ F₀) × (f ≡ f₀) → Next l F f F′ f′ → Next l F₀ f₀ F′ f′
-next-from e n = rw (← e .0) (rw (← e .1) n)
 
 off : (a b : Bool) → (a && (b && false)) ≡ false
 off = table 2 (λ a b. (a && (b && false)) ≐ false) refl
@@ -118,26 +115,6 @@ past-low : (g : Floor) (kept : Bool) → g .fixed ≤ 255 → g .from ≤ 256 �
 unfolding pastF
 past-low g true h k = (h, k)
 past-low g false h k = (omega arith, omega arith)
-
--- tape and tables changed behind what the branch needs
-pub ready-kept : {bs waits tape tape′ nodes nodes′ heads heads′ : List ℕ} {f : Floor} (g : Floor) {b : Branch}
-    → Ready bs waits tape nodes heads f b → Kept (b .at) tape tape′ → Kept (b .count) nodes nodes′ → Kept (b .count) heads heads′
-    → g .fixed ≤ 255 → g .from ≤ 256 → Ready bs waits tape′ nodes′ heads′ g b
-ready-kept {bs} {nodes} {nodes′} {heads} {heads′} g {b} r t n h x y = record {
-  sound = r .sound;
-  waiting = r .waiting;
-  tape-room = t .size ∙ r .tape-room;
-  entered = entered-kept nodes′ heads′ (r .entered) (n .size ∙ r .entered .node-room) (h .size ∙ r .entered .head-room)
-      (sym (n .same)) (sym (h .same));
-  scoped = r .scoped;
-  few = r .few;
-  at = r .at;
-  limit = r .limit;
-  fixed = x;
-  from = y;
-  bounded = rw (scope-kept bs nodes′ nodes (b .count) (n .same)) (r .bounded);
-  seen = rw (t .same) (r .seen);
-}
 
 -- a part with more behind it
 pub ready-lead : {bs waits tape nodes heads : List ℕ} {g : Floor} {b : Branch} → Ready bs waits tape nodes heads g b
@@ -191,7 +168,7 @@ pub ready-past : {bs waits tape tape′ nodes nodes′ heads heads′ : List ℕ
     → Ready bs waits tape′ nodes′ heads′ (pastF g kept) b′
 ready-past {bs} {waits} {tape′} {nodes′} {heads′} g {b} b′ kept r t n h c l a s w =
     let low = past-low g kept (r .fixed) (r .from) in
-    let q = ready-kept g r t n h (r .fixed) (r .from) in
+    let q = ready-moved g r t n h (r .fixed) (r .from) in
     record {
       sound = q .sound;
       waiting = q .waiting;
@@ -277,14 +254,6 @@ module _ (el : List ℕ → ℕ → Bool) {es : Scope} {B C A : Agenda} (p : Pla
     pub turn-clear : raised ≡ true → Next l (p .given) (p .from) [] 0
     turn-clear e = t .clear e l U v (h .sought)
 
-from-low : (g : Floor) (a : ℕ) → g .from ≤ 256 → fromAt g a ≤ 256
-unfolding fromAt
-from-low g a h = at (leb a (g .fixed))
-  where
-    at : (c : Bool) → cond c (g .from) 0 ≤ 256
-    at true = h
-    at false = omega arith
-
 -- the raised floor at the part's place
 raised-floor : (tape : List ℕ) (g : Floor) (a z : ℕ) → a < z → g ≡ raisedF tape z
     → (givenAt g a tape ≡ slice a (z - 1) tape) × (fromAt g a ≡ suc (getD tape (z - 1) 0))
@@ -313,7 +282,7 @@ module _ {bs waits tape₀ tape nodes₀ nodes heads₀ heads : List ℕ} {B : A
   next-turn w {tape′} g′ lt top e bytes kt kn kh r =
       let fl = raised-floor tape′ g′ (b .at) (w .at) lt e in
       record {
-        ready = ready-kept g′ (I .ready) kt kn kh (rw e (omega arith)) (rw e (let y = bytes (w .at - 1) in omega arith));
+        ready = ready-moved g′ (I .ready) kt kn kh (rw e (omega arith)) (rw e (let y = bytes (w .at - 1) in omega arith));
         tape-kept = kept-again (b .at) (I .tape-kept) kt;
         node-kept = kept-again (b .count) (I .node-kept) kn;
         head-kept = kept-again (b .count) (I .head-kept) kh;

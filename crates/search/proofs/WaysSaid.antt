@@ -14,9 +14,9 @@ use Rattle.segment.specs.declared.branch.Branch.{Branch}
 use Rattle.segment.specs.declared.branch.Way.{Way}
 use Rattle.segment.specs.declared.branch.Outcome.{Outcome}
 use Rattle.segment.specs.declared.branch.Outcome.the-variants.{Solved as IsSolved, Stuck as IsStuck, Tired as IsTired}
-use Rattle.segment.specs.Inner.Values.{Answer, Solved, Stuck, Tired, wayIn, answerIn, Awake, usingB, pastTensorB, pastWithB}
+use Rattle.segment.specs.Inner.Values.{Solved, Stuck, Tired, wayIn, answerIn, Awake, usingB, pastTensorB, pastWithB}
 use Rattle.segment.proofs.branch.Outcome.{the-type}
-use Rattle.prune.specs.Inner.Prune.{Memory, Rooted, Stocked}
+use Rattle.prune.specs.Inner.Prune.{Memory}
 use Rattle.prune.proofs.RootsKept.{rooted-kept, rooted-lent}
 use Rattle.prune.proofs.StockKept.{stocked-kept}
 use Rattle.search.specs.Inner.Engine.{Equipped, Stays, Weary, gives}

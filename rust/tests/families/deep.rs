@@ -49,26 +49,16 @@ fn by_rule(c: &mut Draft, a: usize, condition: usize) -> usize {
     a
 }
 
+/// The goal a, where b with itself, by this kind, gives a.
+fn paired(c: &mut Draft, a: usize, b: usize, kind: u8) -> usize {
+    let two = c.add(kind, b, b);
+    by_rule(c, a, two)
+}
+
 const ITEMS: &[Item] = &[
     Item { what: "recipes", steps: 2, most: 126, goal: by_rule },
-    Item {
-        what: "both in recipes",
-        steps: 3,
-        most: 126,
-        goal: |c, a, b| {
-            let two = c.add(4, b, b);
-            by_rule(c, a, two)
-        },
-    },
-    Item {
-        what: "either way in recipes",
-        steps: 3,
-        most: 126,
-        goal: |c, a, b| {
-            let two = c.add(5, b, b);
-            by_rule(c, a, two)
-        },
-    },
+    Item { what: "both in recipes", steps: 3, most: 126, goal: |c, a, b| paired(c, a, b, 4) },
+    Item { what: "either way in recipes", steps: 3, most: 126, goal: |c, a, b| paired(c, a, b, 5) },
     Item {
         what: "lend in recipes",
         steps: 2,

@@ -1,11 +1,9 @@
 -- The table, if it is settled; else it is not asked.
 use native.Mathlib.Omega.{arith}
-use mathlib.Core.Path.{_≡_, refl, sym, _∙_}
+use mathlib.Core.Path.{_≡_, refl}
 use mathlib.Core.Bool.{Bool, cond, true, false, false≢true}
-use lib.ListN.{replicate}
 use borrow.Author.Needs.{needs}
-use borrow.Author.Tests.{not-true, not-false}
-use Rattle.bounds.specs.Inner.Table.{NameCells, TableCells}
+use borrow.Author.Tests.{not-false}
 use Rattle.bounds.proofs.CellsKept.{new-names, new-table}
 use Prim.Native.Nat.{ℕ, _<_}
 use borrow.Fn.Kinds.{In}

@@ -11,7 +11,7 @@ use Rattle.segment.specs.declared.branch.Outcome.the-variants.{Solved as IsSolv
 use Rattle.segment.specs.Inner.Values.{wayIn, Awake}
 use Rattle.segment.proofs.branch.Outcome.{the-type}
 use Rattle.search.specs.declared.Found.the-variants.{List as ListOf, Nothing}
-use mathlib.Core.Path.{_≡_, refl, sym, _∙_, ap}
+use mathlib.Core.Path.{_≡_, refl, ap}
 use borrow.Author.Needs.{needs}
 use Rattle.search.specs.Inner.Found.{Says}
 use Rattle.search.proofs.list_of.Statement.{statement}

@@ -1,11 +1,9 @@
 -- The engine at the card's goal.
 use native.Mathlib.Omega.{arith}
-use mathlib.Core.Path.{refl, _∙_, ap}
+use mathlib.Core.Path.{refl}
 use lib.ListN.{replicate}
 use borrow.Author.Needs.{needs}
 use Rattle.card.proofs.CardChecked.{sound-front}
-use Rattle.segment.specs.declared.branch.Branch.{Branch}
-use Rattle.search.specs.Inner.Found.{startB}
 use Rattle.prune.proofs.RootsKept.{rooted-start}
 use Rattle.search.proofs.WaysSaid.{equipped-at}
 use Rattle.search.proofs.StartFindsFirst.{goal-code, at-goal, asked, ran, started, start-count}

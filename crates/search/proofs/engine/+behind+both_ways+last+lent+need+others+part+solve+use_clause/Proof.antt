@@ -3,8 +3,7 @@ use Prim.Native.Nat.{ℕ, _+_, _*_, _-_, _<_}
 use native.Mathlib.Omega.{arith}
 use mathlib.Core.Path.{_≡_, refl, sym, _∙_, ap}
 use mathlib.Core.List.{[], _∷_}
-use lib.ListN.{replicate, length}
-use borrow.Author.Tests.{not-true, not-false}
+use lib.ListN.{replicate}
 use Rattle.calculus.specs.Formula.{Goal}
 use Rattle.card.specs.Format.{kindAt, leftAt, rightAt}
 use Rattle.card.specs.Decode.{goalAt}
@@ -14,11 +13,11 @@ use Rattle.agenda.specs.Inner.Agenda.{task}
 use Rattle.segment.specs.declared.branch.Branch.{Branch}
 use Rattle.segment.specs.Inner.Values.{Solved, answerIn}
 use Rattle.segment.specs.Inner.Tasks.{agendaOf}
-use Rattle.search.specs.Inner.Engine.{givenAt, fromAt, Equipped, Weary, gives}
+use Rattle.search.specs.Inner.Engine.{givenAt, fromAt, Equipped}
 use Rattle.search.proofs.NumbersFall.{number, alone}
 use Rattle.search.proofs.AgendasUnwind.{top-within, top-here, name-next, part-next, unwound-number, unwound-ready}
 use Rattle.search.proofs.AgendasUnwind.{unwound-searched, closed-searched}
-use Rattle.search.proofs.WaysSaid.{solved-said, stuck-said, tired-said, unsolved, equipped-on, equipped-at, equipped-lent}
+use Rattle.search.proofs.WaysSaid.{solved-said, stuck-said, unsolved, equipped-on, equipped-at, equipped-lent}
 use Rattle.search.proofs.WaysSaid.{AsLarge, large-self, large-on, stays-stuck, stays-from, stays-back, stays-dead, weary-solved, weary-stuck}
 use Rattle.search.proofs.WaysSaid.{using-count, tensor-count, with-count, awake-stays, stays-tired}
 use Rattle.search.proofs.NamesTell.{name-of, card-front, name-open, testing, name-here, top-inside, unnested}
@@ -99,24 +98,23 @@ use Rattle.segment.proofs.tasks.node.Reads as node-reads
 use Rattle.segment.proofs.tasks.push.Reads as push-reads
 use Rattle.segment.proofs.tasks.put.Reads as tasks-put-reads
 use Rattle.segment.proofs.tasks.unwind.Reads as unwind-reads
-use Rattle.search.proofs.engine.+behind+both_ways+last+lent+need+others+part+solve+use_clause.{
-  statement,
-}
-use Rattle.search.proofs.engine.+behind+both_ways+last+lent+need+others+part+solve+use_clause.Tie.{
-  close,
-}
+use Rattle.search.proofs.engine.+behind+both_ways+last+lent+need+others+part+solve+use_clause.{statement}
+use Rattle.search.proofs.engine.+behind+both_ways+last+lent+need+others+part+solve+use_clause.Tie.{close}
 
 abbrev μ-behind : Measures 12 behind-kinds.ps ℕ
 μ-behind κs a = 8 * number (a .0 .now) (a .1 .1 .1 .1 .1 .1 .1 .1 .1 .1 .1 .0 .now) (a .1 .1 .1 .1 .1 .1 .1 .1 .1 .1 .1 .1 .1 .0) + 5
 
 abbrev μ-both-ways : Measures 11 both-ways-kinds.ps ℕ
-μ-both-ways κs a = 8 * alone (a .0 .now) (a .1 .1 .1 .1 .1 .1 .1 .1 .1 .1 .1 .0) (a .1 .1 .1 .1 .1 .1 .1 .1 .1 .1 .1 .1 .0) (a .1 .1 .1 .1 .1 .1 .1 .1 .1 .1 .1 .1 .1 .1 .0) + 2
+μ-both-ways κs a = 8 * alone (a .0 .now) (a .1 .1 .1 .1 .1 .1 .1 .1 .1 .1 .1 .0) (a .1 .1 .1 .1 .1 .1 .1 .1 .1 .1 .1 .1 .0) (a .1
+    .1 .1 .1 .1 .1 .1 .1 .1 .1 .1 .1 .1 .1 .0) + 2
 
 abbrev μ-last : Measures 11 last-kinds.ps ℕ
-μ-last κs a = 8 * alone (a .0 .now) (a .1 .1 .1 .1 .1 .1 .1 .1 .1 .1 .1 .0) (a .1 .1 .1 .1 .1 .1 .1 .1 .1 .1 .1 .1 .0) (a .1 .1 .1 .1 .1 .1 .1 .1 .1 .1 .1 .1 .1 .1 .0) + 4
+μ-last κs a = 8 * alone (a .0 .now) (a .1 .1 .1 .1 .1 .1 .1 .1 .1 .1 .1 .0) (a .1 .1 .1 .1 .1 .1 .1 .1 .1 .1 .1 .1 .0) (a .1 .1 .1
+    .1 .1 .1 .1 .1 .1 .1 .1 .1 .1 .1 .0) + 4
 
 abbrev μ-lent : Measures 11 lent-kinds.ps ℕ
-μ-lent κs a = 8 * alone (a .0 .now) (a .1 .1 .1 .1 .1 .1 .1 .1 .1 .1 .1 .0) (a .1 .1 .1 .1 .1 .1 .1 .1 .1 .1 .1 .1 .0) (a .1 .1 .1 .1 .1 .1 .1 .1 .1 .1 .1 .1 .1 .1 .0) + 2
+μ-lent κs a = 8 * alone (a .0 .now) (a .1 .1 .1 .1 .1 .1 .1 .1 .1 .1 .1 .0) (a .1 .1 .1 .1 .1 .1 .1 .1 .1 .1 .1 .1 .0) (a .1 .1 .1
+    .1 .1 .1 .1 .1 .1 .1 .1 .1 .1 .1 .0) + 2
 
 abbrev μ-need : Measures 12 need-kinds.ps ℕ
 μ-need κs a = 8 * number (a .0 .now) (a .1 .1 .1 .1 .1 .1 .1 .1 .1 .1 .1 .0 .now) (a .1 .1 .1 .1 .1 .1 .1 .1 .1 .1 .1 .1 .1 .0) + 5
@@ -125,7 +123,8 @@ abbrev μ-others : Measures 12 others-kinds.ps ℕ
 μ-others κs a = 8 * number (a .0 .now) (a .1 .1 .1 .1 .1 .1 .1 .1 .1 .1 .1 .0 .now) (a .1 .1 .1 .1 .1 .1 .1 .1 .1 .1 .1 .1 .1 .1 .0) + 2
 
 abbrev μ-part : Measures 11 part-kinds.ps ℕ
-μ-part κs a = 8 * alone (a .0 .now) (a .1 .1 .1 .1 .1 .1 .1 .1 .1 .1 .1 .0) (a .1 .1 .1 .1 .1 .1 .1 .1 .1 .1 .1 .1 .0) (a .1 .1 .1 .1 .1 .1 .1 .1 .1 .1 .1 .1 .1 .1 .0) + 3
+μ-part κs a = 8 * alone (a .0 .now) (a .1 .1 .1 .1 .1 .1 .1 .1 .1 .1 .1 .0) (a .1 .1 .1 .1 .1 .1 .1 .1 .1 .1 .1 .1 .0) (a .1 .1 .1
+    .1 .1 .1 .1 .1 .1 .1 .1 .1 .1 .1 .0) + 3
 
 abbrev μ-solve : Measures 12 solve-kinds.ps ℕ
 μ-solve κs a = 8 * number (a .0 .now) (a .1 .1 .1 .1 .1 .1 .1 .1 .1 .1 .1 .0 .now) (a .1 .1 .1 .1 .1 .1 .1 .1 .1 .1 .1 .1 .1 .0) + 7
@@ -361,12 +360,14 @@ use-clause-claims t = (
 )
 
 abbrev behind-Inv-loop : behind-lts.InvT-loop
-behind-Inv-loop card waits tape₀ nodes₀ heads₀ way₀ names table masks codes₀ words₀ agenda b top goal n g₀ fresh₀ tape nodes heads way codes words g fresh =
+behind-Inv-loop card waits tape₀ nodes₀ heads₀ way₀ names table masks codes₀ words₀ agenda b top goal n g₀ fresh₀ tape nodes heads
+    way codes words g fresh =
     Behind card waits (task (goalAt card goal) n) (agendaOf card agenda (b .len - 1)) g₀ g b tape₀ tape nodes₀ nodes heads₀ heads fresh
     × (Equipped card names table masks codes words way nodes (b .count) × AsLarge codes words codes₀ words₀)
 
 abbrev behind-μ-loop : behind-lts.MeasureT-loop
-behind-μ-loop card waits tape₀ nodes₀ heads₀ way₀ names table masks codes₀ words₀ agenda b top goal n g₀ fresh₀ tape nodes heads way codes words g fresh =
+behind-μ-loop card waits tape₀ nodes₀ heads₀ way₀ names table masks codes₀ words₀ agenda b top goal n g₀ fresh₀ tape nodes heads
+    way codes words g fresh =
     leftOver fresh (givenAt g (b .at) tape) (fromAt g (b .at))
 
 behind-sub-top : (t : ℕ) → behind-lts.Need-sub-top (behind-claims t) (behind-at t) behind.Post behind-Inv-loop behind-μ-loop
@@ -497,9 +498,12 @@ behind-way-in-requires t c κs =
 behind-past-requires : (t : ℕ) → behind-lts.Need-past-requires (behind-claims t) (behind-at t) behind.Post behind-Inv-loop behind-μ-loop
 behind-past-requires t c κs = search needs
 
-behind-past-tensor-requires : (t : ℕ) → behind-lts.Need-past-tensor-requires (behind-claims t) (behind-at t) behind.Post behind-Inv-loop behind-μ-loop
+behind-past-tensor-requires : (t : ℕ) → behind-lts.Need-past-tensor-requires (behind-claims t) (behind-at t) behind.Post
+    behind-Inv-loop behind-μ-loop
 behind-past-tensor-requires t c κs =
-    let start = c .before .before .before .before .before .before .before .before .before .before .before .before .before .before .before .before .before .before .before .before .before .before .before .before .before .before .before .before .before .before .before .before .before .before .before .before in
+    let start = c .before .before .before .before .before .before .before .before .before .before .before .before .before .before
+    .before .before .before .before .before .before .before .before .before .before .before .before .before .before .before .before
+    .before .before .before .before .before .before in
     let q = start .pre .1 .1 .0 in
     q .some
 
@@ -547,7 +551,8 @@ behind-follow-requires t c κs =
 behind-same-length-5 : (t : ℕ) → behind-lts.Need-same-length-5 (behind-claims t) (behind-at t) behind.Post behind-Inv-loop behind-μ-loop
 behind-same-length-5 t c =
     let at-solve = c .before .before .before .before .before .before .before .before .before in
-    let at-part = at-solve .before .before .before .before .before .before .before .before .before .before .before .before .before .before .before .before .before .before .before in
+    let at-part = at-solve .before .before .before .before .before .before .before .before .before .before .before .before .before
+    .before .before .before .before .before .before in
     let at-loop = at-part .before .before .before .before .before .before .before .before in
     let large = at-loop .loop .inv .1 .1 in
     let large₂ = large-on large (at-part .part .ensures .1) in
@@ -556,7 +561,8 @@ behind-same-length-5 t c =
 behind-same-length-6 : (t : ℕ) → behind-lts.Need-same-length-6 (behind-claims t) (behind-at t) behind.Post behind-Inv-loop behind-μ-loop
 behind-same-length-6 t c =
     let at-solve = c .before .before .before .before .before .before .before .before .before in
-    let at-part = at-solve .before .before .before .before .before .before .before .before .before .before .before .before .before .before .before .before .before .before .before in
+    let at-part = at-solve .before .before .before .before .before .before .before .before .before .before .before .before .before
+    .before .before .before .before .before .before in
     let at-loop = at-part .before .before .before .before .before .before .before .before in
     let large = at-loop .loop .inv .1 .1 in
     let large₂ = large-on large (at-part .part .ensures .1) in
@@ -599,7 +605,8 @@ behind-enum-told-3 t c = search needs
 behind-same-length-7 : (t : ℕ) → behind-lts.Need-same-length-7 (behind-claims t) (behind-at t) behind.Post behind-Inv-loop behind-μ-loop
 behind-same-length-7 t c =
     let at-solve = c .before .before .before .before .before .before .before .before .before in
-    let at-part = at-solve .before .before .before .before .before .before .before .before .before .before .before .before .before .before .before .before .before .before .before in
+    let at-part = at-solve .before .before .before .before .before .before .before .before .before .before .before .before .before
+    .before .before .before .before .before .before in
     let at-loop = at-part .before .before .before .before .before .before .before .before in
     let large = at-loop .loop .inv .1 .1 in
     let large₂ = large-on large (at-part .part .ensures .1) in
@@ -608,7 +615,8 @@ behind-same-length-7 t c =
 behind-same-length-8 : (t : ℕ) → behind-lts.Need-same-length-8 (behind-claims t) (behind-at t) behind.Post behind-Inv-loop behind-μ-loop
 behind-same-length-8 t c =
     let at-solve = c .before .before .before .before .before .before .before .before .before in
-    let at-part = at-solve .before .before .before .before .before .before .before .before .before .before .before .before .before .before .before .before .before .before .before in
+    let at-part = at-solve .before .before .before .before .before .before .before .before .before .before .before .before .before
+    .before .before .before .before .before .before in
     let at-loop = at-part .before .before .before .before .before .before .before .before in
     let large = at-loop .loop .inv .1 .1 in
     let large₂ = large-on large (at-part .part .ensures .1) in
@@ -719,7 +727,8 @@ behind-enum-told-4 t c = search needs
 behind-same-length-9 : (t : ℕ) → behind-lts.Need-same-length-9 (behind-claims t) (behind-at t) behind.Post behind-Inv-loop behind-μ-loop
 behind-same-length-9 t c =
     let at-solve = c .before .before .before .before .before .before in
-    let at-part = at-solve .before .before .before .before .before .before .before .before .before .before .before .before .before .before .before .before .before .before .before in
+    let at-part = at-solve .before .before .before .before .before .before .before .before .before .before .before .before .before
+    .before .before .before .before .before .before in
     let at-loop = at-part .before .before .before .before .before .before .before .before in
     let large = at-loop .loop .inv .1 .1 in
     let large₂ = large-on large (at-part .part .ensures .1) in
@@ -728,7 +737,8 @@ behind-same-length-9 t c =
 behind-same-length-10 : (t : ℕ) → behind-lts.Need-same-length-10 (behind-claims t) (behind-at t) behind.Post behind-Inv-loop behind-μ-loop
 behind-same-length-10 t c =
     let at-solve = c .before .before .before .before .before .before in
-    let at-part = at-solve .before .before .before .before .before .before .before .before .before .before .before .before .before .before .before .before .before .before .before in
+    let at-part = at-solve .before .before .before .before .before .before .before .before .before .before .before .before .before
+    .before .before .before .before .before .before in
     let at-loop = at-part .before .before .before .before .before .before .before .before in
     let large = at-loop .loop .inv .1 .1 in
     let large₂ = large-on large (at-part .part .ensures .1) in
@@ -763,36 +773,42 @@ behind-returns-5 t c =
     )
 
 abbrev both-ways-Inv-loop : both-ways-lts.InvT-loop
-both-ways-Inv-loop card waits tape₀ nodes₀ heads₀ way₀ names table masks codes₀ words₀ goal n b l r g₀ fresh₀ tape nodes heads way codes words g fresh =
+both-ways-Inv-loop card waits tape₀ nodes₀ heads₀ way₀ names table masks codes₀ words₀ goal n b l r g₀ fresh₀ tape nodes heads way
+    codes words g fresh =
     Either card waits (goalAt card (leftAt card goal)) (goalAt card (rightAt card goal)) n g₀ g b tape₀ tape nodes₀ nodes heads₀ heads fresh
     × (Equipped card names table masks codes words way nodes (b .count) × AsLarge codes words codes₀ words₀)
 
 abbrev both-ways-μ-loop : both-ways-lts.MeasureT-loop
-both-ways-μ-loop card waits tape₀ nodes₀ heads₀ way₀ names table masks codes₀ words₀ goal n b l r g₀ fresh₀ tape nodes heads way codes words g fresh =
+both-ways-μ-loop card waits tape₀ nodes₀ heads₀ way₀ names table masks codes₀ words₀ goal n b l r g₀ fresh₀ tape nodes heads way
+    codes words g fresh =
     leftOver fresh (givenAt g (b .at) tape) (fromAt g (b .at))
 
-both-ways-left-requires : (t : ℕ) → both-ways-lts.Need-left-requires (both-ways-claims t) (both-ways-at t) both-ways.Post both-ways-Inv-loop both-ways-μ-loop
+both-ways-left-requires : (t : ℕ) → both-ways-lts.Need-left-requires (both-ways-claims t) (both-ways-at t) both-ways.Post
+    both-ways-Inv-loop both-ways-μ-loop
 both-ways-left-requires t c κs =
     let start = c .before .before .before .before .before .before in
     let rd = start .pre .1 .0 in
     let gr = start .pre .1 .1 .0 .0 .0 in
     node-here (rd .sound) (start .args .goal) (goal-low (rd .sound) gr)
 
-both-ways-right-requires : (t : ℕ) → both-ways-lts.Need-right-requires (both-ways-claims t) (both-ways-at t) both-ways.Post both-ways-Inv-loop both-ways-μ-loop
+both-ways-right-requires : (t : ℕ) → both-ways-lts.Need-right-requires (both-ways-claims t) (both-ways-at t) both-ways.Post
+    both-ways-Inv-loop both-ways-μ-loop
 both-ways-right-requires t c κs =
     let start = c .before .before .before .before .before .before .before in
     let rd = start .pre .1 .0 in
     let gr = start .pre .1 .1 .0 .0 .0 in
     node-here (rd .sound) (start .args .goal) (goal-low (rd .sound) gr)
 
-both-ways-loop-holds : (t : ℕ) → both-ways-lts.Need-loop-holds (both-ways-claims t) (both-ways-at t) both-ways.Post both-ways-Inv-loop both-ways-μ-loop
+both-ways-loop-holds : (t : ℕ) → both-ways-lts.Need-loop-holds (both-ways-claims t) (both-ways-at t) both-ways.Post
+    both-ways-Inv-loop both-ways-μ-loop
 both-ways-loop-holds t c =
     let start = c .before .before .before .before .before .before .before .before in
     let rd = start .pre .1 .0 in
     let eq = start .pre .1 .1 .1 in
     (turns-start _ _ _ rd, (eq, large-self))
 
-both-ways-put-requires : (t : ℕ) → both-ways-lts.Need-put-requires (both-ways-claims t) (both-ways-at t) both-ways.Post both-ways-Inv-loop both-ways-μ-loop
+both-ways-put-requires : (t : ℕ) → both-ways-lts.Need-put-requires (both-ways-claims t) (both-ways-at t) both-ways.Post
+    both-ways-Inv-loop both-ways-μ-loop
 both-ways-put-requires t c κs =
     let at-left = c .before .before .before in
     let start = at-left .before .before .before .before .before .before .before in
@@ -801,7 +817,8 @@ both-ways-put-requires t c κs =
     let el = at-left .left .ensures .0 in
     ((omega arith, (omega (arith, el, part-low (rd .sound) gr .0), gr .nested)), refl)
 
-both-ways-solve-requires : (t : ℕ) → both-ways-lts.Need-solve-requires (both-ways-claims t) (both-ways-at t) both-ways.Post both-ways-Inv-loop both-ways-μ-loop
+both-ways-solve-requires : (t : ℕ) → both-ways-lts.Need-solve-requires (both-ways-claims t) (both-ways-at t) both-ways.Post
+    both-ways-Inv-loop both-ways-μ-loop
 both-ways-solve-requires t c κs =
     let at-put = c .before .before .before .before .before .before .before in
     let at-loop = at-put .before .before in
@@ -817,24 +834,28 @@ both-ways-solve-requires t c κs =
     let asked = left-asks (rd .sound) gr (replicate 104 0) refl kd fb (at-left .left .ensures .0) (at-put .put .ensures) in
     (omega (arith, asked .0, number-is), (turn .ready, (asked .1, kit)))
 
-both-ways-enum-told : (t : ℕ) → both-ways-lts.Need-enum-told (both-ways-claims t) (both-ways-at t) both-ways.Post both-ways-Inv-loop both-ways-μ-loop
+both-ways-enum-told : (t : ℕ) → both-ways-lts.Need-enum-told (both-ways-claims t) (both-ways-at t) both-ways.Post
+    both-ways-Inv-loop both-ways-μ-loop
 both-ways-enum-told t c = search needs
 
-both-ways-same-length : (t : ℕ) → both-ways-lts.Need-same-length (both-ways-claims t) (both-ways-at t) both-ways.Post both-ways-Inv-loop both-ways-μ-loop
+both-ways-same-length : (t : ℕ) → both-ways-lts.Need-same-length (both-ways-claims t) (both-ways-at t) both-ways.Post
+    both-ways-Inv-loop both-ways-μ-loop
 both-ways-same-length t c =
     let at-solve = c .before .before .before .before .before in
     let at-loop = at-solve .before .before .before .before .before .before .before .before .before .before in
     let large = at-loop .loop .inv .1 .1 in
     (large-on large (at-solve .solve .ensures .1)) .code-same
 
-both-ways-same-length-2 : (t : ℕ) → both-ways-lts.Need-same-length-2 (both-ways-claims t) (both-ways-at t) both-ways.Post both-ways-Inv-loop both-ways-μ-loop
+both-ways-same-length-2 : (t : ℕ) → both-ways-lts.Need-same-length-2 (both-ways-claims t) (both-ways-at t) both-ways.Post
+    both-ways-Inv-loop both-ways-μ-loop
 both-ways-same-length-2 t c =
     let at-solve = c .before .before .before .before .before in
     let at-loop = at-solve .before .before .before .before .before .before .before .before .before .before in
     let large = at-loop .loop .inv .1 .1 in
     (large-on large (at-solve .solve .ensures .1)) .same
 
-both-ways-returns : (t : ℕ) → both-ways-lts.Need-returns (both-ways-claims t) (both-ways-at t) both-ways.Post both-ways-Inv-loop both-ways-μ-loop
+both-ways-returns : (t : ℕ) → both-ways-lts.Need-returns (both-ways-claims t) (both-ways-at t) both-ways.Post both-ways-Inv-loop
+    both-ways-μ-loop
 both-ways-returns t c =
     let at-match = c in
     let at-solve = at-match .before .before .before .before .before in
@@ -856,27 +877,33 @@ both-ways-returns t c =
       stays-back large (at-solve .solve .ensures .1),
     )
 
-both-ways-way-in-requires : (t : ℕ) → both-ways-lts.Need-way-in-requires (both-ways-claims t) (both-ways-at t) both-ways.Post both-ways-Inv-loop both-ways-μ-loop
+both-ways-way-in-requires : (t : ℕ) → both-ways-lts.Need-way-in-requires (both-ways-claims t) (both-ways-at t) both-ways.Post
+    both-ways-Inv-loop both-ways-μ-loop
 both-ways-way-in-requires t c κs =
     let at-solve = c .before .before .before .before .before .before .before in
     at-solve .solve .ensures .1 .way-room
 
-both-ways-put-requires-2 : (t : ℕ) → both-ways-lts.Need-put-requires-2 (both-ways-claims t) (both-ways-at t) both-ways.Post both-ways-Inv-loop both-ways-μ-loop
+both-ways-put-requires-2 : (t : ℕ) → both-ways-lts.Need-put-requires-2 (both-ways-claims t) (both-ways-at t) both-ways.Post
+    both-ways-Inv-loop both-ways-μ-loop
 both-ways-put-requires-2 t c κs =
-    let at-right = c .before .before .before .before .before .before .before .before .before .before .before .before .before .before .before .before .before .before .before .before in
+    let at-right = c .before .before .before .before .before .before .before .before .before .before .before .before .before
+    .before .before .before .before .before .before .before in
     let start = at-right .before .before .before .before .before .before .before .before in
     let rd = start .pre .1 .0 in
     let gr = start .pre .1 .1 .0 .0 .0 in
     let er = at-right .right .ensures .0 in
     ((omega arith, (omega (arith, er, part-low (rd .sound) gr .1), gr .nested)), refl)
 
-both-ways-past-requires : (t : ℕ) → both-ways-lts.Need-past-requires (both-ways-claims t) (both-ways-at t) both-ways.Post both-ways-Inv-loop both-ways-μ-loop
+both-ways-past-requires : (t : ℕ) → both-ways-lts.Need-past-requires (both-ways-claims t) (both-ways-at t) both-ways.Post
+    both-ways-Inv-loop both-ways-μ-loop
 both-ways-past-requires t c κs = search needs
 
-both-ways-past-with-requires : (t : ℕ) → both-ways-lts.Need-past-with-requires (both-ways-claims t) (both-ways-at t) both-ways.Post both-ways-Inv-loop both-ways-μ-loop
+both-ways-past-with-requires : (t : ℕ) → both-ways-lts.Need-past-with-requires (both-ways-claims t) (both-ways-at t) both-ways.Post
+    both-ways-Inv-loop both-ways-μ-loop
 both-ways-past-with-requires t c κs = search needs
 
-both-ways-solve-requires-2 : (t : ℕ) → both-ways-lts.Need-solve-requires-2 (both-ways-claims t) (both-ways-at t) both-ways.Post both-ways-Inv-loop both-ways-μ-loop
+both-ways-solve-requires-2 : (t : ℕ) → both-ways-lts.Need-solve-requires-2 (both-ways-claims t) (both-ways-at t) both-ways.Post
+    both-ways-Inv-loop both-ways-μ-loop
 both-ways-solve-requires-2 t c κs =
     let at-past-with = c in
     let at-past = at-past-with .before in
@@ -915,49 +942,60 @@ both-ways-solve-requires-2 t c κs =
       ),
     )
 
-both-ways-enum-told-2 : (t : ℕ) → both-ways-lts.Need-enum-told-2 (both-ways-claims t) (both-ways-at t) both-ways.Post both-ways-Inv-loop both-ways-μ-loop
+both-ways-enum-told-2 : (t : ℕ) → both-ways-lts.Need-enum-told-2 (both-ways-claims t) (both-ways-at t) both-ways.Post
+    both-ways-Inv-loop both-ways-μ-loop
 both-ways-enum-told-2 t c = search needs
 
-both-ways-way-in-requires-2 : (t : ℕ) → both-ways-lts.Need-way-in-requires-2 (both-ways-claims t) (both-ways-at t) both-ways.Post both-ways-Inv-loop both-ways-μ-loop
+both-ways-way-in-requires-2 : (t : ℕ) → both-ways-lts.Need-way-in-requires-2 (both-ways-claims t) (both-ways-at t) both-ways.Post
+    both-ways-Inv-loop both-ways-μ-loop
 both-ways-way-in-requires-2 t c κs =
     let at-solve2 = c .before .before .before .before .before .before .before .before in
     at-solve2 .solve2 .ensures .1 .way-room
 
-both-ways-beside-requires : (t : ℕ) → both-ways-lts.Need-beside-requires (both-ways-claims t) (both-ways-at t) both-ways.Post both-ways-Inv-loop both-ways-μ-loop
+both-ways-beside-requires : (t : ℕ) → both-ways-lts.Need-beside-requires (both-ways-claims t) (both-ways-at t) both-ways.Post
+    both-ways-Inv-loop both-ways-μ-loop
 both-ways-beside-requires t c κs = search needs
 
-both-ways-put-way-requires : (t : ℕ) → both-ways-lts.Need-put-way-requires (both-ways-claims t) (both-ways-at t) both-ways.Post both-ways-Inv-loop both-ways-μ-loop
+both-ways-put-way-requires : (t : ℕ) → both-ways-lts.Need-put-way-requires (both-ways-claims t) (both-ways-at t) both-ways.Post
+    both-ways-Inv-loop both-ways-μ-loop
 both-ways-put-way-requires t c κs =
     let at-solve2 = c .before .before .before .before .before .before .before .before .before .before in
     at-solve2 .solve2 .ensures .1 .way-room
 
-both-ways-both-requires : (t : ℕ) → both-ways-lts.Need-both-requires (both-ways-claims t) (both-ways-at t) both-ways.Post both-ways-Inv-loop both-ways-μ-loop
+both-ways-both-requires : (t : ℕ) → both-ways-lts.Need-both-requires (both-ways-claims t) (both-ways-at t) both-ways.Post
+    both-ways-Inv-loop both-ways-μ-loop
 both-ways-both-requires t c κs = search needs
 
-both-ways-follow-requires : (t : ℕ) → both-ways-lts.Need-follow-requires (both-ways-claims t) (both-ways-at t) both-ways.Post both-ways-Inv-loop both-ways-μ-loop
+both-ways-follow-requires : (t : ℕ) → both-ways-lts.Need-follow-requires (both-ways-claims t) (both-ways-at t) both-ways.Post
+    both-ways-Inv-loop both-ways-μ-loop
 both-ways-follow-requires t c κs =
     let at-put-way = c .before .before in
     at-put-way .put-way .ensures .1
 
-both-ways-same-length-3 : (t : ℕ) → both-ways-lts.Need-same-length-3 (both-ways-claims t) (both-ways-at t) both-ways.Post both-ways-Inv-loop both-ways-μ-loop
+both-ways-same-length-3 : (t : ℕ) → both-ways-lts.Need-same-length-3 (both-ways-claims t) (both-ways-at t) both-ways.Post
+    both-ways-Inv-loop both-ways-μ-loop
 both-ways-same-length-3 t c =
     let at-solve2 = c .before .before .before .before .before .before .before .before .before .before .before .before .before .before in
-    let at-solve = at-solve2 .before .before .before .before .before .before .before .before .before .before .before .before .before .before .before .before .before .before .before .before in
+    let at-solve = at-solve2 .before .before .before .before .before .before .before .before .before .before .before .before
+    .before .before .before .before .before .before .before .before in
     let at-loop = at-solve .before .before .before .before .before .before .before .before .before .before in
     let large = at-loop .loop .inv .1 .1 in
     let large₂ = large-on large (at-solve .solve .ensures .1) in
     (large-on large₂ (at-solve2 .solve2 .ensures .1)) .code-same
 
-both-ways-same-length-4 : (t : ℕ) → both-ways-lts.Need-same-length-4 (both-ways-claims t) (both-ways-at t) both-ways.Post both-ways-Inv-loop both-ways-μ-loop
+both-ways-same-length-4 : (t : ℕ) → both-ways-lts.Need-same-length-4 (both-ways-claims t) (both-ways-at t) both-ways.Post
+    both-ways-Inv-loop both-ways-μ-loop
 both-ways-same-length-4 t c =
     let at-solve2 = c .before .before .before .before .before .before .before .before .before .before .before .before .before .before in
-    let at-solve = at-solve2 .before .before .before .before .before .before .before .before .before .before .before .before .before .before .before .before .before .before .before .before in
+    let at-solve = at-solve2 .before .before .before .before .before .before .before .before .before .before .before .before
+    .before .before .before .before .before .before .before .before in
     let at-loop = at-solve .before .before .before .before .before .before .before .before .before .before in
     let large = at-loop .loop .inv .1 .1 in
     let large₂ = large-on large (at-solve .solve .ensures .1) in
     (large-on large₂ (at-solve2 .solve2 .ensures .1)) .same
 
-both-ways-returns-2 : (t : ℕ) → both-ways-lts.Need-returns-2 (both-ways-claims t) (both-ways-at t) both-ways.Post both-ways-Inv-loop both-ways-μ-loop
+both-ways-returns-2 : (t : ℕ) → both-ways-lts.Need-returns-2 (both-ways-claims t) (both-ways-at t) both-ways.Post
+    both-ways-Inv-loop both-ways-μ-loop
 unfolding answerIn
 both-ways-returns-2 t c =
     let at-follow = c in
@@ -1001,28 +1039,34 @@ both-ways-returns-2 t c =
       stays-from large₂ (at-solve2 .solve2 .ensures .1) _ (at-follow .follow .ensures .1) (weary-solved _),
     )
 
-both-ways-enum-told-3 : (t : ℕ) → both-ways-lts.Need-enum-told-3 (both-ways-claims t) (both-ways-at t) both-ways.Post both-ways-Inv-loop both-ways-μ-loop
+both-ways-enum-told-3 : (t : ℕ) → both-ways-lts.Need-enum-told-3 (both-ways-claims t) (both-ways-at t) both-ways.Post
+    both-ways-Inv-loop both-ways-μ-loop
 both-ways-enum-told-3 t c = search needs
 
-both-ways-same-length-5 : (t : ℕ) → both-ways-lts.Need-same-length-5 (both-ways-claims t) (both-ways-at t) both-ways.Post both-ways-Inv-loop both-ways-μ-loop
+both-ways-same-length-5 : (t : ℕ) → both-ways-lts.Need-same-length-5 (both-ways-claims t) (both-ways-at t) both-ways.Post
+    both-ways-Inv-loop both-ways-μ-loop
 both-ways-same-length-5 t c =
     let at-solve2 = c .before .before .before .before .before .before .before .before .before in
-    let at-solve = at-solve2 .before .before .before .before .before .before .before .before .before .before .before .before .before .before .before .before .before .before .before .before in
+    let at-solve = at-solve2 .before .before .before .before .before .before .before .before .before .before .before .before
+    .before .before .before .before .before .before .before .before in
     let at-loop = at-solve .before .before .before .before .before .before .before .before .before .before in
     let large = at-loop .loop .inv .1 .1 in
     let large₂ = large-on large (at-solve .solve .ensures .1) in
     (large-on large₂ (at-solve2 .solve2 .ensures .1)) .code-same
 
-both-ways-same-length-6 : (t : ℕ) → both-ways-lts.Need-same-length-6 (both-ways-claims t) (both-ways-at t) both-ways.Post both-ways-Inv-loop both-ways-μ-loop
+both-ways-same-length-6 : (t : ℕ) → both-ways-lts.Need-same-length-6 (both-ways-claims t) (both-ways-at t) both-ways.Post
+    both-ways-Inv-loop both-ways-μ-loop
 both-ways-same-length-6 t c =
     let at-solve2 = c .before .before .before .before .before .before .before .before .before in
-    let at-solve = at-solve2 .before .before .before .before .before .before .before .before .before .before .before .before .before .before .before .before .before .before .before .before in
+    let at-solve = at-solve2 .before .before .before .before .before .before .before .before .before .before .before .before
+    .before .before .before .before .before .before .before .before in
     let at-loop = at-solve .before .before .before .before .before .before .before .before .before .before in
     let large = at-loop .loop .inv .1 .1 in
     let large₂ = large-on large (at-solve .solve .ensures .1) in
     (large-on large₂ (at-solve2 .solve2 .ensures .1)) .same
 
-both-ways-returns-3 : (t : ℕ) → both-ways-lts.Need-returns-3 (both-ways-claims t) (both-ways-at t) both-ways.Post both-ways-Inv-loop both-ways-μ-loop
+both-ways-returns-3 : (t : ℕ) → both-ways-lts.Need-returns-3 (both-ways-claims t) (both-ways-at t) both-ways.Post
+    both-ways-Inv-loop both-ways-μ-loop
 unfolding answerIn
 both-ways-returns-3 t c =
     let at-if1 = c in
@@ -1060,7 +1104,8 @@ both-ways-returns-3 t c =
       stays-from large₂ (at-solve2 .solve2 .ensures .1) _ (at-solve2 .solve2 .ensures .1 .way-room) (weary-stuck _),
     )
 
-both-ways-raise-requires : (t : ℕ) → both-ways-lts.Need-raise-requires (both-ways-claims t) (both-ways-at t) both-ways.Post both-ways-Inv-loop both-ways-μ-loop
+both-ways-raise-requires : (t : ℕ) → both-ways-lts.Need-raise-requires (both-ways-claims t) (both-ways-at t) both-ways.Post
+    both-ways-Inv-loop both-ways-μ-loop
 both-ways-raise-requires t c κs =
     let at-if1 = c .before .before in
     let at-enum-told3 = at-if1 .before .before .before in
@@ -1089,7 +1134,8 @@ both-ways-raise-requires t c κs =
     (at-put2 .put2 .ensures)) (at-solve2 .solve2 .ensures .0)) in
     either-raise-asks _ _ _ fb turn _ R _ solved _ Q₁ (stuck-said (at-enum-told3 .enum-told3 .given .1) _) (at-if1 .if1 .left)
 
-both-ways-loop-less : (t : ℕ) → both-ways-lts.Need-loop-less (both-ways-claims t) (both-ways-at t) both-ways.Post both-ways-Inv-loop both-ways-μ-loop
+both-ways-loop-less : (t : ℕ) → both-ways-lts.Need-loop-less (both-ways-claims t) (both-ways-at t) both-ways.Post
+    both-ways-Inv-loop both-ways-μ-loop
 both-ways-loop-less t c =
     let at-raise = c in
     let at-if1 = at-raise .before .before .before in
@@ -1120,7 +1166,8 @@ both-ways-loop-less t c =
     either-falls _ _ _ fb turn _ R _ solved _ Q₁ (stuck-said (at-enum-told3 .enum-told3 .given .1) _) (at-if1 .if1 .left) _
     (at-raise .raise .ensures .0) (at-raise .raise .ensures .1)
 
-both-ways-loop-again : (t : ℕ) → both-ways-lts.Need-loop-again (both-ways-claims t) (both-ways-at t) both-ways.Post both-ways-Inv-loop both-ways-μ-loop
+both-ways-loop-again : (t : ℕ) → both-ways-lts.Need-loop-again (both-ways-claims t) (both-ways-at t) both-ways.Post
+    both-ways-Inv-loop both-ways-μ-loop
 both-ways-loop-again t c =
     let at-raise = c in
     let at-if1 = at-raise .before .before .before in
@@ -1158,28 +1205,34 @@ both-ways-loop-again t c =
       (equipped-on kit kept (rd .scoped) (at-solve2 .solve2 .ensures .1), large-on large₂ (at-solve2 .solve2 .ensures .1)),
     )
 
-both-ways-enum-told-4 : (t : ℕ) → both-ways-lts.Need-enum-told-4 (both-ways-claims t) (both-ways-at t) both-ways.Post both-ways-Inv-loop both-ways-μ-loop
+both-ways-enum-told-4 : (t : ℕ) → both-ways-lts.Need-enum-told-4 (both-ways-claims t) (both-ways-at t) both-ways.Post
+    both-ways-Inv-loop both-ways-μ-loop
 both-ways-enum-told-4 t c = search needs
 
-both-ways-same-length-7 : (t : ℕ) → both-ways-lts.Need-same-length-7 (both-ways-claims t) (both-ways-at t) both-ways.Post both-ways-Inv-loop both-ways-μ-loop
+both-ways-same-length-7 : (t : ℕ) → both-ways-lts.Need-same-length-7 (both-ways-claims t) (both-ways-at t) both-ways.Post
+    both-ways-Inv-loop both-ways-μ-loop
 both-ways-same-length-7 t c =
     let at-solve2 = c .before .before .before .before .before .before in
-    let at-solve = at-solve2 .before .before .before .before .before .before .before .before .before .before .before .before .before .before .before .before .before .before .before .before in
+    let at-solve = at-solve2 .before .before .before .before .before .before .before .before .before .before .before .before
+    .before .before .before .before .before .before .before .before in
     let at-loop = at-solve .before .before .before .before .before .before .before .before .before .before in
     let large = at-loop .loop .inv .1 .1 in
     let large₂ = large-on large (at-solve .solve .ensures .1) in
     (large-on large₂ (at-solve2 .solve2 .ensures .1)) .code-same
 
-both-ways-same-length-8 : (t : ℕ) → both-ways-lts.Need-same-length-8 (both-ways-claims t) (both-ways-at t) both-ways.Post both-ways-Inv-loop both-ways-μ-loop
+both-ways-same-length-8 : (t : ℕ) → both-ways-lts.Need-same-length-8 (both-ways-claims t) (both-ways-at t) both-ways.Post
+    both-ways-Inv-loop both-ways-μ-loop
 both-ways-same-length-8 t c =
     let at-solve2 = c .before .before .before .before .before .before in
-    let at-solve = at-solve2 .before .before .before .before .before .before .before .before .before .before .before .before .before .before .before .before .before .before .before .before in
+    let at-solve = at-solve2 .before .before .before .before .before .before .before .before .before .before .before .before
+    .before .before .before .before .before .before .before .before in
     let at-loop = at-solve .before .before .before .before .before .before .before .before .before .before in
     let large = at-loop .loop .inv .1 .1 in
     let large₂ = large-on large (at-solve .solve .ensures .1) in
     (large-on large₂ (at-solve2 .solve2 .ensures .1)) .same
 
-both-ways-returns-4 : (t : ℕ) → both-ways-lts.Need-returns-4 (both-ways-claims t) (both-ways-at t) both-ways.Post both-ways-Inv-loop both-ways-μ-loop
+both-ways-returns-4 : (t : ℕ) → both-ways-lts.Need-returns-4 (both-ways-claims t) (both-ways-at t) both-ways.Post
+    both-ways-Inv-loop both-ways-μ-loop
 unfolding answerIn
 both-ways-returns-4 t c =
     let at-enum-told4 = c in
@@ -1340,7 +1393,8 @@ lent-put-requires-2 t c κs =
 
 lent-lent-requires : (t : ℕ) → lent-lts.Need-lent-requires (lent-claims t) (lent-at t) lent.Post
 lent-lent-requires t c κs =
-    let start = c .before .before .before .before .before .before .before .before .before .before .before .before .before .before .before .before .before .before .before .before .before in
+    let start = c .before .before .before .before .before .before .before .before .before .before .before .before .before .before
+    .before .before .before .before .before .before .before in
     let rd = start .pre .1 .0 in
     let gr = start .pre .1 .1 .0 .0 .0 in
     let fb = start .pre .1 .1 .0 .0 .1 in
@@ -1519,7 +1573,8 @@ unfolding answerIn
 need-returns-3 t c =
     let at-if3 = c in
     let at-doomed = at-if3 .before in
-    let start = at-doomed .before .before .before .before .before .before .before .before .before .before .before .before .before .before .before in
+    let start = at-doomed .before .before .before .before .before .before .before .before .before .before .before .before .before
+    .before .before in
     let rd = start .pre .1 .0 in
     let q = start .pre .1 .1 .0 in
     let eq = start .pre .1 .1 .1 in
@@ -1527,7 +1582,8 @@ need-returns-3 t c =
 
 need-first-at-requires : (t : ℕ) → need-lts.Need-first-at-requires (need-claims t) (need-at t) need.Post
 need-first-at-requires t c κs =
-    let start = c .before .before .before .before .before .before .before .before .before .before .before .before .before .before .before .before .before .before in
+    let start = c .before .before .before .before .before .before .before .before .before .before .before .before .before .before
+    .before .before .before .before in
     let rd = start .pre .1 .0 in
     (rd .fixed, rd .tape-room)
 
@@ -1561,12 +1617,14 @@ need-returns-4 t c =
     (at-others .others .ensures .0, at-others .others .ensures .1)
 
 abbrev others-Inv-loop : others-lts.InvT-loop
-others-Inv-loop card waits tape₀ nodes₀ heads₀ way₀ names table masks codes₀ words₀ agenda first f b name from₀ tape nodes heads way codes words from =
+others-Inv-loop card waits tape₀ nodes₀ heads₀ way₀ names table masks codes₀ words₀ agenda first f b name from₀ tape nodes heads
+    way codes words from =
     Round card waits agenda f b first tape₀ tape nodes₀ nodes heads₀ heads from
     × (Equipped card names table masks codes words way nodes (b .count) × AsLarge codes words codes₀ words₀)
 
 abbrev others-μ-loop : others-lts.MeasureT-loop
-others-μ-loop card waits tape₀ nodes₀ heads₀ way₀ names table masks codes₀ words₀ agenda first f b name from₀ tape nodes heads way codes words from =
+others-μ-loop card waits tape₀ nodes₀ heads₀ way₀ names table masks codes₀ words₀ agenda first f b name from₀ tape nodes heads way
+    codes words from =
     b .count - from
 
 others-sub-node : (t : ℕ) → others-lts.Need-sub-node (others-claims t) (others-at t) others.Post others-Inv-loop others-μ-loop
@@ -1613,10 +1671,12 @@ others-enum-known-next t c = search needs
 others-enum-told : (t : ℕ) → others-lts.Need-enum-told (others-claims t) (others-at t) others.Post others-Inv-loop others-μ-loop
 others-enum-told t c = search needs
 
-others-unfloored-requires : (t : ℕ) → others-lts.Need-unfloored-requires (others-claims t) (others-at t) others.Post others-Inv-loop others-μ-loop
+others-unfloored-requires : (t : ℕ) → others-lts.Need-unfloored-requires (others-claims t) (others-at t) others.Post
+    others-Inv-loop others-μ-loop
 others-unfloored-requires t c κs = search needs
 
-others-dead-end-requires : (t : ℕ) → others-lts.Need-dead-end-requires (others-claims t) (others-at t) others.Post others-Inv-loop others-μ-loop
+others-dead-end-requires : (t : ℕ) → others-lts.Need-dead-end-requires (others-claims t) (others-at t) others.Post others-Inv-loop
+    others-μ-loop
 others-dead-end-requires t c κs =
     let at-unfloored = c in
     let at-enum-told = at-unfloored .before .before .before .before in
@@ -1637,7 +1697,8 @@ others-dead-end-requires t c κs =
       (kit .stocked .memory, λ o. dead-barren _ rd least (k .1 .0) none (sym (at-unfloored .unfloored .ensures) ∙ o)),
     )
 
-others-given-up-requires : (t : ℕ) → others-lts.Need-given-up-requires (others-claims t) (others-at t) others.Post others-Inv-loop others-μ-loop
+others-given-up-requires : (t : ℕ) → others-lts.Need-given-up-requires (others-claims t) (others-at t) others.Post others-Inv-loop
+    others-μ-loop
 others-given-up-requires t c κs = search needs
 
 others-same-length : (t : ℕ) → others-lts.Need-same-length (others-claims t) (others-at t) others.Post others-Inv-loop others-μ-loop
@@ -1683,7 +1744,8 @@ others-keeps-requires t c κs = search needs
 others-past-requires : (t : ℕ) → others-lts.Need-past-requires (others-claims t) (others-at t) others.Post others-Inv-loop others-μ-loop
 others-past-requires t c κs = search needs
 
-others-use-clause-requires : (t : ℕ) → others-lts.Need-use-clause-requires (others-claims t) (others-at t) others.Post others-Inv-loop others-μ-loop
+others-use-clause-requires : (t : ℕ) → others-lts.Need-use-clause-requires (others-claims t) (others-at t) others.Post
+    others-Inv-loop others-μ-loop
 others-use-clause-requires t c κs =
     let at-past = c in
     let at-next = at-past .before .before .before .before .before .before .before .before .before in
@@ -1713,14 +1775,16 @@ others-follow-requires t c κs =
 others-same-length-3 : (t : ℕ) → others-lts.Need-same-length-3 (others-claims t) (others-at t) others.Post others-Inv-loop others-μ-loop
 others-same-length-3 t c =
     let at-use-clause = c .before .before .before .before .before .before .before .before in
-    let at-loop = at-use-clause .before .before .before .before .before .before .before .before .before .before .before .before .before .before in
+    let at-loop = at-use-clause .before .before .before .before .before .before .before .before .before .before .before .before
+    .before .before in
     let large = at-loop .loop .inv .1 .1 in
     (large-on large (at-use-clause .use-clause .ensures .1)) .code-same
 
 others-same-length-4 : (t : ℕ) → others-lts.Need-same-length-4 (others-claims t) (others-at t) others.Post others-Inv-loop others-μ-loop
 others-same-length-4 t c =
     let at-use-clause = c .before .before .before .before .before .before .before .before in
-    let at-loop = at-use-clause .before .before .before .before .before .before .before .before .before .before .before .before .before .before in
+    let at-loop = at-use-clause .before .before .before .before .before .before .before .before .before .before .before .before
+    .before .before in
     let large = at-loop .loop .inv .1 .1 in
     (large-on large (at-use-clause .use-clause .ensures .1)) .same
 
@@ -1756,7 +1820,8 @@ others-enum-told-3 t c = search needs
 
 others-add-from : (t : ℕ) → others-lts.Need-add-from (others-claims t) (others-at t) others.Post others-Inv-loop others-μ-loop
 others-add-from t c =
-    let at-next = c .before .before .before .before .before .before .before .before .before .before .before .before .before .before .before .before in
+    let at-next = c .before .before .before .before .before .before .before .before .before .before .before .before .before .before
+    .before .before in
     let at-seek = at-next .before .before in
     let at-loop = at-seek .before .before in
     let at-left = at-loop .before in
@@ -1771,7 +1836,8 @@ others-add-from t c =
 
 others-loop-less : (t : ℕ) → others-lts.Need-loop-less (others-claims t) (others-at t) others.Post others-Inv-loop others-μ-loop
 others-loop-less t c =
-    let at-next = c .before .before .before .before .before .before .before .before .before .before .before .before .before .before .before .before in
+    let at-next = c .before .before .before .before .before .before .before .before .before .before .before .before .before .before
+    .before .before in
     let at-seek = at-next .before .before in
     let at-left = at-seek .before .before .before in
     let at-node = at-left .before in
@@ -1814,14 +1880,16 @@ others-enum-told-4 t c = search needs
 others-same-length-5 : (t : ℕ) → others-lts.Need-same-length-5 (others-claims t) (others-at t) others.Post others-Inv-loop others-μ-loop
 others-same-length-5 t c =
     let at-use-clause = c .before .before .before .before .before .before in
-    let at-loop = at-use-clause .before .before .before .before .before .before .before .before .before .before .before .before .before .before in
+    let at-loop = at-use-clause .before .before .before .before .before .before .before .before .before .before .before .before
+    .before .before in
     let large = at-loop .loop .inv .1 .1 in
     (large-on large (at-use-clause .use-clause .ensures .1)) .code-same
 
 others-same-length-6 : (t : ℕ) → others-lts.Need-same-length-6 (others-claims t) (others-at t) others.Post others-Inv-loop others-μ-loop
 others-same-length-6 t c =
     let at-use-clause = c .before .before .before .before .before .before in
-    let at-loop = at-use-clause .before .before .before .before .before .before .before .before .before .before .before .before .before .before in
+    let at-loop = at-use-clause .before .before .before .before .before .before .before .before .before .before .before .before
+    .before .before in
     let large = at-loop .loop .inv .1 .1 in
     (large-on large (at-use-clause .use-clause .ensures .1)) .same
 
@@ -2004,7 +2072,8 @@ solve-same-length-2 t c =
 solve-returns-2 : (t : ℕ) → solve-lts.Need-returns-2 (solve-claims t) (solve-at t) solve.Post
 solve-returns-2 t c =
     let at-need = c .before .before .before .before in
-    let at-unwind = at-need .before .before .before .before .before .before .before .before .before .before .before .before .before .before .before in
+    let at-unwind = at-need .before .before .before .before .before .before .before .before .before .before .before .before .before
+    .before .before in
     (unwound-searched (at-unwind .unwind .ensures .0) (at-need .need .ensures .0), at-need .need .ensures .1)
 
 solve-behind-requires : (t : ℕ) → solve-lts.Need-behind-requires (solve-claims t) (solve-at t) solve.Post
@@ -2046,7 +2115,8 @@ solve-same-length-4 t c =
 solve-returns-3 : (t : ℕ) → solve-lts.Need-returns-3 (solve-claims t) (solve-at t) solve.Post
 solve-returns-3 t c =
     let at-behind = c .before .before .before .before in
-    let at-unwind = at-behind .before .before .before .before .before .before .before .before .before .before .before .before .before .before .before in
+    let at-unwind = at-behind .before .before .before .before .before .before .before .before .before .before .before .before
+    .before .before .before in
     (unwound-searched (at-unwind .unwind .ensures .0) (at-behind .behind .ensures .0), at-behind .behind .ensures .1)
 
 use-clause-cast-tape : (t : ℕ) → use-clause-lts.Need-cast-tape (use-clause-claims t) (use-clause-at t) use-clause.Post
@@ -2076,7 +2146,8 @@ use-clause-mul-clause t c =
     let can = start .pre .1 .1 .0 in
     let low = entry-byte rd (can .step .next) can in omega arith
 
-use-clause-element-copy-out-clause : (t : ℕ) → use-clause-lts.Need-element-copy-out-clause (use-clause-claims t) (use-clause-at t) use-clause.Post
+use-clause-element-copy-out-clause : (t : ℕ) → use-clause-lts.Need-element-copy-out-clause (use-clause-claims t) (use-clause-at t)
+    use-clause.Post
 use-clause-element-copy-out-clause t c =
     let start = c .before .before .before .before .before .before .before in
     let rd = start .pre .1 .0 in

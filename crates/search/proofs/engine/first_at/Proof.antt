@@ -1,13 +1,11 @@
 -- By where the place stands to the given steps.
-use Prim.Native.Nat.{ℕ, _≤_, _<_}
+use Prim.Native.Nat.{_≤_}
 use native.Mathlib.Omega.{arith}
-use mathlib.Core.Path.{_≡_, refl, sym, _∙_, ap}
-use mathlib.Core.Bool.{Bool, cond, true, false}
-use lib.Dec.{leb, ltb}
-use borrow.Author.Needs.{needs}
+use mathlib.Core.Path.{sym, _∙_, ap}
+use mathlib.Core.Bool.{cond}
 use borrow.Author.Tests.{lt-ltb, le-ltb, le-leb, lt-leb}
 use Rattle.card.specs.Format.{byteAt}
-use Rattle.search.specs.Inner.Engine.{FirstEntry, firstAt, fromAt}
+use Rattle.search.specs.Inner.Engine.{firstAt, fromAt}
 use Rattle.search.proofs.engine.first_at.Statement.{statement}
 use Rattle.search.proofs.engine.first_at.Tie as tie
 

@@ -1,9 +1,6 @@
 -- By whether there is a given step.
-use Prim.Native.Nat.{ℕ}
 use native.Mathlib.Omega.{arith}
-use mathlib.Core.Path.{refl, sym, ap}
-use mathlib.Core.Bool.{Bool, cond, false}
-use lib.Dec.{eqb}
+use mathlib.Core.Path.{refl}
 use borrow.Author.Tests.{lt-ltb, le-ltb}
 use Rattle.search.specs.Inner.Engine.{keepsBy}
 use Rattle.search.proofs.engine.keeps.Statement.{statement}
