@@ -11,9 +11,9 @@ ghost use Prim.Native.Nat.{_≤_};
 ghost use lib.ListN.{length};
 ghost use Rattle.card.specs.Fault.{Sound};
 ghost use Rattle.segment.specs.Inner.Values.{answerIn, Awake};
-ghost use Rattle.prune.specs.Inner.Prune.{Stocked};
+ghost use Rattle.prune.specs.Inner.Prune.{Tabled, Stocked};
 ghost use Rattle.search.specs.Inner.Engine.{Weary};
-ghost use Rattle.search.specs.Inner.Found.{Finds, Ran, Says, Starts, Tabled, startB};
+ghost use Rattle.search.specs.Inner.Found.{Finds, Ran, Says, Starts, startB};
 
 // The first list, as the first steps of the tape, or that there is none.
 pub enum Found {
@@ -103,7 +103,7 @@ fn remembering(
     masks: &[u64],
 ) -> Outcome
     requires { ⌜ Starts (now card) (now waits) (now tape) (now nodes) (now heads) (now way) ⌝ }
-    requires { ⌜ Tabled (now card) (now names) (now table) (now masks) ⌝ }
+    requires { ⌜ (Tabled (now card) (now names) (now table) (now masks)) ⌝ }
     ensures { λ r. ⌜ Ran (now (card .entry)) (now (tape .exit)) (answerIn r (now (way .exit))) ⌝ }
     ensures { λ r. ⌜ (length (now (tape .exit)) ≡ 255) × ((length (now (way .exit)) ≡ 9) × Awake r) ⌝ }
 {

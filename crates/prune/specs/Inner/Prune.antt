@@ -51,9 +51,13 @@ pub record Asks (bs nodes agenda : List ℕ) (b : Branch) : Type 0 where
 abbrev pub Memory : List ℕ → List ℕ → List ℕ → Type 0
 Memory bs codes words = (length words ≡ 1) ⊎ Honest bs (jobOf bs .scope) codes words
 
--- What the prunings are stocked with: a table of bounds that is settled, if it is there, and a memory.
+-- A table of bounds that is settled, if it is there.
+abbrev pub Tabled : List ℕ → List ℕ → List ℕ → List ℕ → Type 0
+Tabled bs names table masks = length masks ≡ 64 → Held bs names table × Settled bs names table masks
+
+-- What the prunings are stocked with.
 pub record Stocked (bs names table masks codes words : List ℕ) : Type 0 where
-  pub settled : length masks ≡ 64 → Held bs names table × Settled bs names table masks
+  pub settled : Tabled bs names table masks
   pub memory : Memory bs codes words
 
 -- Nothing is sought for the agenda in the branch, from any floor on.

@@ -45,7 +45,7 @@ pruned-slice-aggregate-remembering-3 t c = search needs
 pruned-remembering-requires : (t : ℕ) → pruned-lts.Need-remembering-requires (pruned-claims t) (pruned-at t) pruned.Post
 pruned-remembering-requires t c κs =
     let start = c .before .before .before .before .before .before .before .before .before in
-    (start .pre .1, record { settled = λ h. absurd (omega (arith, h)) })
+    (start .pre .1, λ h. absurd (omega (arith, h)))
 
 pruned-returns : (t : ℕ) → pruned-lts.Need-returns (pruned-claims t) (pruned-at t) pruned.Post
 pruned-returns t c = c .remembering .ensures
@@ -79,7 +79,7 @@ pruned-remembering-requires-2 t c κs =
     let at-prepare = at-if2 .before in
     let start = at-prepare .before .before .before .before .before .before in (
       start .pre .1,
-      record { settled = λ h. (at-prepare .prepare .ensures .1 .0, at-prepare .prepare .ensures .0 (not-false _ (at-if2 .if2 .left))) },
+      λ h. (at-prepare .prepare .ensures .1 .0, at-prepare .prepare .ensures .0 (not-false _ (at-if2 .if2 .left))),
     )
 
 pruned-returns-3 : (t : ℕ) → pruned-lts.Need-returns-3 (pruned-claims t) (pruned-at t) pruned.Post

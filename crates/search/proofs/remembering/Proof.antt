@@ -29,7 +29,7 @@ slice-aggregate-run-2 c = search needs
 run-requires : tie.Need-run-requires
 run-requires c κs =
     let start = c .before .before .before .before .before .before .before .before .before .before in
-    (start .pre .0, record { settled = start .pre .1 .settled; memory = inr honest-new })
+    (start .pre .0, record { settled = start .pre .1; memory = inr honest-new })
 
 returns : tie.Need-returns
 returns c =

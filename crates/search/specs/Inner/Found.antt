@@ -12,7 +12,6 @@ use Rattle.lines.specs.Inner.Set.{emptyS, fullS, cutS}
 use Rattle.scope.specs.Inner.Sets.{strictOf}
 use Rattle.entries.specs.Inner.Entries.{scopeIn, Entered}
 use Rattle.entries.specs.Inner.Masks.{Waiting}
-use Rattle.bounds.specs.Inner.Table.{Held, Settled}
 use Rattle.segment.specs.declared.branch.Branch.{Branch}
 use Rattle.segment.specs.declared.branch.Outcome.{Outcome}
 use Rattle.segment.specs.declared.branch.Outcome.the-variants.{Solved as IsSolved, Stuck as IsStuck, Tired as IsTired}
@@ -50,10 +49,6 @@ pub record Starts (bs waits tape nodes heads way : List ℕ) : Type 0 where
   pub entered : Entered bs nodes heads (ruleCount bs + lineCount bs)
   pub scope : scopeIn bs nodes (ruleCount bs + lineCount bs) ≡ jobOf bs .scope
   pub way-room : length way ≡ 9
-
--- The table is settled, or it is not asked.
-pub record Tabled (bs names table masks : List ℕ) : Type 0 where
-  pub settled : length masks ≡ 64 → Held bs names table × Settled bs names table masks
 
 -- The branch at the card's goal: every line at hand, must lines strict.
 unfoldable pub startB : List ℕ → Branch
