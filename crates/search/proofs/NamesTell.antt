@@ -55,7 +55,8 @@ use Rattle.search.specs.Inner.Engine.{FirstEntry, firstAt, keepsBy, open
 use Rattle.dead.specs.Inner.Barren.{BarrenIn}
 use Rattle.dead.proofs.DeadStaysDead.{none-barren}
 use Rattle.prune.specs.Inner.Prune.{Rooted, Asks, Doom}
-use Rattle.search.proofs.PlacesMove.{openF, ready-moved, next-from, from-low, run-cons, run-length, written, given-past, from-here, from-past, floor-gone, open-floor}
+use Rattle.search.proofs.PlacesMove.{openF, ready-moved, next-from, from-low}
+use Rattle.search.proofs.PlacesMove.{run-cons, run-length, written, given-past, from-here, from-past, floor-gone, open-floor}
 use Rattle.search.proofs.PlacesMove.{given-step, floor-place, spending-items, spent-items, use-place}
 use Rattle.search.proofs.NumbersFall.{number, step-falls}
 

@@ -224,7 +224,7 @@ unfoldable pub gives : Bool → Outcome
 gives true = IsTired
 gives false = IsStuck
 
--- So they stay.
+-- What a call leaves: a place for a way, prunings stocked as before, a memory as large as before.
 pub record Stays (bs names table masks codes words codes′ words′ way′ : List ℕ) (r : Outcome) : Type 0 where
   pub way-room : length way′ ≡ 9
   pub stocked : Stocked bs names table masks codes′ words′
