@@ -1,12 +1,2 @@
--- Theorems about the engine.
-pub mod PlacesMove
-pub mod NumbersFall
-pub mod AgendasUnwind
-pub mod WaysSaid
-pub mod NamesTell
+-- What a run from the start tells of the card.
 pub mod StartFindsFirst
-pub mod RaisesEnd
-pub mod TurnsRaise
-pub mod PartsTell
-pub mod BehindTells
-pub mod EitherTells

@@ -32,8 +32,10 @@ use Rattle.segment.specs.declared.branch.Floor.{Floor}
 use Rattle.segment.specs.Inner.Values.{Answer, Solved, Stuck, Tired}
 use Rattle.segment.specs.Inner.Tasks.{agendaOf, Laid}
 use Rattle.segment.proofs.TasksAreAgendas.{agenda-one, laid-one}
-use Rattle.search.specs.Inner.Engine.{givenAt, fromAt, placeOf, Ready, Solves, Told, Solving}
-use Rattle.search.specs.Inner.Found.{FirstOn, Ran, Starts, startB}
+use Rattle.moves.specs.Inner.Moves.{givenAt, fromAt}
+use Rattle.engine.specs.Inner.Engine.{placeOf, Ready, Solves, Told, Solving}
+use Rattle.moves.specs.Inner.Moves.{startB}
+use Rattle.search.specs.Inner.Found.{FirstOn, Ran, Starts}
 use Rattle.entries.proofs.TablesAreScopes.{entered-kept, scope-kept}
 
 -- no floor

@@ -1,3 +1,2 @@
--- The terms of the search's own contracts: what each function of the engine asks and tells, and what the search finds.
-pub mod Engine
+-- The terms of the search's own contracts: what it finds.
 pub mod Found

@@ -1,49 +1,19 @@
 // The search: the first list of a sound card (01, "Steps, nesting, order, marks").
-mod engine;
-
-use lines::LineSet;
-use segment::branch::Branch;
 use segment::branch::Floor;
 use segment::branch::Outcome;
 use segment::branch::way_in;
 ghost use mathlib.Core.Path.{_≡_};
-ghost use Prim.Native.Nat.{_≤_};
 ghost use lib.ListN.{length};
 ghost use Rattle.card.specs.Fault.{Sound};
 ghost use Rattle.segment.specs.Inner.Values.{answerIn, Awake};
 ghost use Rattle.prune.specs.Inner.Prune.{Tabled, Stocked};
-ghost use Rattle.search.specs.Inner.Engine.{Weary};
-ghost use Rattle.search.specs.Inner.Found.{Finds, Ran, Says, Starts, startB};
+ghost use Rattle.engine.specs.Inner.Engine.{Weary};
+ghost use Rattle.search.specs.Inner.Found.{Finds, Ran, Says, Starts};
 
 // The first list, as the first steps of the tape, or that there is none.
 pub enum Found {
     List(usize),
     Nothing,
-}
-
-// The branch at the card's goal.
-fn start(card: &[u8]) -> Branch
-    requires { ⌜ Sound (now card) ⌝ }
-    ensures { λ r. ⌜ r ≡ startB (now (card .entry)) ⌝ }
-{
-    let p = card::format::byte(card, 3);
-    let t = card::format::byte(card, 4);
-    let limit = card::format::byte(card, 10);
-    let strict = scope::strict_lines(card);
-    let lax = LineSet::full(t).cut(strict);
-    let used = LineSet::empty();
-    let seen = LineSet::empty();
-    Branch {
-        at: 0,
-        count: p + t,
-        len: 1,
-        limit,
-        strict,
-        lax,
-        used,
-        seen,
-        slack: false,
-    }
 }
 
 // The search from the card's goal.
@@ -70,7 +40,7 @@ fn run(
     let goal = card::format::word(card, 7);
     let depth = card::format::byte(card, 9);
     segment::tasks::put(&mut agenda, 0, goal, depth);
-    let b = start(card);
+    let b = moves::start(card);
     let f = Floor { fixed: 0, from: 0 };
     engine::solve(
         card,

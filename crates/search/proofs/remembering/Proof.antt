@@ -10,7 +10,7 @@ use Rattle.segment.specs.declared.branch.Outcome.{Outcome}
 use Rattle.segment.specs.declared.branch.Outcome.the-variants.{Solved as IsSolved, Stuck as IsStuck, Tired as IsTired}
 use Rattle.segment.specs.Inner.Values.{Awake}
 use Rattle.dead.proofs.DeadStaysDead.{honest-new}
-use Rattle.search.specs.Inner.Engine.{Weary}
+use Rattle.engine.specs.Inner.Engine.{Weary}
 use Rattle.search.proofs.remembering.Statement.{statement}
 use Rattle.search.proofs.remembering.Tie as tie
 

@@ -5,7 +5,7 @@ use lib.ListN.{replicate}
 use borrow.Author.Needs.{needs}
 use Rattle.card.proofs.CardChecked.{sound-front}
 use Rattle.prune.proofs.RootsKept.{rooted-start}
-use Rattle.search.proofs.WaysSaid.{equipped-at}
+use Rattle.engine.proofs.WaysSaid.{equipped-at}
 use Rattle.search.proofs.StartFindsFirst.{goal-code, at-goal, asked, ran, started, start-count}
 use Rattle.search.proofs.run.Statement.{statement}
 use Rattle.search.proofs.run.Tie as tie

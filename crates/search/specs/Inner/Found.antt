@@ -1,18 +1,14 @@
--- What the search finds, in terms of derivations; and the branch it starts from.
+-- What the search finds, in terms of derivations, and what a run starts from.
 use Prim.Native.Nat.{ℕ, _+_, _≤_}
 use mathlib.Core.Path.{_≡_}
-use mathlib.Core.Bool.{false}
 use mathlib.Core.List.{List}
 use lib.ListN.{length, take}
 use Rattle.calculus.specs.Job.{Listed, First}
-use Rattle.card.specs.Format.{ruleCount, lineCount, stepLimit}
+use Rattle.card.specs.Format.{ruleCount, lineCount}
 use Rattle.card.specs.Fault.{Sound}
 use Rattle.card.specs.Decode.{jobOf}
-use Rattle.lines.specs.Inner.Set.{emptyS, fullS, cutS}
-use Rattle.scope.specs.Inner.Sets.{strictOf}
 use Rattle.entries.specs.Inner.Entries.{scopeIn, Entered}
 use Rattle.entries.specs.Inner.Masks.{Waiting}
-use Rattle.segment.specs.declared.branch.Branch.{Branch}
 use Rattle.segment.specs.declared.branch.Outcome.{Outcome}
 use Rattle.segment.specs.declared.branch.Outcome.the-variants.{Solved as IsSolved, Stuck as IsStuck, Tired as IsTired}
 use Rattle.segment.specs.Inner.Values.{Answer, Solved, Stuck, Tired, wayIn}
@@ -49,18 +45,3 @@ pub record Starts (bs waits tape nodes heads way : List ℕ) : Type 0 where
   pub entered : Entered bs nodes heads (ruleCount bs + lineCount bs)
   pub scope : scopeIn bs nodes (ruleCount bs + lineCount bs) ≡ jobOf bs .scope
   pub way-room : length way ≡ 9
-
--- The branch at the card's goal: every line at hand, must lines strict.
-unfoldable pub startB : List ℕ → Branch
-startB bs =
-    record {
-      at = 0;
-      count = ruleCount bs + lineCount bs;
-      len = 1;
-      limit = stepLimit bs;
-      strict = strictOf bs;
-      lax = cutS (fullS (lineCount bs)) (strictOf bs);
-      used = emptyS;
-      seen = emptyS;
-      slack = false;
-    }

@@ -1,0 +1,2 @@
+-- The parts of a node fit an agenda's place.
+mod PartsFit

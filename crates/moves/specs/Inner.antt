@@ -1,0 +1,2 @@
+-- The terms of the moves' contracts.
+pub mod Moves
