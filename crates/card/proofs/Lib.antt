@@ -3,7 +3,7 @@ pub mod FaultsInOrder
 pub mod FrontChecked
 pub mod TablesGrow
 pub mod KindsByRow
-pub mod NodesChecked
+pub mod NodesBuilt
 pub mod CardChecked
 pub mod NodesDecoded
 pub mod SampleCards

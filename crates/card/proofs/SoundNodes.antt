@@ -19,7 +19,7 @@ use Rattle.card.proofs.FaultsInOrder.{not-applied}
 use Rattle.card.proofs.TablesGrow.{grow-at}
 use Rattle.card.proofs.KindsByRow.{goal-kinds, clause-kinds}
 use Rattle.card.proofs.CardChecked.{sound-front, sound-node, sound-goal, sound-rule, sound-line}
-use Rattle.card.proofs.NodesChecked.{parts-lower, height-two, built-1, built-4, built-5, built-6, built-7}
+use Rattle.card.proofs.NodesBuilt.{parts-lower, height-two, built-1, built-4, built-5, built-6, built-7}
 use Rattle.card.proofs.NodesDecoded.{reads-name, reads-rest, reads-both, reads-either, reads-lend, reads-recipe}
 
 -- Parts

@@ -25,7 +25,7 @@ use Rattle.card.specs.Decode.{NodeReading, noNodeReading, readStep, read
 use Rattle.card.proofs.CardChecked.{sound-front}
 use Rattle.card.proofs.TablesGrow.{grow-at}
 use Rattle.card.proofs.NodesDecoded.{scope-size, rule-at, line-at}
-use Rattle.card.proofs.NodesChecked.{left-below, right-below}
+use Rattle.card.proofs.NodesBuilt.{left-below, right-below}
 use Rattle.card.proofs.SoundNodes.{height-low, sound-built, goal-lower, clause-lower, sound-root}
 use Rattle.card.proofs.SoundNodes.{sound-rule-node, sound-line-node}
 

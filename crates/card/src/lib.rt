@@ -1,12 +1,10 @@
-// The card (01, "The card"): access to its bytes, and the checks 1 to 9.
-mod checks;
+// The card (01, "The card"): access to its bytes, and the terms in which a check answers.
 pub mod format;
-mod kinds;
+pub mod kinds;
 
 ghost use mathlib.Core.Path.{_≡_};
 ghost use mathlib.Core.Bool.{_&&_, _||_};
 ghost use Rattle.card.specs.Verdict.{told, refuse, whereOf};
-ghost use Rattle.card.specs.Fault.{firstFault};
 
 // 01: "the place names its thing".
 pub enum Place {
@@ -51,37 +49,5 @@ pub fn refuse(applies: bool, number: u8, place: Place) -> Checked
     if applies {
         return Checked::Refused(Refusal { number, place });
     }
-    Checked::Sound
-}
-
-// The first of 1 to 9 that applies, or that the card is sound.
-pub fn check(card: &[u8]) -> Checked
-    ensures { λ r. ⌜ told r ≡ firstFault (now (card .entry)) ⌝ }
-{
-    // 1 to 5.
-    let front = checks::front_check(card);
-    let Checked::Sound = front else {
-        return front;
-    };
-    // 6.
-    let nodes = checks::nodes_check(card);
-    let Checked::Sound = nodes else {
-        return nodes;
-    };
-    // 7.
-    let goal = checks::goal_check(card);
-    let Checked::Sound = goal else {
-        return goal;
-    };
-    // 8.
-    let rules = checks::rules_check(card);
-    let Checked::Sound = rules else {
-        return rules;
-    };
-    // 9.
-    let lines = checks::lines_check(card);
-    let Checked::Sound = lines else {
-        return lines;
-    };
     Checked::Sound
 }

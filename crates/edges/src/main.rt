@@ -37,7 +37,7 @@ fn record(input: &[u8], at: usize) -> usize
     let end = part_end(input, start, n);
     show::print_word(&input[label..head]);
     show::print_word(b": ");
-    print_checked(card::check(&input[start..end]));
+    print_checked(checks::check(&input[start..end]));
     show::print_word(b"\n");
     end
 }

@@ -75,7 +75,7 @@ fn plan_sound(card: &[u8], sheet: &mut [u8]) -> Answer
 pub fn plan(card: &[u8], sheet: &mut [u8]) -> Answer
     ensures { λ r. ⌜ Planning (now (card .entry)) (now (sheet .entry)) (toldPlan r) (now (sheet .exit)) ⌝ }
 {
-    let checked = card::check(card);
+    let checked = checks::check(card);
     let Checked::Sound = checked else {
         return answered(checked, 0);
     };

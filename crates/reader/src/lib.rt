@@ -66,7 +66,7 @@ pub fn read(card: &[u8], sheet: &[u8]) -> Answer
     ensures { λ r. ⌜ Reading (now (card .entry)) (now (sheet .entry)) (toldRead r) ⌝ }
     ensures { λ r. ⌜ AcceptsExactly (now (card .entry)) (now (sheet .entry)) (toldRead r) ⌝ }
 {
-    let checked = card::check(card);
+    let checked = checks::check(card);
     let Checked::Sound = checked else {
         return answered(checked, 0);
     };
