@@ -6,7 +6,6 @@ pub mod NodesBounded
 pub mod StockCounted
 pub mod StockKept
 pub mod DoomedHasNone
-pub mod StepsByKind
 pub mod WordCounted
 pub mod CellsKept
 pub mod CodesRowed

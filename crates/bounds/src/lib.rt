@@ -1,10 +1,7 @@
 // Bounds of an agenda: least steps, and least and greatest numbers of items of each class, from a table that is checked before it is used.
-mod build;
-mod check;
 mod doom;
-mod nodes;
-mod steps;
-mod table;
+pub mod nodes;
+pub mod table;
 
 use lines::LineSet;
 ghost use mathlib.Core.Path.{_≡_};
@@ -15,24 +12,6 @@ ghost use Rattle.card.specs.Format.{ruleCount, lineCount, nodeCount};
 ghost use Rattle.card.specs.Fault.{Sound, clausePart};
 ghost use Rattle.bounds.specs.Inner.Table.{TableCells, Held, Settled};
 ghost use Rattle.bounds.specs.Inner.Doom.{Coded, leastSum, Doomed};
-
-// Fills the table of the card in. Whether it is settled, and so may be used.
-pub fn prepare(
-    card: &[u8],
-    names: &mut [u16; 1577],
-    table: &mut [u8; 66177],
-    masks: &mut [u64; 64],
-) -> bool
-    requires { ⌜ Held (now card) (now names) (now table) ⌝ }
-    requires { ⌜ length (now masks) ≡ 64 ⌝ }
-    ensures { λ r. ⌜ (r ≡ true → Settled (now (card .entry)) (now (names .exit)) (now (table .exit))
-        (now (masks .exit))) ⌝ }
-    ensures { λ _. ⌜ Held (now (card .entry)) (now (names .exit)) (now (table .exit))
-        × (length (now (masks .exit)) ≡ 64) ⌝ }
-{
-    build::build(card, names, table, masks);
-    check::settled(card, names, table, masks)
-}
 
 // Whether the table leaves the agenda no list in its window and room. Without a table nothing is said.
 pub fn hopeless(

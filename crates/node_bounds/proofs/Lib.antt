@@ -1,0 +1,2 @@
+-- The bounds of a node by its kind.
+mod StepsByKind

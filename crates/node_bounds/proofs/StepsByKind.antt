@@ -1,0 +1,190 @@
+-- What each kind makes of a node's bounds.
+use Prim.Native.Nat.{ℕ, zero, suc, _+_, _-_, _<_, _≤_, min, max}
+use native.Mathlib.Omega.{arith}
+use mathlib.Core.Path.{_≡_, refl}
+use mathlib.Core.Bool.{Bool, true, false, cond}
+use mathlib.Core.List.{List}
+use lib.Dec.{leb}
+use borrow.Author.Tests.{leb-true, leb-false}
+use Rattle.card.specs.Format.{kindAt, leftAt, rightAt}
+use Rattle.bounds.specs.Inner.Count.{bit}
+use Rattle.bounds.specs.Inner.Bound.{off}
+use Rattle.bounds.specs.Inner.Table.{headAt, rowOf, lowAt, highAt, leastAt, byKind, ifRecipe, inClass, headStep, leastStep, lowStep}
+use Rattle.bounds.specs.Inner.Table.{highStep}
+
+-- kinds with the same value
+done-of : (k v d a b c e : ℕ) → (k ≡ 1 → ⊥) → k < 4 → byKind k v d d a b c e ≡ d
+unfolding byKind
+done-of zero v d a b c e p q = refl
+done-of (suc zero) v d a b c e p q = absurd (p refl)
+done-of (suc (suc zero)) v d a b c e p q = refl
+done-of (suc (suc (suc zero))) v d a b c e p q = refl
+done-of (suc (suc (suc (suc k)))) v d a b c e p q = absurd (omega arith)
+
+done-of-high : (k v r d a b c e : ℕ) → (k ≡ 1 → ⊥) → (k ≡ 2 → ⊥) → k < 4 → byKind k v r d a b c e ≡ d
+unfolding byKind
+done-of-high zero v r d a b c e p s q = refl
+done-of-high (suc zero) v r d a b c e p s q = absurd (p refl)
+done-of-high (suc (suc zero)) v r d a b c e p s q = absurd (s refl)
+done-of-high (suc (suc (suc zero))) v r d a b c e p s q = refl
+done-of-high (suc (suc (suc (suc k)))) v r d a b c e p s q = absurd (omega arith)
+
+both-of : (k v r d a b c e : ℕ) → (k < 4 → ⊥) → (k ≡ 5 → b ≡ a) → (k ≡ 6 → ⊥) → (k ≡ 7 → ⊥) → byKind k v r d a b c e ≡ a
+unfolding byKind
+both-of zero v r d a b c e p f g h = absurd (p (omega arith))
+both-of (suc zero) v r d a b c e p f g h = absurd (p (omega arith))
+both-of (suc (suc zero)) v r d a b c e p f g h = absurd (p (omega arith))
+both-of (suc (suc (suc zero))) v r d a b c e p f g h = absurd (p (omega arith))
+both-of (suc (suc (suc (suc zero)))) v r d a b c e p f g h = refl
+both-of (suc (suc (suc (suc (suc zero))))) v r d a b c e p f g h = f refl
+both-of (suc (suc (suc (suc (suc (suc zero)))))) v r d a b c e p f g h = absurd (g refl)
+both-of (suc (suc (suc (suc (suc (suc (suc zero))))))) v r d a b c e p f g h = absurd (h refl)
+both-of (suc (suc (suc (suc (suc (suc (suc (suc k)))))))) v r d a b c e p f g h = refl
+
+no-head-of : (k v n w : ℕ) → (k ≡ 1 → ⊥) → (k ≡ 7 → ⊥) → byKind k v n n n n n w ≡ n
+unfolding byKind
+no-head-of zero v n w p q = refl
+no-head-of (suc zero) v n w p q = absurd (p refl)
+no-head-of (suc (suc zero)) v n w p q = refl
+no-head-of (suc (suc (suc zero))) v n w p q = refl
+no-head-of (suc (suc (suc (suc zero)))) v n w p q = refl
+no-head-of (suc (suc (suc (suc (suc zero))))) v n w p q = refl
+no-head-of (suc (suc (suc (suc (suc (suc zero)))))) v n w p q = refl
+no-head-of (suc (suc (suc (suc (suc (suc (suc zero))))))) v n w p q = absurd (q refl)
+no-head-of (suc (suc (suc (suc (suc (suc (suc (suc k)))))))) v n w p q = refl
+
+module _ (bs names t : List ℕ) (i : ℕ) where
+  pub head-name : kindAt bs i ≡ 1 → headStep bs names i ≡ leftAt bs i
+  unfolding headStep byKind
+  head-name k = rw k refl
+
+  pub head-recipe : kindAt bs i ≡ 7 → headStep bs names i ≡ headAt names (rightAt bs i)
+  unfolding headStep byKind
+  head-recipe k = rw k refl
+
+  pub head-none : (kindAt bs i ≡ 1 → ⊥) → (kindAt bs i ≡ 7 → ⊥) → headStep bs names i ≡ 1000
+  unfolding headStep
+  head-none p q = no-head-of (kindAt bs i) _ _ _ p q
+
+  pub least-name : kindAt bs i ≡ 1 → leastStep bs names t i ≡ leastAt t (rowOf names (leftAt bs i))
+  unfolding leastStep byKind
+  least-name k = rw k refl
+
+  pub least-done : (kindAt bs i ≡ 1 → ⊥) → kindAt bs i < 4 → leastStep bs names t i ≡ 0
+  unfolding leastStep
+  least-done p q = done-of (kindAt bs i) _ _ _ _ _ _ p q
+
+  pub least-lend : kindAt bs i ≡ 6 → leastStep bs names t i ≡ leastAt t (rightAt bs i)
+  unfolding leastStep byKind
+  least-lend k = rw k refl
+
+  pub least-recipe : kindAt bs i ≡ 7
+      → leastStep bs names t i ≡ leastAt t (leftAt bs i) + ifRecipe bs (rightAt bs i) (leastAt t (rightAt bs i))
+  unfolding leastStep byKind
+  least-recipe k = rw k refl
+
+  pub least-both : (kindAt bs i < 4 → ⊥) → (kindAt bs i ≡ 6 → ⊥) → (kindAt bs i ≡ 7 → ⊥)
+      → leastStep bs names t i ≡ leastAt t (leftAt bs i) + leastAt t (rightAt bs i)
+  unfolding leastStep
+  least-both p q r = both-of (kindAt bs i) _ _ _ _ _ _ _ p (λ h. refl) q r
+
+  module _ (c : ℕ) where
+    pub low-name : kindAt bs i ≡ 1 → lowStep bs names t i c ≡ lowAt t (rowOf names (leftAt bs i)) c
+    unfolding lowStep byKind
+    low-name k = rw k refl
+
+    pub low-done : (kindAt bs i ≡ 1 → ⊥) → kindAt bs i < 4 → lowStep bs names t i c ≡ 0
+    unfolding lowStep
+    low-done p q = done-of (kindAt bs i) _ _ _ _ _ _ p q
+
+    pub low-lend : kindAt bs i ≡ 6 → lowStep bs names t i c ≡ lowAt t (rightAt bs i) c - bit (inClass names (leftAt bs i) c)
+    unfolding lowStep byKind
+    low-lend k = rw k refl
+
+    pub low-either : kindAt bs i ≡ 5 → lowStep bs names t i c ≡ max (lowAt t (leftAt bs i) c) (lowAt t (rightAt bs i) c)
+    unfolding lowStep byKind
+    low-either k = rw k refl
+
+    pub low-recipe : kindAt bs i ≡ 7
+        → lowStep bs names t i c ≡ lowAt t (leftAt bs i) c + ifRecipe bs (rightAt bs i) (lowAt t (rightAt bs i) c)
+    unfolding lowStep byKind
+    low-recipe k = rw k refl
+
+    pub low-both : (kindAt bs i < 4 → ⊥) → (kindAt bs i ≡ 5 → ⊥) → (kindAt bs i ≡ 6 → ⊥) → (kindAt bs i ≡ 7 → ⊥)
+        → lowStep bs names t i c ≡ lowAt t (leftAt bs i) c + lowAt t (rightAt bs i) c
+    unfolding lowStep
+    low-both p q r s = both-of (kindAt bs i) _ _ _ _ _ _ _ p (λ h. absurd (q h)) r s
+
+    pub high-name : kindAt bs i ≡ 1 → highStep bs names t i c ≡ highAt t (rowOf names (leftAt bs i)) c
+    unfolding highStep byKind
+    high-name k = rw k refl
+
+    pub high-rest : kindAt bs i ≡ 2 → highStep bs names t i c ≡ 255
+    unfolding highStep byKind
+    high-rest k = rw k refl
+
+    pub high-done : (kindAt bs i ≡ 1 → ⊥) → (kindAt bs i ≡ 2 → ⊥) → kindAt bs i < 4 → highStep bs names t i c ≡ 0
+    unfolding highStep
+    high-done p r q = done-of-high (kindAt bs i) _ _ _ _ _ _ _ p r q
+
+    pub high-lend : kindAt bs i ≡ 6 → highStep bs names t i c ≡ off (highAt t (rightAt bs i) c) (inClass names (leftAt bs i) c)
+    unfolding highStep byKind
+    high-lend k = rw k refl
+
+    pub high-either : kindAt bs i ≡ 5 → highStep bs names t i c ≡ min (highAt t (leftAt bs i) c) (highAt t (rightAt bs i) c)
+    unfolding highStep byKind
+    high-either k = rw k refl
+
+    pub high-recipe : kindAt bs i ≡ 7
+        → highStep bs names t i c ≡ highAt t (leftAt bs i) c + ifRecipe bs (rightAt bs i) (highAt t (rightAt bs i) c)
+    unfolding highStep byKind
+    high-recipe k = rw k refl
+
+    pub high-both : (kindAt bs i < 4 → ⊥) → (kindAt bs i ≡ 5 → ⊥) → (kindAt bs i ≡ 6 → ⊥) → (kindAt bs i ≡ 7 → ⊥)
+        → highStep bs names t i c ≡ highAt t (leftAt bs i) c + highAt t (rightAt bs i) c
+    unfolding highStep
+    high-both p q r s = both-of (kindAt bs i) _ _ _ _ _ _ _ p (λ h. absurd (q h)) r s
+
+-- a greatest number less an item
+pub off-less : (h r : ℕ) (b : Bool) → (h < 255 → r ≡ h - bit b) → (255 ≤ h → r ≡ h) → r ≡ off h b
+unfolding off
+off-less h r b p q = at (leb 255 h) refl
+  where
+    at : (c : Bool) → leb 255 h ≡ c → r ≡ cond c h (h - bit b)
+    at true e = q (leb-true 255 h e)
+    at false e = p (leb-false 255 h e)
+
+-- What stays below 512. Stated here, since omega is slow among all the facts at a place of the code.
+pub byte-small : (a : ℕ) → a < 256 → a < 512
+byte-small a h = omega arith
+
+pub under-small : (a b : ℕ) → a ≤ b → b < 256 → a < 512
+under-small a b l h = omega arith
+
+pub less-small : (a b : ℕ) → a < 256 → a - b < 512
+less-small a b h = omega arith
+
+pub sum-small : (a b : ℕ) → a < 256 → b < 256 → a + b < 512
+sum-small a b h l = omega arith
+
+pub part-small : (a b d : ℕ) → a < 256 → b ≤ d → d < 256 → a + b < 512
+part-small a b d h l m = omega arith
+
+pub min-small : (a b : ℕ) → a < 256 → min a b < 512
+min-small a b h = omega arith
+
+pub max-small : (a b : ℕ) → a < 256 → b < 256 → max a b < 512
+max-small a b h l = omega arith
+
+pub zero-small : 0 < 512
+zero-small = omega arith
+
+pub top-small : 255 < 512
+top-small = omega arith
+
+-- equal numbers are below the same numbers
+pub same-low : (a b n : ℕ) → a ≡ b → a < n → b < n
+same-low a b n e h = omega arith
+
+pub same-high : (a b n : ℕ) → a ≡ b → n ≤ a → b < n → ⊥
+same-high a b n e h l = omega arith

@@ -1,0 +1,207 @@
+-- One case for each kind.
+use Prim.Native.Nat.{_+_, _-_, min}
+use mathlib.Core.Path.{sym, _∙_, ap, ap₂}
+use borrow.Author.Needs.{needs}
+use Rattle.node_bounds.proofs.StepsByKind.{high-name, high-done, high-lend, high-either, high-recipe, high-both, high-rest, off-less}
+use Rattle.node_bounds.proofs.StepsByKind.{byte-small, under-small, sum-small, part-small, min-small, zero-small, top-small}
+use Rattle.node_bounds.proofs.StepsByKind.{same-low, same-high}
+use Rattle.bounds.specs.Inner.Table.{highAt, rowOf, ifRecipe, inClass}
+use Rattle.bounds.specs.Inner.Count.{bit}
+use Rattle.bounds.specs.Inner.Bound.{off}
+use Rattle.card.specs.Format.{leftAt}
+use Rattle.node_bounds.proofs.high_step.Statement.{statement}
+use Rattle.node_bounds.proofs.high_step.Tie as tie
+
+kind-at-requires : tie.Need-kind-at-requires
+kind-at-requires c κs = search needs
+
+name-at-requires : tie.Need-name-at-requires
+name-at-requires c κs = search needs
+
+row-requires : tie.Need-row-requires
+row-requires c κs = search needs
+
+high-requires : tie.Need-high-requires
+high-requires c κs = search needs
+
+returns : tie.Need-returns
+returns c =
+    let s = c .before .before .before .before .before .before .before .before in
+    let bs = s .args .card .now in
+    let ns = s .args .names .now in
+    let t = s .args .table .now in
+    let i = s .args .i in
+    let m = s .args .c in
+    let k = c .before .before .before .before .before .before .kind-at .ensures in (
+      c .high .ensures .0 ∙ ap (λ x. highAt t x m) (c .before .row .ensures .0 ∙ ap (rowOf ns) (c .before .before .name-at .ensures .0))
+          ∙ sym (high-name bs ns t i m (sym k ∙ c .before .before .before .before .before .if1 .taken)),
+      byte-small _ (c .high .ensures .1),
+    )
+
+returns-2 : tie.Need-returns-2
+returns-2 c =
+    let s = c .before .before .before .before in
+    let bs = s .args .card .now in
+    let ns = s .args .names .now in
+    let t = s .args .table .now in
+    let i = s .args .i in
+    let m = s .args .c in
+    let k = c .before .before .kind-at .ensures in
+    (sym (high-rest bs ns t i m (sym k ∙ c .if2 .taken)), top-small)
+
+returns-3 : tie.Need-returns-3
+returns-3 c =
+    let s = c .before .before .before .before .before in
+    let bs = s .args .card .now in
+    let ns = s .args .names .now in
+    let t = s .args .table .now in
+    let i = s .args .i in
+    let m = s .args .c in
+    let k = c .before .before .before .kind-at .ensures in (
+      sym
+          (high-done bs ns t i m (λ p. c .before .before .if1 .left (k ∙ p)) (λ p. c .before .if2 .left (k ∙ p))
+          (same-low _ _ 4 k (c .if3 .taken))),
+      zero-small,
+    )
+
+left-part-requires : tie.Need-left-part-requires
+left-part-requires c κs = search needs
+
+right-part-requires : tie.Need-right-part-requires
+right-part-requires c κs = search needs
+
+high-requires-2 : tie.Need-high-requires-2
+high-requires-2 c κs = search needs
+
+weight-requires : tie.Need-weight-requires
+weight-requires c κs = search needs
+
+taken-off-requires : tie.Need-taken-off-requires
+taken-off-requires c κs = search needs
+
+returns-4 : tie.Need-returns-4
+returns-4 c =
+    let s = c .before .before .before .before .before .before .before .before .before .before .before .before in
+    let bs = s .args .card .now in
+    let ns = s .args .names .now in
+    let t = s .args .table .now in
+    let i = s .args .i in
+    let m = s .args .c in
+    let k = c .before .before .before .before .before .before .before .before .before .before .kind-at .ensures in
+    let r =
+    c .before .before .before .high2 .ensures .0
+    ∙ ap (λ x. highAt t x m) (c .before .before .before .before .before .right-part .ensures .0) in
+    let w =
+    c .before .weight .ensures .0
+    ∙ ap (λ x. bit (inClass ns x m)) (c .before .before .before .before .before .before .left-part .ensures .0) in
+    let o = c .taken-off .ensures in
+    let e =
+    off-less _ _ (inClass ns (leftAt bs i) m) (λ h. o .1 .0 h ∙ ap (λ x. c .before .before .before .high2 .result - x) w) (o .1 .1) in (
+      e ∙ ap (λ x. off x (inClass ns (leftAt bs i) m)) r ∙ sym (high-lend bs ns t i m (sym k ∙ c .before .before .if4 .taken)),
+      under-small _ _ (o .0) (c .before .before .before .high2 .ensures .1),
+    )
+
+high-requires-3 : tie.Need-high-requires-3
+high-requires-3 c κs = search needs
+
+lesser-requires : tie.Need-lesser-requires
+lesser-requires c κs = search needs
+
+returns-5 : tie.Need-returns-5
+returns-5 c =
+    let s = c .before .before .before .before .before .before .before .before .before .before .before .before .before .before in
+    let bs = s .args .card .now in
+    let ns = s .args .names .now in
+    let t = s .args .table .now in
+    let i = s .args .i in
+    let m = s .args .c in
+    let k = c .before .before .before .before .before .before .before .before .before .before .before .before .kind-at .ensures in
+    let r =
+    c .before .before .before .before .before .high2 .ensures .0
+    ∙ ap (λ x. highAt t x m) (c .before .before .before .before .before .before .before .right-part .ensures .0) in
+    let l =
+    c .before .before .high3 .ensures .0
+    ∙ ap (λ x. highAt t x m) (c .before .before .before .before .before .before .before .before .left-part .ensures .0) in (
+      c .lesser .ensures ∙ ap₂ min l r ∙ sym (high-either bs ns t i m (sym k ∙ c .before .if5 .taken)),
+      rw (c .lesser .ensures) (min-small _ _ (c .before .before .high3 .ensures .1)),
+    )
+
+if-recipe-requires : tie.Need-if-recipe-requires
+if-recipe-requires c κs = search needs
+
+add-result : tie.Need-add-result
+add-result c = search needs
+
+returns-6 : tie.Need-returns-6
+returns-6 c =
+    let s = c .before .before .before .before .before .before .before .before .before .before .before .before .before .before .before in
+    let bs = s .args .card .now in
+    let ns = s .args .names .now in
+    let t = s .args .table .now in
+    let i = s .args .i in
+    let m = s .args .c in
+    let k = c .before .before .before .before .before .before .before .before .before .before .before .before .before .kind-at .ensures in
+    let r =
+    c .before .before .before .before .before .before .high2 .ensures .0
+    ∙ ap (λ x. highAt t x m) (c .before .before .before .before .before .before .before .before .right-part .ensures .0) in
+    let l =
+    c .before .before .before .high3 .ensures .0
+    ∙ ap (λ x. highAt t x m) (c .before .before .before .before .before .before .before .before .before .left-part .ensures .0) in
+    let q =
+    c .if-recipe .ensures .0
+    ∙ ap₂ (ifRecipe bs) (c .before .before .before .before .before .before .before .before .right-part .ensures .0) r in (
+      ap₂ _+_ l q ∙ sym (high-recipe bs ns t i m (sym k ∙ c .before .if6 .taken)),
+      part-small _ _ _ (c .before .before .before .high3 .ensures .1) (c .if-recipe .ensures .1)
+          (c .before .before .before .before .before .before .high2 .ensures .1),
+    )
+
+add-result-2 : tie.Need-add-result-2
+add-result-2 c = search needs
+
+returns-7 : tie.Need-returns-7
+returns-7 c =
+    let s = c .before .before .before .before .before .before .before .before .before .before .before .before .before .before in
+    let bs = s .args .card .now in
+    let ns = s .args .names .now in
+    let t = s .args .table .now in
+    let i = s .args .i in
+    let m = s .args .c in
+    let k = c .before .before .before .before .before .before .before .before .before .before .before .before .kind-at .ensures in
+    let r =
+    c .before .before .before .before .before .high2 .ensures .0
+    ∙ ap (λ x. highAt t x m) (c .before .before .before .before .before .before .before .right-part .ensures .0) in
+    let l =
+    c .before .before .high3 .ensures .0
+    ∙ ap (λ x. highAt t x m) (c .before .before .before .before .before .before .before .before .left-part .ensures .0) in (
+      ap₂ _+_ l r
+          ∙ sym
+          (high-both bs ns t i m (same-high _ _ 4 k (c .before .before .before .before .before .before .before .before .before .if3 .left))
+          (λ p. c .before .if5 .left (k ∙ p)) (λ p. c .before .before .before .before .if4 .left (k ∙ p)) (λ p. c .if6 .left (k ∙ p))),
+      sum-small _ _ (c .before .before .high3 .ensures .1) (c .before .before .before .before .before .high2 .ensures .1),
+    )
+
+pub high-step-spec : {M : Type 1} → statement M
+high-step-spec =
+    tie.close
+    (tie.spec
+    kind-at-requires
+    name-at-requires
+    row-requires
+    high-requires
+    returns
+    returns-2
+    returns-3
+    left-part-requires
+    right-part-requires
+    high-requires-2
+    weight-requires
+    taken-off-requires
+    returns-4
+    high-requires-3
+    lesser-requires
+    returns-5
+    if-recipe-requires
+    add-result
+    returns-6
+    add-result-2
+    returns-7)

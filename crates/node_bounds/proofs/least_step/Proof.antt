@@ -1,0 +1,138 @@
+-- One case for each kind.
+use Prim.Native.Nat.{_+_}
+use mathlib.Core.Path.{sym, _∙_, ap, ap₂}
+use borrow.Author.Needs.{needs}
+use Rattle.node_bounds.proofs.StepsByKind.{least-name, least-done, least-lend, least-recipe, least-both}
+use Rattle.node_bounds.proofs.StepsByKind.{byte-small, sum-small, part-small, zero-small, same-low, same-high}
+use Rattle.bounds.specs.Inner.Table.{leastAt, rowOf, ifRecipe}
+use Rattle.node_bounds.proofs.least_step.Statement.{statement}
+use Rattle.node_bounds.proofs.least_step.Tie as tie
+
+kind-at-requires : tie.Need-kind-at-requires
+kind-at-requires c κs = search needs
+
+name-at-requires : tie.Need-name-at-requires
+name-at-requires c κs = search needs
+
+row-requires : tie.Need-row-requires
+row-requires c κs = search needs
+
+least-requires : tie.Need-least-requires
+least-requires c κs = search needs
+
+returns : tie.Need-returns
+returns c =
+    let s = c .before .before .before .before .before .before .before .before in
+    let bs = s .args .card .now in
+    let ns = s .args .names .now in
+    let t = s .args .table .now in
+    let i = s .args .i in
+    let k = c .before .before .before .before .before .before .kind-at .ensures in (
+      c .least .ensures .0 ∙ ap (leastAt t) (c .before .row .ensures .0 ∙ ap (rowOf ns) (c .before .before .name-at .ensures .0))
+          ∙ sym (least-name bs ns t i (sym k ∙ c .before .before .before .before .before .if1 .taken)),
+      byte-small _ (c .least .ensures .1),
+    )
+
+returns-2 : tie.Need-returns-2
+returns-2 c =
+    let s = c .before .before .before .before in
+    let bs = s .args .card .now in
+    let ns = s .args .names .now in
+    let t = s .args .table .now in
+    let i = s .args .i in
+    let k = c .before .before .kind-at .ensures in
+    (sym (least-done bs ns t i (λ p. c .before .if1 .left (k ∙ p)) (same-low _ _ 4 k (c .if2 .taken))), zero-small)
+
+right-part-requires : tie.Need-right-part-requires
+right-part-requires c κs = search needs
+
+least-requires-2 : tie.Need-least-requires-2
+least-requires-2 c κs = search needs
+
+returns-3 : tie.Need-returns-3
+returns-3 c =
+    let s = c .before .before .before .before .before .before .before .before in
+    let bs = s .args .card .now in
+    let ns = s .args .names .now in
+    let t = s .args .table .now in
+    let i = s .args .i in
+    let k = c .before .before .before .before .before .before .kind-at .ensures in (
+      c .before .least2 .ensures .0 ∙ ap (leastAt t) (c .before .before .before .right-part .ensures .0)
+          ∙ sym (least-lend bs ns t i (sym k ∙ c .if3 .taken)),
+      byte-small _ (c .before .least2 .ensures .1),
+    )
+
+left-part-requires : tie.Need-left-part-requires
+left-part-requires c κs = search needs
+
+least-requires-3 : tie.Need-least-requires-3
+least-requires-3 c κs = search needs
+
+if-recipe-requires : tie.Need-if-recipe-requires
+if-recipe-requires c κs = search needs
+
+add-result : tie.Need-add-result
+add-result c = search needs
+
+returns-4 : tie.Need-returns-4
+returns-4 c =
+    let s = c .before .before .before .before .before .before .before .before .before .before .before .before .before in
+    let bs = s .args .card .now in
+    let ns = s .args .names .now in
+    let t = s .args .table .now in
+    let i = s .args .i in
+    let k = c .before .before .before .before .before .before .before .before .before .before .before .kind-at .ensures in
+    let r =
+    c .before .before .before .before .before .before .least2 .ensures .0
+    ∙ ap (leastAt t) (c .before .before .before .before .before .before .before .before .right-part .ensures .0) in
+    let l = c .before .before .least3 .ensures .0 ∙ ap (leastAt t) (c .before .before .before .left-part .ensures .0) in
+    let q =
+    c .if-recipe .ensures .0
+    ∙ ap₂ (ifRecipe bs) (c .before .before .before .before .before .before .before .before .right-part .ensures .0) r in (
+      ap₂ _+_ l q ∙ sym (least-recipe bs ns t i (sym k ∙ c .before .if4 .taken)),
+      part-small _ _ _ (c .before .before .least3 .ensures .1) (c .if-recipe .ensures .1)
+          (c .before .before .before .before .before .before .least2 .ensures .1),
+    )
+
+add-result-2 : tie.Need-add-result-2
+add-result-2 c = search needs
+
+returns-5 : tie.Need-returns-5
+returns-5 c =
+    let s = c .before .before .before .before .before .before .before .before .before .before .before .before in
+    let bs = s .args .card .now in
+    let ns = s .args .names .now in
+    let t = s .args .table .now in
+    let i = s .args .i in
+    let k = c .before .before .before .before .before .before .before .before .before .before .kind-at .ensures in
+    let r =
+    c .before .before .before .before .before .least2 .ensures .0
+    ∙ ap (leastAt t) (c .before .before .before .before .before .before .before .right-part .ensures .0) in
+    let l = c .before .least3 .ensures .0 ∙ ap (leastAt t) (c .before .before .left-part .ensures .0) in (
+      ap₂ _+_ l r
+          ∙ sym
+          (least-both bs ns t i (same-high _ _ 4 k (c .before .before .before .before .before .before .before .before .if2 .left))
+          (λ p. c .before .before .before .before .if3 .left (k ∙ p)) (λ p. c .if4 .left (k ∙ p))),
+      sum-small _ _ (c .before .least3 .ensures .1) (c .before .before .before .before .before .least2 .ensures .1),
+    )
+
+pub least-step-spec : {M : Type 1} → statement M
+least-step-spec =
+    tie.close
+    (tie.spec
+    kind-at-requires
+    name-at-requires
+    row-requires
+    least-requires
+    returns
+    returns-2
+    right-part-requires
+    least-requires-2
+    returns-3
+    left-part-requires
+    least-requires-3
+    if-recipe-requires
+    add-result
+    returns-4
+    add-result-2
+    returns-5)

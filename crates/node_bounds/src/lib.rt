@@ -1,0 +1,214 @@
+// The bounds of a node from its parts, and of the use of a clause from its conditions.
+use bounds::nodes::kind_at;
+use bounds::nodes::left_part;
+use bounds::nodes::name_at;
+use bounds::nodes::right_part;
+use bounds::table::class;
+use bounds::table::head;
+use bounds::table::high;
+use bounds::table::least;
+use bounds::table::low;
+use bounds::table::of_head;
+use bounds::table::row;
+ghost use mathlib.Core.Path.{_≡_};
+ghost use mathlib.Core.Bool.{_&&_};
+ghost use Prim.Native.Nat.{_-_, _<_, _≤_, min, max};
+ghost use Rattle.card.specs.Fault.{Sound};
+ghost use Rattle.bounds.specs.Inner.Count.{bit};
+ghost use Rattle.bounds.specs.Inner.Table.{NameCells, Held, Node, ifRecipe, inClass, headStep, leastStep, lowStep, highStep};
+ghost use Rattle.bounds.specs.Inner.Table.{leastUse, lowUse};
+ghost use Rattle.bounds.specs.Inner.Table.{highUse};
+
+fn greater(a: usize, b: usize) -> usize
+    ensures { λ r. ⌜ r ≡ max a b ⌝ }
+{
+    if a < b { b } else { a }
+}
+
+fn lesser(a: usize, b: usize) -> usize
+    ensures { λ r. ⌜ r ≡ min a b ⌝ }
+{
+    if a < b { a } else { b }
+}
+
+// a less b, not below 0.
+fn less(a: usize, b: usize) -> usize
+    ensures { λ r. ⌜ r ≡ a - b ⌝ }
+{
+    if a < b { 0 } else { a - b }
+}
+
+// A greatest number less b; none stays none.
+fn taken_off(h: usize, b: usize) -> usize
+    ensures { λ r. ⌜ (r ≤ h) × ((h < 255 → r ≡ h - b) × (255 ≤ h → r ≡ h)) ⌝ }
+{
+    if h < 255 { less(h, b) } else { h }
+}
+
+// The value at a recipe, 0 at any other clause.
+fn if_recipe(card: &[u8], i: usize, v: usize) -> usize
+    requires { ⌜ Sound (now card) ⌝ }
+    requires { ⌜ Node (now card) i ⌝ }
+    ensures { λ r. ⌜ (r ≡ ifRecipe (now (card .entry)) i v) × (r ≤ v) ⌝ }
+{
+    if kind_at(card, i) == 7 { v } else { 0 }
+}
+
+// 1 where the clause at the node is an item of class c.
+fn weight(names: &[u16; 1577], i: usize, linear: bool, c: usize) -> usize
+    requires { ⌜ (i < 512) × ((c < 64) × NameCells (now names)) ⌝ }
+    ensures { λ r. ⌜ (r ≡ bit (linear && inClass (now (names .entry)) i c)) × (r ≤ 1) ⌝ }
+{
+    if !linear {
+        return 0;
+    }
+    if of_head(class(names, c), head(names, i)) {
+        1
+    } else {
+        0
+    }
+}
+
+// The head of the clause at node i, from its right part; 1000 where there is none.
+pub fn head_step(card: &[u8], names: &[u16; 1577], i: usize) -> usize
+    requires { ⌜ Sound (now card) ⌝ }
+    requires { ⌜ (Node (now card) i) × NameCells (now names) ⌝ }
+    ensures { λ r. ⌜ (r ≡ headStep (now (card .entry)) (now (names .entry)) i) × (r < 65536) ⌝ }
+{
+    let k = kind_at(card, i);
+    if k == 1 {
+        return name_at(card, i);
+    }
+    if k == 7 {
+        return head(names, right_part(card, i));
+    }
+    1000
+}
+
+// The least steps at node i.
+pub fn least_step(card: &[u8], names: &[u16; 1577], table: &[u8; 66177], i: usize) -> usize
+    requires { ⌜ Held (now card) (now names) (now table) ⌝ }
+    requires { ⌜ Node (now card) i ⌝ }
+    ensures { λ r. ⌜ (r ≡ leastStep (now (card .entry)) (now (names .entry)) (now (table .entry)) i) × (r < 512) ⌝ }
+{
+    let k = kind_at(card, i);
+    if k == 1 {
+        return least(table, row(names, name_at(card, i)));
+    }
+    if k < 4 {
+        return 0;
+    }
+    let r = right_part(card, i);
+    let right = least(table, r);
+    if k == 6 {
+        return right;
+    }
+    let left = least(table, left_part(card, i));
+    if k == 7 {
+        return left + if_recipe(card, r, right);
+    }
+    left + right
+}
+
+// The least number of items of class c at node i.
+pub fn low_step(card: &[u8], names: &[u16; 1577], table: &[u8; 66177], i: usize, c: usize) -> usize
+    requires { ⌜ Held (now card) (now names) (now table) ⌝ }
+    requires { ⌜ Node (now card) i × (c < 64) ⌝ }
+    ensures { λ r. ⌜ (r ≡ lowStep (now (card .entry)) (now (names .entry)) (now (table .entry)) i c) × (r < 512) ⌝ }
+{
+    let k = kind_at(card, i);
+    if k == 1 {
+        return low(table, row(names, name_at(card, i)), c);
+    }
+    if k < 4 {
+        return 0;
+    }
+    let l = left_part(card, i);
+    let r = right_part(card, i);
+    let right = low(table, r, c);
+    if k == 6 {
+        return less(right, weight(names, l, true, c));
+    }
+    let left = low(table, l, c);
+    if k == 5 {
+        return greater(left, right);
+    }
+    if k == 7 {
+        return left + if_recipe(card, r, right);
+    }
+    left + right
+}
+
+// The greatest number of items of class c at node i.
+pub fn high_step(card: &[u8], names: &[u16; 1577], table: &[u8; 66177], i: usize, c: usize) -> usize
+    requires { ⌜ Held (now card) (now names) (now table) ⌝ }
+    requires { ⌜ Node (now card) i × (c < 64) ⌝ }
+    ensures { λ r. ⌜ (r ≡ highStep (now (card .entry)) (now (names .entry)) (now (table .entry)) i c) × (r < 512) ⌝ }
+{
+    let k = kind_at(card, i);
+    if k == 1 {
+        return high(table, row(names, name_at(card, i)), c);
+    }
+    if k == 2 {
+        return 255;
+    }
+    if k < 4 {
+        return 0;
+    }
+    let l = left_part(card, i);
+    let r = right_part(card, i);
+    let right = high(table, r, c);
+    if k == 6 {
+        return taken_off(right, weight(names, l, true, c));
+    }
+    let left = high(table, l, c);
+    if k == 5 {
+        return lesser(left, right);
+    }
+    if k == 7 {
+        return left + if_recipe(card, r, right);
+    }
+    left + right
+}
+
+// The least steps of a use of the clause at node i.
+pub fn least_use(card: &[u8], names: &[u16; 1577], table: &[u8; 66177], i: usize) -> usize
+    requires { ⌜ Held (now card) (now names) (now table) ⌝ }
+    requires { ⌜ Node (now card) i ⌝ }
+    ensures { λ r. ⌜ (r ≡ leastUse (now (card .entry)) (now (names .entry)) (now (table .entry)) i) × (r < 512) ⌝ }
+{
+    1 + if_recipe(card, i, least(table, i))
+}
+
+// The least and the greatest number of items of class c of such a use.
+pub fn low_use(
+    card: &[u8],
+    names: &[u16; 1577],
+    table: &[u8; 66177],
+    i: usize,
+    linear: bool,
+    c: usize,
+) -> usize
+    requires { ⌜ Held (now card) (now names) (now table) ⌝ }
+    requires { ⌜ Node (now card) i × (c < 64) ⌝ }
+    ensures { λ r. ⌜ (r ≡ lowUse (now (card .entry)) (now (names .entry)) (now (table .entry)) i linear c)
+        × (r < 512) ⌝ }
+{
+    weight(names, i, linear, c) + if_recipe(card, i, low(table, i, c))
+}
+
+pub fn high_use(
+    card: &[u8],
+    names: &[u16; 1577],
+    table: &[u8; 66177],
+    i: usize,
+    linear: bool,
+    c: usize,
+) -> usize
+    requires { ⌜ Held (now card) (now names) (now table) ⌝ }
+    requires { ⌜ Node (now card) i × (c < 64) ⌝ }
+    ensures { λ r. ⌜ (r ≡ highUse (now (card .entry)) (now (names .entry)) (now (table .entry)) i linear c)
+        × (r < 512) ⌝ }
+{
+    weight(names, i, linear, c) + if_recipe(card, i, high(table, i, c))
+}
