@@ -23,14 +23,14 @@ use Rattle.card.proofs.SoundNodes.{goal-lower, height-low, sound-root}
 use Rattle.scope.specs.Inner.Sets.{items, strictOf}
 use Rattle.scope.specs.Inner.Tables.{scopeIn, Entered}
 use Rattle.scope.proofs.SetsAreItems.{strict-items, all-items}
-use Rattle.trace.specs.declared.walk.Branch.{Branch}
-use Rattle.trace.specs.declared.walk.Summary.{Summary}
-use Rattle.trace.specs.declared.walk.Walked.{Walked}
-use Rattle.trace.specs.declared.walk.Walked.the-variants.{Ended, Astray}
-use Rattle.trace.specs.Inner.Values.{startB}
-use Rattle.trace.specs.Inner.Walks.{from, gathered, EndsWith, FitsNone, Tells, Ready, GoalReady, GoalWalks}
+use Rattle.summary.specs.declared.Branch.{Branch}
+use Rattle.summary.specs.declared.Summary.{Summary}
+use Rattle.summary.specs.declared.Walked.{Walked}
+use Rattle.summary.specs.declared.Walked.the-variants.{Ended, Astray}
+use Rattle.summary.specs.Inner.Values.{startB}
+use Rattle.summary.specs.Inner.Walks.{from, gathered, EndsWith, FitsNone, Tells, Ready, GoalReady, GoalWalks}
 use Rattle.trace.specs.Inner.Listing.{Covered}
-use Rattle.trace.proofs.SummariesGather.{within-says}
+use Rattle.summary.proofs.SummariesGather.{within-says}
 
 -- The test of the items
 

@@ -1,5 +1,2 @@
 -- Theorems about the definitions of specs/ that belong to no one function.
-pub mod SummariesGather
-pub mod WalksTell
-pub mod CallsAreReady
 pub mod FollowsExactly

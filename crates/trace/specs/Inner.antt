@@ -1,4 +1,2 @@
--- The terms of the walk's contracts.
-pub mod Values
-pub mod Walks
+-- The terms of the contracts.
 pub mod Listing

@@ -1,12 +1,10 @@
-// The reader's walk: whether a given list is that of a derivation within limits.
-pub mod walk;
-
+// Whether a given list is that of a derivation within limits: the walk of the goal, then the tests of its end and of its items.
 use card::format::byte;
 use card::format::word;
 use lines::LineSet;
-use walk::Branch;
-use walk::Summary;
-use walk::Walked;
+use summary::Branch;
+use summary::Summary;
+use summary::Walked;
 ghost use mathlib.Core.Path.{_≡_};
 ghost use Prim.Native.Nat.{_≤_};
 ghost use lib.ListN.{length, take};
@@ -14,7 +12,7 @@ ghost use Rattle.card.specs.Format.{stepLimit};
 ghost use Rattle.card.specs.Fault.{Sound};
 ghost use Rattle.calculus.specs.Inner.Trace.{Says};
 ghost use Rattle.lines.specs.Inner.Set.{isEmptyS, cutS, Words};
-ghost use Rattle.trace.specs.Inner.Values.{startB};
+ghost use Rattle.summary.specs.Inner.Values.{startB};
 ghost use Rattle.trace.specs.Inner.Listing.{Covered, ListedSays};
 
 // Whether a list is that of a derivation within limits.

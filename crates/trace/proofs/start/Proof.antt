@@ -1,7 +1,7 @@
 -- What the callees answer, put together.
 use Prim.Native.Nat.{_+_}
 use Rattle.card.proofs.CardChecked.{sound-front}
-use Rattle.trace.specs.Inner.Values.{startB}
+use Rattle.summary.specs.Inner.Values.{startB}
 use borrow.Author.Needs.{needs}
 use Rattle.trace.proofs.start.Statement.{statement}
 use Rattle.trace.proofs.start.Tie as tie

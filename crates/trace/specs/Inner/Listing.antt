@@ -9,7 +9,7 @@ use Rattle.calculus.specs.Job.{Listed}
 use Rattle.card.specs.Format.{ruleCount}
 use Rattle.card.specs.Decode.{jobOf}
 use Rattle.scope.specs.Inner.Sets.{items}
-use Rattle.trace.specs.declared.walk.Summary.{Summary}
+use Rattle.summary.specs.declared.Summary.{Summary}
 use Rattle.trace.specs.declared.Followed.{Followed}
 use Rattle.trace.specs.declared.Followed.the-variants.{Listed as Listed⁺, Unlisted}
 

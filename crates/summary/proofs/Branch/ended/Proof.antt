@@ -1,0 +1,17 @@
+-- The empty set.
+use mathlib.Core.Path.{ap}
+use mathlib.Core.Bool.{true}
+use borrow.Author.Needs.{needs}
+use Rattle.summary.proofs.Branch.ended.Statement.{statement}
+use Rattle.summary.proofs.Branch.ended.Tie as tie
+
+empty-requires : tie.Need-empty-requires
+empty-requires c κs = search needs
+
+returns : tie.Need-returns
+returns c =
+    let b = c .before .args .self in
+    ap (λ u. record { at = b .at; used = u; slack = c .before .args .slack; alive = true }) (c .empty .ensures)
+
+pub ended-spec : {M : Type 1} → statement M
+ended-spec = tie.close (tie.spec empty-requires returns)

@@ -1,0 +1,4 @@
+-- Theorems about the definitions of specs/ that belong to no one function.
+pub mod SummariesGather
+pub mod WalksTell
+pub mod StepsTell

@@ -1,0 +1,56 @@
+-- What the callees answer, put together.
+use mathlib.Core.Path.{_∙_, ap, ap₂}
+use mathlib.Core.Bool.{_&&_}
+use borrow.Author.Needs.{needs}
+use Rattle.lines.specs.Inner.Set.{isEmptyS, Words}
+use Rattle.summary.proofs.Summary.tensor.Statement.{statement}
+use Rattle.summary.proofs.Summary.tensor.Tie as tie
+
+meet-requires : tie.Need-meet-requires
+meet-requires c κs = search needs
+
+is-empty-requires : tie.Need-is-empty-requires
+is-empty-requires c κs = search needs
+
+join-requires : tie.Need-join-requires
+join-requires c κs = search needs
+
+either-requires : tie.Need-either-requires
+either-requires c κs = search needs
+
+both-requires : tie.Need-both-requires
+both-requires c κs = search needs
+
+both-requires-2 : tie.Need-both-requires-2
+both-requires-2 c κs = search needs
+
+words-self : (s : tie.Start) → Words (s .args .self .used)
+words-self s = search needs
+
+words-other : (s : tie.Start) → Words (s .args .w .used)
+words-other s = search needs
+
+returns : tie.Need-returns
+returns c =
+    let start = c .before .before .before .before .before .before .before in
+    let v = start .args .w in
+    let joined = c .before .before .before in
+    let empty = joined .before in
+    let apart = empty .is-empty .ensures ∙ ap isEmptyS (empty .before .meet .ensures) in
+    let alive = c .both2 .ensures ∙ ap₂ _&&_ (c .before .both .ensures) apart in
+    let slack = c .before .before .either .ensures in (
+      λ i. record { at = v .at; used = joined .join .ensures i; slack = slack i; alive = alive i },
+      (words-self start, words-other start),
+    )
+
+pub tensor-spec : {M : Type 1} → statement M
+tensor-spec =
+    tie.close
+    (tie.spec
+    meet-requires
+    is-empty-requires
+    join-requires
+    either-requires
+    both-requires
+    both-requires-2
+    returns)

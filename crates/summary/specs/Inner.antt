@@ -1,0 +1,3 @@
+-- The terms of the contracts of summaries and of the walk.
+pub mod Values
+pub mod Walks

@@ -1,0 +1,98 @@
+-- What a walk asks, and what it tells of the given steps in terms of traces.
+use Prim.Native.Nat.{ℕ, _+_, _*_, _≤_, _<_}
+use mathlib.Core.Path.{_≡_}
+use mathlib.Core.Bool.{Bool, true, false}
+use mathlib.Core.List.{List, _∷_, _++_}
+use lib.ListN.{length, getD, take, drop}
+use Rattle.calculus.specs.Formula.{atomᴳ, usable}
+use Rattle.calculus.specs.Derivation.{Scope}
+use Rattle.calculus.specs.Inner.Trace.{Part, goal, meet, Gathered, Trace}
+use Rattle.card.specs.Format.{ruleCount, nodeCount}
+use Rattle.card.specs.Fault.{Sound, goalPart, clausePart, heightAt}
+use Rattle.card.specs.Decode.{goalAt, clauseOf, scopeOf}
+use Rattle.scope.specs.Inner.Sets.{items}
+use Rattle.scope.specs.Inner.Tables.{scopeIn, Entered, Kept}
+use Rattle.summary.specs.declared.Branch.{Branch}
+use Rattle.summary.specs.declared.Summary.{Summary}
+use Rattle.summary.specs.declared.Walked.{Walked}
+use Rattle.summary.specs.declared.Walked.the-variants.{Ended, Astray}
+use Rattle.summary.specs.declared.Step.{Step}
+use Rattle.summary.specs.declared.Step.the-variants.{Taken, Nothing}
+
+-- the given steps from a place on
+unfoldable pub from : List ℕ → Branch → ℕ → List ℕ
+from steps b at = drop at (take (b .given) steps)
+
+-- a summary in the calculus' terms, with the list walked
+unfoldable pub gathered : ℕ → Summary → List ℕ → Gathered
+gathered P w l = record { list = l; used = items P (w .used); slack = w .slack; alive = w .alive }
+
+-- The walk of the part p ended with the summary w.
+pub record EndsWith (steps : List ℕ) (b : Branch) (es : Scope) (p : Part) (w : Summary) : Type 0 where
+  pub onward : b .at ≤ w .at
+  pub bounded : w .at ≤ b .given
+  pub list : List ℕ
+  pub along : list ++ from steps b (w .at) ≡ from steps b (b .at)
+  pub trace : Trace (b .depth) es p (gathered (b .rules) w list)
+
+-- No beginning of the given steps is a walk of p.
+pub record FitsNone (steps : List ℕ) (b : Branch) (es : Scope) (p : Part) : Type 0 where
+  pub none-fits : (g : Gathered) (t : List ℕ) → Trace (b .depth) es p g → g .list ++ t ≡ from steps b (b .at) → ⊥
+
+-- What each answer says.
+unfoldable pub Tells : List ℕ → Branch → Scope → Part → Walked → Type 0
+Tells steps b es p (Ended w) = EndsWith steps b es p w
+Tells steps b es p Astray = FitsNone steps b es p
+
+-- What every function of the walk asks: a sound card, steps and tables in order, and room.
+pub record Ready (bs steps nodes : List ℕ) (linear : List Bool) (b : Branch) : Type 0 where
+  pub sound : Sound bs
+  pub rules : b .rules ≡ ruleCount bs
+  pub given : b .given ≤ length steps
+  pub short : b .given ≤ 255
+  pub at : b .at ≤ b .given
+  pub entered : Entered bs nodes linear (b .count)
+  pub scoped : ruleCount bs ≤ b .count
+  pub few : b .count ≤ ruleCount bs + 168
+
+-- The node is a goal of the card, and no more clauses can be lent below it than there is room for.
+pub record GoalReady (bs : List ℕ) (b : Branch) (node : ℕ) : Type 0 where
+  pub goal-node : goalPart bs (nodeCount bs) node ≡ true
+  pub deep : b .count + heightAt bs node + 6 * b .depth ≤ b .rules + 168
+
+-- The node is a clause of the card that can be used for the name, and the same of the room.
+pub record ClauseReady (bs : List ℕ) (b : Branch) (name node : ℕ) : Type 0 where
+  pub clause-node : clausePart bs (nodeCount bs) node ≡ true
+  pub fitting : usable (scopeOf bs .fits) name (clauseOf bs node) ≡ true
+  pub deep : b .count + 7 + 6 * b .depth ≤ b .rules + 168
+
+-- The next step is the entry e in scope, and it can be used for the name.
+pub record CanUse (bs steps nodes : List ℕ) (b : Branch) (name e : ℕ) : Type 0 where
+  pub deep : 1 ≤ b .depth
+  pub room : b .at < b .given
+  pub inside : e < b .count
+  pub next : from steps b (b .at) ≡ e ∷ from steps b (b .at + 1)
+  pub fitting : usable (scopeOf bs .fits) name (clauseOf bs (getD nodes e 0)) ≡ true
+
+-- What the test of the next step answers.
+unfoldable pub Stepping : List ℕ → List ℕ → List ℕ → List Bool → Branch → ℕ → Step → Type 0
+Stepping bs steps nodes linear b name (Taken e) = CanUse bs steps nodes b name e
+Stepping bs steps nodes linear b name Nothing = FitsNone steps b (scopeIn bs nodes linear (b .count)) (goal (atomᴳ name))
+
+-- What every function of the walk promises: what it tells of the part, and that the entries in scope are kept. Behind them the tables are
+-- free: as many places as before.
+pub record PartWalks (bs steps nodes nodes′ : List ℕ) (linear linear′ : List Bool) (b : Branch) (p : Part) (r : Walked) : Type 0 where
+  pub tells : Tells steps b (scopeIn bs nodes linear (b .count)) p r
+  pub node-kept : Kept (b .count) nodes nodes′
+  pub linear-kept : Kept (b .count) linear linear′
+
+-- the walk of a goal node, of the use of an entry for a name, and of a clause node in use
+abbrev pub GoalWalks : List ℕ → List ℕ → List ℕ → List ℕ → List Bool → List Bool → Branch → ℕ → Walked → Type 0
+GoalWalks bs steps nodes nodes′ linear linear′ b node r = PartWalks bs steps nodes nodes′ linear linear′ b (goal (goalAt bs node)) r
+
+abbrev pub UseWalks : List ℕ → List ℕ → List ℕ → List ℕ → List Bool → List Bool → Branch → ℕ → Walked → Type 0
+UseWalks bs steps nodes nodes′ linear linear′ b name r = PartWalks bs steps nodes nodes′ linear linear′ b (goal (atomᴳ name)) r
+
+abbrev pub ClauseWalks : List ℕ → List ℕ → List ℕ → List ℕ → List Bool → List Bool → Branch → ℕ → ℕ → Walked → Type 0
+ClauseWalks bs steps nodes nodes′ linear linear′ b name node r =
+    PartWalks bs steps nodes nodes′ linear linear′ b (meet name (clauseOf bs node)) r

@@ -1,0 +1,206 @@
+// Where the reader's walk stands in a list, and what it gathers there: the outer items taken, slack, and whether the items divided.
+use card::both;
+use card::either;
+use card::format::byte;
+use lines::LineSet;
+ghost use mathlib.Core.Path.{_≡_};
+ghost use mathlib.Core.Bool.{true};
+ghost use Prim.Native.Nat.{_≤_, _<_};
+ghost use Rattle.lines.specs.Inner.Set.{Words};
+ghost use Rattle.summary.specs.Inner.Values.{onB, lentB, deeperB, endedW, coverW, tensorW, withW, withoutW, usingW, behindW};
+ghost use Rattle.summary.specs.Inner.Walks.{Ready, Stepping};
+
+// Where a walk stands: P and how many steps are given; its place in the list, how many entries stand in scope, and the nesting left.
+pub struct Branch {
+    pub rules: usize,
+    pub given: usize,
+    pub at: usize,
+    pub count: usize,
+    pub depth: usize,
+}
+
+// What a walk that has ended gathered: the place reached in the list, the outer items taken, whether some ⊤ can take more, and whether
+// all items divided.
+pub struct Summary {
+    pub at: usize,
+    pub used: LineSet,
+    pub slack: bool,
+    pub alive: bool,
+}
+
+// What a walk answers.
+pub enum Walked {
+    Ended(Summary),
+    Astray,
+}
+
+// The step that serves a need, or that none does.
+pub enum Step {
+    Taken(usize),
+    Nothing,
+}
+
+impl Branch {
+    // Further on in the list.
+    pub fn on(self, at: usize) -> Branch
+        ensures { λ r. ⌜ r ≡ onB self at ⌝ }
+    {
+        Branch {
+            rules: self.rules,
+            given: self.given,
+            at,
+            count: self.count,
+            depth: self.depth,
+        }
+    }
+
+    // The goal of a ⊸: one entry more in scope.
+    pub fn lent(self) -> Branch
+        requires { ⌜ self .count < 1000 ⌝ }
+        ensures { λ r. ⌜ r ≡ lentB self ⌝ }
+    {
+        Branch {
+            rules: self.rules,
+            given: self.given,
+            at: self.at,
+            count: self.count + 1,
+            depth: self.depth,
+        }
+    }
+
+    // The conditions of an entry in use: one step further, one deeper.
+    pub fn deeper(self) -> Branch
+        requires { ⌜ (self .at < 255) × (1 ≤ self .depth) ⌝ }
+        ensures { λ r. ⌜ r ≡ deeperB self ⌝ }
+    {
+        Branch {
+            rules: self.rules,
+            given: self.given,
+            at: self.at + 1,
+            count: self.count,
+            depth: self.depth - 1,
+        }
+    }
+
+    // 1, ⊤ or a head: no step is taken.
+    pub fn ended(self, slack: bool) -> Summary
+        ensures { λ r. ⌜ r ≡ endedW self slack ⌝ }
+    {
+        Summary {
+            at: self.at,
+            used: LineSet::empty(),
+            slack,
+            alive: true,
+        }
+    }
+}
+
+impl Summary {
+    // Both parts of a ⊗: their shares are apart. The words of both sets are those of the machine.
+    pub fn tensor(self, w: Summary) -> Summary
+        ensures { λ r. ⌜ r ≡ tensorW self w ⌝ }
+        ensures { λ _. ⌜ Words (self .used) × Words (w .used) ⌝ }
+    {
+        let used = self.used;
+        let apart = used.meet(w.used).is_empty();
+        Summary {
+            at: w.at,
+            used: used.join(w.used),
+            slack: either(self.slack, w.slack),
+            alive: both(both(self.alive, w.alive), apart),
+        }
+    }
+
+    // This side of a & covers the other: with slack, or with the items that the other takes.
+    fn covers(self, w: Summary) -> bool
+        ensures { λ r. ⌜ r ≡ coverW self w ⌝ }
+    {
+        let other = w.used;
+        either(self.slack, other.cut(self.used).is_empty())
+    }
+
+    // Both sides of a &: each covers the other. The words of both sets are those of the machine.
+    pub fn beside(self, w: Summary) -> Summary
+        ensures { λ r. ⌜ r ≡ withW self w ⌝ }
+        ensures { λ _. ⌜ Words (self .used) × Words (w .used) ⌝ }
+    {
+        let used = self.used;
+        let agree = both(self.covers(w), w.covers(self));
+        Summary {
+            at: w.at,
+            used: used.join(w.used),
+            slack: both(self.slack, w.slack),
+            alive: both(both(self.alive, w.alive), agree),
+        }
+    }
+
+    // Out of a ⊸: the lent clause was taken, or there is slack; it is no item outside.
+    pub fn without(self, item: usize) -> Summary
+        ensures { λ r. ⌜ r ≡ withoutW self item ⌝ }
+    {
+        let used = self.used;
+        let gone = either(self.slack, used.has(item));
+        Summary {
+            at: self.at,
+            used: used.take(item),
+            slack: self.slack,
+            alive: both(self.alive, gone),
+        }
+    }
+
+    // Behind the use of a line or lent clause: its conditions did not take it.
+    fn using(self, item: usize) -> Summary
+        ensures { λ r. ⌜ r ≡ usingW self item ⌝ }
+    {
+        let used = self.used;
+        let free = !used.has(item);
+        Summary {
+            at: self.at,
+            used: used.add(item),
+            slack: self.slack,
+            alive: both(self.alive, free),
+        }
+    }
+
+    // Behind the use of an entry: a rule stays.
+    pub fn behind(self, gone: bool, rules: usize, e: usize) -> Summary
+        requires { ⌜ (gone ≡ true → rules ≤ e) ⌝ }
+        ensures { λ r. ⌜ r ≡ behindW self gone rules e ⌝ }
+    {
+        if gone {
+            return self.using(e - rules);
+        }
+        self
+    }
+}
+
+// The next step, if it is an entry in scope that can be used for the name.
+pub fn next_step(
+    card: &[u8],
+    steps: &[u8],
+    nodes: &[u16; 256],
+    linear: &[bool; 256],
+    b: Branch,
+    name: usize,
+) -> Step
+    requires { ⌜ Ready (now card) (now steps) (now nodes) (now linear) b ⌝ }
+    ensures { λ r. ⌜ Stepping (now (card .entry)) (now (steps .entry)) (now (nodes .entry)) (now (linear .entry)) b name r ⌝ }
+{
+    let at = b.at;
+    if b.depth == 0 {
+        return Step::Nothing;
+    }
+    if b.given <= at {
+        return Step::Nothing;
+    }
+    let e = byte(steps, at);
+    if b.count <= e {
+        return Step::Nothing;
+    }
+    let node = nodes[e] as usize;
+    let good = scope::usable(card, node, name);
+    if good {
+        return Step::Taken(e);
+    }
+    Step::Nothing
+}

@@ -1,0 +1,890 @@
+-- The walk by its connectives: each call is ready, and each answer tells of the part walked. Nesting left, steps left and node fall.
+use mathlib.Core.Path.{refl, sym, _∙_}
+use native.Mathlib.Omega.{arith}
+use Prim.Native.Nat.{_+_, _*_}
+use mathlib.Core.Bool.{true, false}
+use Rattle.calculus.specs.Formula.{topᴳ, oneᴳ}
+use Rattle.calculus.specs.Inner.Trace.{trace-1, trace-⊤}
+use Rattle.card.proofs.CardChecked.{sound-front}
+use Rattle.card.proofs.NodesDecoded.{reads-rest, reads-done}
+use Rattle.card.proofs.SoundNodes.{clause-lower}
+use Rattle.walk.proofs.CallsAreReady.{weight, rules-below, first-lost, run-lost, run-tensor, run-with, goal-here, done-ends}
+use Rattle.walk.proofs.CallsAreReady.{left-call, right-call, kind-six, tensor-parts, with-parts, tensor-halves, tensor-joins}
+use Rattle.walk.proofs.CallsAreReady.{with-halves, with-joins, lend-room, put-room, lend-call, lend-lost, lend-done, atom-lost}
+use Rattle.walk.proofs.CallsAreReady.{atom-call, atom-done, clause-here, head-ends, recipe-halves, recipe-joins, recipe-call}
+use Rattle.walk.proofs.CallsAreReady.{condition-call, use-call, use-lost, use-done, behind-low}
+use Prim.Native.Nat.{ℕ, _<_}
+use borrow.Fn.Kinds.{In}
+use borrow.Fn.PlainCycle.{Measures, is, falls, and}
+use Rattle.walk.proofs.conditions.Reads as conditions
+use Rattle.walk.proofs.conditions.Kinds as conditions-kinds
+use Rattle.walk.proofs.+conditions+use_clause+walk+walk_atom+walk_lend+walk_tensor+walk_with.Lts-conditions as conditions-lts
+use Rattle.walk.proofs.use_clause.Reads as use-clause
+use Rattle.walk.proofs.use_clause.Kinds as use-clause-kinds
+use Rattle.walk.proofs.+conditions+use_clause+walk+walk_atom+walk_lend+walk_tensor+walk_with.Lts-use_clause as use-clause-lts
+use Rattle.walk.proofs.walk.Reads as walk
+use Rattle.walk.proofs.walk.Kinds as walk-kinds
+use Rattle.walk.proofs.+conditions+use_clause+walk+walk_atom+walk_lend+walk_tensor+walk_with.Lts-walk as walk-lts
+use Rattle.walk.proofs.walk_atom.Reads as walk-atom
+use Rattle.walk.proofs.walk_atom.Kinds as walk-atom-kinds
+use Rattle.walk.proofs.+conditions+use_clause+walk+walk_atom+walk_lend+walk_tensor+walk_with.Lts-walk_atom as walk-atom-lts
+use Rattle.walk.proofs.walk_lend.Reads as walk-lend
+use Rattle.walk.proofs.walk_lend.Kinds as walk-lend-kinds
+use Rattle.walk.proofs.+conditions+use_clause+walk+walk_atom+walk_lend+walk_tensor+walk_with.Lts-walk_lend as walk-lend-lts
+use Rattle.walk.proofs.walk_tensor.Reads as walk-tensor
+use Rattle.walk.proofs.walk_tensor.Kinds as walk-tensor-kinds
+use Rattle.walk.proofs.+conditions+use_clause+walk+walk_atom+walk_lend+walk_tensor+walk_with.Lts-walk_tensor as walk-tensor-lts
+use Rattle.walk.proofs.walk_with.Reads as walk-with
+use Rattle.walk.proofs.walk_with.Kinds as walk-with-kinds
+use Rattle.walk.proofs.+conditions+use_clause+walk+walk_atom+walk_lend+walk_tensor+walk_with.Lts-walk_with as walk-with-lts
+use Rattle.card.proofs.format.kind.Reads as kind-reads
+use Rattle.card.proofs.format.left.Reads as left-reads
+use Rattle.card.proofs.format.right.Reads as right-reads
+use Rattle.scope.proofs.put.Reads as put-reads
+use Rattle.summary.proofs.Branch.deeper.Reads as deeper-reads
+use Rattle.summary.proofs.Branch.ended.Reads as ended-reads
+use Rattle.summary.proofs.Branch.lent.Reads as lent-reads
+use Rattle.summary.proofs.Branch.on.Reads as on-reads
+use Rattle.summary.proofs.Summary.behind.Reads as behind-reads
+use Rattle.summary.proofs.Summary.beside.Reads as beside-reads
+use Rattle.summary.proofs.Summary.tensor.Reads as tensor-reads
+use Rattle.summary.proofs.Summary.without.Reads as without-reads
+use Rattle.summary.proofs.next_step.Reads as next-step-reads
+use Rattle.walk.proofs.+conditions+use_clause+walk+walk_atom+walk_lend+walk_tensor+walk_with.{
+  statement,
+}
+use Rattle.walk.proofs.+conditions+use_clause+walk+walk_atom+walk_lend+walk_tensor+walk_with.Tie.{
+  close,
+}
+
+abbrev μ-conditions : Measures 4 conditions-kinds.ps ℕ
+μ-conditions κs a = weight (a .1 .1 .1 .1 .0) + 4 * (a .1 .1 .1 .1 .1 .1 .0) + 2
+
+abbrev μ-use-clause : Measures 4 use-clause-kinds.ps ℕ
+μ-use-clause κs a = weight (a .1 .1 .1 .1 .0)
+
+abbrev μ-walk : Measures 4 walk-kinds.ps ℕ
+μ-walk κs a = weight (a .1 .1 .1 .1 .0) + 4 * (a .1 .1 .1 .1 .1 .0) + 3
+
+abbrev μ-walk-atom : Measures 4 walk-atom-kinds.ps ℕ
+μ-walk-atom κs a = weight (a .1 .1 .1 .1 .0) + 4 * (a .1 .1 .1 .1 .1 .0) + 2
+
+abbrev μ-walk-lend : Measures 4 walk-lend-kinds.ps ℕ
+μ-walk-lend κs a = weight (a .1 .1 .1 .1 .0) + 4 * (a .1 .1 .1 .1 .1 .0) + 2
+
+abbrev μ-walk-tensor : Measures 4 walk-tensor-kinds.ps ℕ
+μ-walk-tensor κs a = weight (a .1 .1 .1 .1 .0) + 4 * (a .1 .1 .1 .1 .1 .0) + 2
+
+abbrev μ-walk-with : Measures 4 walk-with-kinds.ps ℕ
+μ-walk-with κs a = weight (a .1 .1 .1 .1 .0) + 4 * (a .1 .1 .1 .1 .1 .0) + 2
+
+abbrev conditions-at : ℕ → In 4 conditions-kinds.ps
+conditions-at t = and 4 conditions-kinds.ps (is 4 conditions-kinds.ps μ-conditions t) conditions.Pre
+
+abbrev conditions-below : ℕ → In 4 conditions-kinds.ps
+conditions-below t = and 4 conditions-kinds.ps (falls 4 conditions-kinds.ps _<_ μ-conditions t) conditions.Pre
+
+abbrev use-clause-at : ℕ → In 4 use-clause-kinds.ps
+use-clause-at t = and 4 use-clause-kinds.ps (is 4 use-clause-kinds.ps μ-use-clause t) use-clause.Pre
+
+abbrev use-clause-below : ℕ → In 4 use-clause-kinds.ps
+use-clause-below t = and 4 use-clause-kinds.ps (falls 4 use-clause-kinds.ps _<_ μ-use-clause t) use-clause.Pre
+
+abbrev walk-at : ℕ → In 4 walk-kinds.ps
+walk-at t = and 4 walk-kinds.ps (is 4 walk-kinds.ps μ-walk t) walk.Pre
+
+abbrev walk-below : ℕ → In 4 walk-kinds.ps
+walk-below t = and 4 walk-kinds.ps (falls 4 walk-kinds.ps _<_ μ-walk t) walk.Pre
+
+abbrev walk-atom-at : ℕ → In 4 walk-atom-kinds.ps
+walk-atom-at t = and 4 walk-atom-kinds.ps (is 4 walk-atom-kinds.ps μ-walk-atom t) walk-atom.Pre
+
+abbrev walk-atom-below : ℕ → In 4 walk-atom-kinds.ps
+walk-atom-below t = and 4 walk-atom-kinds.ps (falls 4 walk-atom-kinds.ps _<_ μ-walk-atom t) walk-atom.Pre
+
+abbrev walk-lend-at : ℕ → In 4 walk-lend-kinds.ps
+walk-lend-at t = and 4 walk-lend-kinds.ps (is 4 walk-lend-kinds.ps μ-walk-lend t) walk-lend.Pre
+
+abbrev walk-lend-below : ℕ → In 4 walk-lend-kinds.ps
+walk-lend-below t = and 4 walk-lend-kinds.ps (falls 4 walk-lend-kinds.ps _<_ μ-walk-lend t) walk-lend.Pre
+
+abbrev walk-tensor-at : ℕ → In 4 walk-tensor-kinds.ps
+walk-tensor-at t = and 4 walk-tensor-kinds.ps (is 4 walk-tensor-kinds.ps μ-walk-tensor t) walk-tensor.Pre
+
+abbrev walk-tensor-below : ℕ → In 4 walk-tensor-kinds.ps
+walk-tensor-below t = and 4 walk-tensor-kinds.ps (falls 4 walk-tensor-kinds.ps _<_ μ-walk-tensor t) walk-tensor.Pre
+
+abbrev walk-with-at : ℕ → In 4 walk-with-kinds.ps
+walk-with-at t = and 4 walk-with-kinds.ps (is 4 walk-with-kinds.ps μ-walk-with t) walk-with.Pre
+
+abbrev walk-with-below : ℕ → In 4 walk-with-kinds.ps
+walk-with-below t = and 4 walk-with-kinds.ps (falls 4 walk-with-kinds.ps _<_ μ-walk-with t) walk-with.Pre
+
+abbrev conditions-claims : ℕ → conditions-lts.Claims
+conditions-claims t = (
+  kind-reads.Asked,
+  kind-reads.Learnt,
+  ended-reads.Asked,
+  ended-reads.Learnt,
+  right-reads.Asked,
+  right-reads.Learnt,
+  conditions-below t,
+  conditions.Post,
+  left-reads.Asked,
+  left-reads.Learnt,
+  on-reads.Asked,
+  on-reads.Learnt,
+  walk-below t,
+  walk.Post,
+  tensor-reads.Asked,
+  tensor-reads.Learnt,
+)
+
+abbrev use-clause-claims : ℕ → use-clause-lts.Claims
+use-clause-claims t = (
+  deeper-reads.Asked,
+  deeper-reads.Learnt,
+  conditions-below t,
+  conditions.Post,
+  behind-reads.Asked,
+  behind-reads.Learnt,
+)
+
+abbrev walk-claims : ℕ → walk-lts.Claims
+walk-claims t = (
+  kind-reads.Asked,
+  kind-reads.Learnt,
+  walk-atom-below t,
+  walk-atom.Post,
+  ended-reads.Asked,
+  ended-reads.Learnt,
+  walk-tensor-below t,
+  walk-tensor.Post,
+  walk-with-below t,
+  walk-with.Post,
+  walk-lend-below t,
+  walk-lend.Post,
+)
+
+abbrev walk-atom-claims : ℕ → walk-atom-lts.Claims
+walk-atom-claims t = (
+  left-reads.Asked,
+  left-reads.Learnt,
+  next-step-reads.Asked,
+  next-step-reads.Learnt,
+  use-clause-below t,
+  use-clause.Post,
+)
+
+abbrev walk-lend-claims : ℕ → walk-lend-lts.Claims
+walk-lend-claims t = (
+  left-reads.Asked,
+  left-reads.Learnt,
+  put-reads.Asked,
+  put-reads.Learnt,
+  right-reads.Asked,
+  right-reads.Learnt,
+  lent-reads.Asked,
+  lent-reads.Learnt,
+  walk-below t,
+  walk.Post,
+  without-reads.Asked,
+  without-reads.Learnt,
+)
+
+abbrev walk-tensor-claims : ℕ → walk-tensor-lts.Claims
+walk-tensor-claims t = (
+  left-reads.Asked,
+  left-reads.Learnt,
+  walk-below t,
+  walk.Post,
+  right-reads.Asked,
+  right-reads.Learnt,
+  on-reads.Asked,
+  on-reads.Learnt,
+  tensor-reads.Asked,
+  tensor-reads.Learnt,
+)
+
+abbrev walk-with-claims : ℕ → walk-with-lts.Claims
+walk-with-claims t = (
+  left-reads.Asked,
+  left-reads.Learnt,
+  walk-below t,
+  walk.Post,
+  right-reads.Asked,
+  right-reads.Learnt,
+  on-reads.Asked,
+  on-reads.Learnt,
+  beside-reads.Asked,
+  beside-reads.Learnt,
+)
+
+conditions-kind-requires : (t : ℕ) → conditions-lts.Need-kind-requires (conditions-claims t) (conditions-at t) conditions.Post
+conditions-kind-requires t c κs =
+    let start = c .before .before in
+    clause-here (start .pre .1 .0) _ _ (start .pre .1 .1)
+
+conditions-ended-requires : (t : ℕ) → conditions-lts.Need-ended-requires (conditions-claims t) (conditions-at t) conditions.Post
+conditions-ended-requires t c κs = tt
+
+conditions-returns : (t : ℕ) → conditions-lts.Need-returns (conditions-claims t) (conditions-at t) conditions.Post
+conditions-returns t c =
+    let at-then1 = c .before in
+    let at-kind = at-then1 .before in
+    let start = at-kind .before .before .before in
+    head-ends (start .pre .1 .0) _ _ (start .pre .1 .1) (λ q. at-then1 .if1 .taken (at-kind .kind .ensures .0 ∙ q)) _ (c .ended .ensures)
+
+conditions-right-requires : (t : ℕ) → conditions-lts.Need-right-requires (conditions-claims t) (conditions-at t) conditions.Post
+conditions-right-requires t c κs =
+    let start = c .before .before .before .before in
+    clause-here (start .pre .1 .0) _ _ (start .pre .1 .1)
+
+conditions-conditions-requires : (t : ℕ) → conditions-lts.Need-conditions-requires (conditions-claims t) (conditions-at t) conditions.Post
+conditions-conditions-requires t c κs =
+    let at-right = c .before .before in
+    let at-else1 = at-right .before in
+    let at-kind = at-else1 .before in
+    let start = at-kind .before .before .before in
+    recipe-call (start .pre .1 .0) _ _ (start .pre .1 .1) (sym (at-kind .kind .ensures .0) ∙ at-else1 .if1 .left) t (start .pre .0) _
+    (at-right .right .ensures .0)
+
+conditions-enum-known-first : (t : ℕ) → conditions-lts.Need-enum-known-first (conditions-claims t) (conditions-at t) conditions.Post
+conditions-enum-known-first t c = c .match .keys1
+
+conditions-enum-told : (t : ℕ) → conditions-lts.Need-enum-told (conditions-claims t) (conditions-at t) conditions.Post
+conditions-enum-told t c = c .match .keys2
+
+conditions-returns-2 : (t : ℕ) → conditions-lts.Need-returns-2 (conditions-claims t) (conditions-at t) conditions.Post
+conditions-returns-2 t c =
+    let at-conditions = c .before .before in
+    let at-right = at-conditions .before .before .before in
+    let at-else1 = at-right .before in
+    let at-kind = at-else1 .before in
+    let start = at-kind .before .before .before in
+    first-lost (start .pre .1 .0) (recipe-halves (start .pre .1 .0) _ _ (start .pre .1 .1) (sym (at-kind .kind .ensures .0) ∙ at-else1
+    .if1 .left) _ (at-right .right .ensures .0) _ refl) (c .enum-told .given .1) (at-conditions .conditions .ensures)
+
+conditions-left-requires : (t : ℕ) → conditions-lts.Need-left-requires (conditions-claims t) (conditions-at t) conditions.Post
+conditions-left-requires t c κs =
+    let start = c .before .before .before .before .before .before .before .before .before .before .before in
+    clause-here (start .pre .1 .0) _ _ (start .pre .1 .1)
+
+conditions-on-requires : (t : ℕ) → conditions-lts.Need-on-requires (conditions-claims t) (conditions-at t) conditions.Post
+conditions-on-requires t c κs = tt
+
+conditions-walk-requires : (t : ℕ) → conditions-lts.Need-walk-requires (conditions-claims t) (conditions-at t) conditions.Post
+conditions-walk-requires t c κs =
+    let at-left = c .before .before .before in
+    let at-first = at-left .before .before in
+    let at-conditions = at-first .before .before in
+    let at-else1 = at-conditions .before .before .before .before in
+    let at-kind = at-else1 .before in
+    let start = at-kind .before .before .before in
+    condition-call (start .pre .1 .0) _ _ (start .pre .1 .1) (sym (at-kind .kind .ensures .0) ∙ at-else1 .if1 .left) _ (at-first .first
+    .given .1) (at-conditions .conditions .ensures) t (start .pre .0) _ (at-left .left .ensures .0) _ (c .on .ensures)
+
+conditions-enum-known-second : (t : ℕ) → conditions-lts.Need-enum-known-second (conditions-claims t) (conditions-at t) conditions.Post
+conditions-enum-known-second t c = c .match2 .keys1
+
+conditions-enum-told-2 : (t : ℕ) → conditions-lts.Need-enum-told-2 (conditions-claims t) (conditions-at t) conditions.Post
+conditions-enum-told-2 t c = c .match2 .keys2
+
+conditions-returns-3 : (t : ℕ) → conditions-lts.Need-returns-3 (conditions-claims t) (conditions-at t) conditions.Post
+conditions-returns-3 t c =
+    let at-walk = c .before .before in
+    let at-on = at-walk .before in
+    let at-left = at-on .before .before .before in
+    let at-first = at-left .before .before in
+    let at-conditions = at-first .before .before in
+    let at-right = at-conditions .before .before .before in
+    let at-else1 = at-right .before in
+    let at-kind = at-else1 .before in
+    let start = at-kind .before .before .before in
+    run-lost (start .pre .1 .0) _ (at-first .first .given .1) (at-conditions .conditions .ensures) _ (at-on .on .ensures) (at-walk .walk
+    .ensures) (recipe-halves (start .pre .1 .0) _ _ (start .pre .1 .1) (sym (at-kind .kind .ensures .0) ∙ at-else1 .if1 .left) _
+    (at-right .right .ensures .0) _ (at-left .left .ensures .0)) (c .enum-told2 .given .1)
+
+conditions-tensor-requires : (t : ℕ) → conditions-lts.Need-tensor-requires (conditions-claims t) (conditions-at t) conditions.Post
+conditions-tensor-requires t c κs = tt
+
+conditions-returns-4 : (t : ℕ) → conditions-lts.Need-returns-4 (conditions-claims t) (conditions-at t) conditions.Post
+conditions-returns-4 t c =
+    let at-second = c .before .before in
+    let at-walk = at-second .before .before in
+    let at-on = at-walk .before in
+    let at-left = at-on .before .before .before in
+    let at-first = at-left .before .before in
+    let at-conditions = at-first .before .before in
+    let at-right = at-conditions .before .before .before in
+    let at-else1 = at-right .before in
+    let at-kind = at-else1 .before in
+    let start = at-kind .before .before .before in
+    run-tensor (start .pre .1 .0) _ (at-first .first .given .1) (at-conditions .conditions .ensures) _ (at-on .on .ensures) (at-walk
+    .walk .ensures) _ (at-second .second .given .1) (c .tensor .ensures .1 .0) (c .tensor .ensures .1 .1) _ (c .tensor .ensures .0)
+    (recipe-joins (start .pre .1 .0) _ _ (start .pre .1 .1) (sym (at-kind .kind .ensures .0) ∙ at-else1 .if1 .left) _ (at-right .right
+    .ensures .0) _ (at-left .left .ensures .0))
+
+use-clause-mul-node : (t : ℕ) → use-clause-lts.Need-mul-node (use-clause-claims t) (use-clause-at t) use-clause.Post
+use-clause-mul-node t c =
+    let start = c .before .before in
+    let few = start .pre .1 .0 .few in
+    let in-it = start .pre .1 .1 .0 .inside in
+    let f = sound-front _ (start .pre .1 .0 .sound) in
+    omega (arith, few, in-it, f .rules, f .lines)
+
+use-clause-element-copy-out-node : (t : ℕ) → use-clause-lts.Need-element-copy-out-node (use-clause-claims t) (use-clause-at t) use-clause.Post
+use-clause-element-copy-out-node t c =
+    let start = c .before .before in
+    let few = start .pre .1 .0 .few in
+    let in-it = start .pre .1 .1 .0 .inside in
+    let f = sound-front _ (start .pre .1 .0 .sound) in
+    omega (arith, few, in-it, f .rules, f .lines)
+
+use-clause-cast-node : (t : ℕ) → use-clause-lts.Need-cast-node (use-clause-claims t) (use-clause-at t) use-clause.Post
+use-clause-cast-node t c =
+    let start = c .before .before .before in
+    let low = clause-lower _ _ _ (start .pre .1 .0 .entered .clauses _ (start .pre .1 .1 .0 .inside)) in
+    let f = sound-front _ (start .pre .1 .0 .sound) in
+    omega (arith, low, f .few)
+
+use-clause-element-copy-out-gone : (t : ℕ) → use-clause-lts.Need-element-copy-out-gone (use-clause-claims t) (use-clause-at t) use-clause.Post
+use-clause-element-copy-out-gone t c =
+    let start = c .before .before .before in
+    let few = start .pre .1 .0 .few in
+    let in-it = start .pre .1 .1 .0 .inside in
+    let f = sound-front _ (start .pre .1 .0 .sound) in
+    omega (arith, few, in-it, f .rules, f .lines)
+
+use-clause-deeper-requires : (t : ℕ) → use-clause-lts.Need-deeper-requires (use-clause-claims t) (use-clause-at t) use-clause.Post
+use-clause-deeper-requires t c κs =
+    let start = c .before .before .before .before .before .before in
+    let room = start .pre .1 .1 .0 .room in
+    let short = start .pre .1 .0 .short in
+    (omega (arith, room, short), start .pre .1 .1 .0 .deep)
+
+use-clause-conditions-requires : (t : ℕ) → use-clause-lts.Need-conditions-requires (use-clause-claims t) (use-clause-at t) use-clause.Post
+use-clause-conditions-requires t c κs =
+    let start = c .before .before .before .before .before .before .before in
+    use-call (start .pre .1 .0) _ _ (start .pre .1 .1 .0) (start .pre .1 .1 .1) t (start .pre .0) _ refl _ (c .deeper .ensures)
+
+use-clause-enum-known-inner : (t : ℕ) → use-clause-lts.Need-enum-known-inner (use-clause-claims t) (use-clause-at t) use-clause.Post
+use-clause-enum-known-inner t c = c .match .keys1
+
+use-clause-enum-told : (t : ℕ) → use-clause-lts.Need-enum-told (use-clause-claims t) (use-clause-at t) use-clause.Post
+use-clause-enum-told t c = c .match .keys2
+
+use-clause-returns : (t : ℕ) → use-clause-lts.Need-returns (use-clause-claims t) (use-clause-at t) use-clause.Post
+use-clause-returns t c =
+    let at-conditions = c .before .before in
+    let at-deeper = at-conditions .before in
+    let start = at-deeper .before .before .before .before .before .before .before in
+    use-lost (start .pre .1 .0) _ _ (start .pre .1 .1 .0) _ refl _ (at-deeper .deeper .ensures) (at-conditions .conditions .ensures) (c
+    .enum-told .given .1)
+
+use-clause-behind-requires : (t : ℕ) → use-clause-lts.Need-behind-requires (use-clause-claims t) (use-clause-at t) use-clause.Post
+use-clause-behind-requires t c κs =
+    let start = c .before .before .before .before .before .before .before .before .before .before .before in
+    behind-low (start .pre .1 .0) _ _ (start .pre .1 .1 .0) _ refl
+
+use-clause-returns-2 : (t : ℕ) → use-clause-lts.Need-returns-2 (use-clause-claims t) (use-clause-at t) use-clause.Post
+use-clause-returns-2 t c =
+    let at-inner = c .before .before in
+    let at-conditions = at-inner .before .before in
+    let at-deeper = at-conditions .before in
+    let start = at-deeper .before .before .before .before .before .before .before in
+    use-done (start .pre .1 .0) _ _ (start .pre .1 .1 .0) _ refl _ (at-deeper .deeper .ensures) (at-conditions .conditions .ensures) _ _
+    (at-inner .inner .given .1) _ refl (c .behind .ensures)
+
+walk-kind-requires : (t : ℕ) → walk-lts.Need-kind-requires (walk-claims t) (walk-at t) walk.Post
+walk-kind-requires t c κs =
+    let start = c .before .before in
+    goal-here (start .pre .1 .0) _ (start .pre .1 .1)
+
+walk-walk-atom-requires : (t : ℕ) → walk-lts.Need-walk-atom-requires (walk-claims t) (walk-at t) walk.Post
+walk-walk-atom-requires t c κs =
+    let at-match-keys1 = c .before .before in
+    let at-kind = at-match-keys1 .before in
+    let start = at-kind .before .before .before in (
+      omega (arith, (start .pre .0)),
+      (
+        (start .pre .1 .0),
+        (
+          (start .pre .1 .1),
+          sym (at-kind .kind .ensures .0) ∙ at-match-keys1 .match
+              .keys1,
+        ),
+      ),
+    )
+
+walk-ended-requires : (t : ℕ) → walk-lts.Need-ended-requires (walk-claims t) (walk-at t) walk.Post
+walk-ended-requires t c κs = tt
+
+walk-ended-requires-2 : (t : ℕ) → walk-lts.Need-ended-requires-2 (walk-claims t) (walk-at t) walk.Post
+walk-ended-requires-2 t c κs = tt
+
+walk-walk-tensor-requires : (t : ℕ) → walk-lts.Need-walk-tensor-requires (walk-claims t) (walk-at t) walk.Post
+walk-walk-tensor-requires t c κs =
+    let at-match-keys4 = c .before .before in
+    let at-kind = at-match-keys4 .before in
+    let start = at-kind .before .before .before in (
+      omega (arith, (start .pre .0)),
+      (
+        (start .pre .1 .0),
+        (
+          (start .pre .1 .1),
+          sym (at-kind .kind .ensures .0) ∙ at-match-keys4 .match
+              .keys4,
+        ),
+      ),
+    )
+
+walk-walk-with-requires : (t : ℕ) → walk-lts.Need-walk-with-requires (walk-claims t) (walk-at t) walk.Post
+walk-walk-with-requires t c κs =
+    let at-match-keys5 = c .before .before in
+    let at-kind = at-match-keys5 .before in
+    let start = at-kind .before .before .before in (
+      omega (arith, (start .pre .0)),
+      (
+        (start .pre .1 .0),
+        (
+          (start .pre .1 .1),
+          sym (at-kind .kind .ensures .0) ∙ at-match-keys5 .match
+              .keys5,
+        ),
+      ),
+    )
+
+walk-walk-lend-requires : (t : ℕ) → walk-lts.Need-walk-lend-requires (walk-claims t) (walk-at t) walk.Post
+walk-walk-lend-requires t c κs =
+    let at-match-rest = c .before .before in
+    let at-kind = at-match-rest .before in
+    let start = at-kind .before .before .before in (
+      omega (arith, (start .pre .0)),
+      (
+        (start .pre .1 .0),
+        (
+          (start .pre .1 .1),
+          kind-six (start .pre .1 .0) _ (start .pre .1 .1) (λ q.
+              at-match-rest .match .rest .0 .0 .0 .0 .1 (at-kind .kind .ensures .0 ∙ q)) (λ q. at-match-rest .match .rest .0 .0 .0 .1 (at-kind
+              .kind .ensures .0 ∙ q)) (λ q. at-match-rest .match .rest .0 .0 .1 (at-kind .kind .ensures .0 ∙ q)) (λ q. at-match-rest .match .rest
+              .0 .1 (at-kind .kind .ensures .0 ∙ q)) (λ q. at-match-rest .match .rest .1 (at-kind .kind .ensures .0 ∙ q)),
+        ),
+      ),
+    )
+
+walk-returns : (t : ℕ) → walk-lts.Need-returns (walk-claims t) (walk-at t) walk.Post
+walk-returns t c = c .walk-atom .ensures
+
+walk-returns-2 : (t : ℕ) → walk-lts.Need-returns-2 (walk-claims t) (walk-at t) walk.Post
+walk-returns-2 t c =
+    let at-match-keys2 = c .before in
+    let at-kind = at-match-keys2 .before in
+    let start = at-kind .before .before .before in
+    done-ends (start .pre .1 .0) _ (start .pre .1 .1) true topᴳ (reads-rest _ _ (sym (at-kind .kind .ensures .0) ∙ at-match-keys2 .match
+    .keys2) .0) (λ w e. trace-⊤ e) _ (c .ended .ensures)
+
+walk-returns-3 : (t : ℕ) → walk-lts.Need-returns-3 (walk-claims t) (walk-at t) walk.Post
+walk-returns-3 t c =
+    let at-match-keys3 = c .before in
+    let at-kind = at-match-keys3 .before in
+    let start = at-kind .before .before .before in
+    done-ends (start .pre .1 .0) _ (start .pre .1 .1) false oneᴳ (reads-done _ _ (sym (at-kind .kind .ensures .0) ∙ at-match-keys3 .match
+    .keys3)) (λ w e. trace-1 e) _ (c .ended2 .ensures)
+
+walk-returns-4 : (t : ℕ) → walk-lts.Need-returns-4 (walk-claims t) (walk-at t) walk.Post
+walk-returns-4 t c = c .walk-tensor .ensures
+
+walk-returns-5 : (t : ℕ) → walk-lts.Need-returns-5 (walk-claims t) (walk-at t) walk.Post
+walk-returns-5 t c = c .walk-with .ensures
+
+walk-returns-6 : (t : ℕ) → walk-lts.Need-returns-6 (walk-claims t) (walk-at t) walk.Post
+walk-returns-6 t c = c .walk-lend .ensures
+
+walk-atom-left-requires : (t : ℕ) → walk-atom-lts.Need-left-requires (walk-atom-claims t) (walk-atom-at t) walk-atom.Post
+walk-atom-left-requires t c κs =
+    let start = c .before .before in
+    goal-here (start .pre .1 .0) _ (start .pre .1 .1 .0)
+
+walk-atom-next-step-requires : (t : ℕ) → walk-atom-lts.Need-next-step-requires (walk-atom-claims t) (walk-atom-at t) walk-atom.Post
+walk-atom-next-step-requires t c κs =
+    let start = c .before .before .before .before .before in
+    (start .pre .1 .0)
+
+walk-atom-enum-known-next : (t : ℕ) → walk-atom-lts.Need-enum-known-next (walk-atom-claims t) (walk-atom-at t) walk-atom.Post
+walk-atom-enum-known-next t c = c .match .keys1
+
+walk-atom-enum-told : (t : ℕ) → walk-atom-lts.Need-enum-told (walk-atom-claims t) (walk-atom-at t) walk-atom.Post
+walk-atom-enum-told t c = c .match .keys2
+
+walk-atom-returns : (t : ℕ) → walk-atom-lts.Need-returns (walk-atom-claims t) (walk-atom-at t) walk-atom.Post
+walk-atom-returns t c =
+    let at-next-step = c .before .before in
+    let at-left = at-next-step .before .before .before in
+    let start = at-left .before .before .before in
+    atom-lost (start .pre .1 .0) _ (start .pre .1 .1 .0) (start .pre .1 .1 .1) _ (at-left .left .ensures .0) (at-next-step .next-step
+    .ensures) (c .enum-told .given .1)
+
+walk-atom-use-clause-requires : (t : ℕ) → walk-atom-lts.Need-use-clause-requires (walk-atom-claims t) (walk-atom-at t) walk-atom.Post
+walk-atom-use-clause-requires t c κs =
+    let at-next = c .before .before .before in
+    let at-next-step = at-next .before .before in
+    let at-left = at-next-step .before .before .before in
+    let start = at-left .before .before .before in
+    atom-call (start .pre .1 .0) _ (start .pre .1 .1 .0) (start .pre .1 .1 .1) _ (at-left .left .ensures .0) (at-next-step .next-step
+    .ensures) _ (at-next .next .given .1) t (start .pre .0)
+
+walk-atom-returns-2 : (t : ℕ) → walk-atom-lts.Need-returns-2 (walk-atom-claims t) (walk-atom-at t) walk-atom.Post
+walk-atom-returns-2 t c =
+    let at-left = c .before .before .before .before .before .before .before .before .before in
+    let start = at-left .before .before .before in
+    atom-done (start .pre .1 .0) _ (start .pre .1 .1 .0) (start .pre .1 .1 .1) _ (at-left .left .ensures .0) (c .use-clause .ensures)
+
+walk-lend-left-requires : (t : ℕ) → walk-lend-lts.Need-left-requires (walk-lend-claims t) (walk-lend-at t) walk-lend.Post
+walk-lend-left-requires t c κs =
+    let start = c .before .before .before .before in
+    goal-here (start .pre .1 .0) _ (start .pre .1 .1 .0)
+
+walk-lend-put-requires : (t : ℕ) → walk-lend-lts.Need-put-requires (walk-lend-claims t) (walk-lend-at t) walk-lend.Post
+walk-lend-put-requires t c κs =
+    let at-left = c in
+    let start = at-left .before .before .before .before .before in
+    let q = put-room (start .pre .1 .0) _ (start .pre .1 .1 .0) (start .pre .1 .1 .1) in
+    ((q .0, at-left .left .ensures .1), q .1)
+
+walk-lend-sub-item : (t : ℕ) → walk-lend-lts.Need-sub-item (walk-lend-claims t) (walk-lend-at t) walk-lend.Post
+walk-lend-sub-item t c =
+    let start = c .before .before .before .before .before .before .before in
+    rules-below (start .pre .1 .0)
+
+walk-lend-right-requires : (t : ℕ) → walk-lend-lts.Need-right-requires (walk-lend-claims t) (walk-lend-at t) walk-lend.Post
+walk-lend-right-requires t c κs =
+    let start = c .before .before .before .before .before .before .before in
+    goal-here (start .pre .1 .0) _ (start .pre .1 .1 .0)
+
+walk-lend-lent-requires : (t : ℕ) → walk-lend-lts.Need-lent-requires (walk-lend-claims t) (walk-lend-at t) walk-lend.Post
+walk-lend-lent-requires t c κs =
+    let start = c .before .before .before .before .before .before .before .before .before .before in
+    let q = put-room (start .pre .1 .0) _ (start .pre .1 .1 .0) (start .pre .1 .1 .1) in
+    omega (arith, q .0)
+
+walk-lend-walk-requires : (t : ℕ) → walk-lend-lts.Need-walk-requires (walk-lend-claims t) (walk-lend-at t) walk-lend.Post
+walk-lend-walk-requires t c κs =
+    let at-lent = c in
+    let at-right = at-lent .before .before .before in
+    let at-put = at-right .before .before in
+    let at-left = at-put .before in
+    let start = at-left .before .before .before .before .before in
+    lend-call (start .pre .1 .0) _ (start .pre .1 .1 .0) (start .pre .1 .1 .1) _ (at-left .left .ensures .0) (at-put .put .ensures .0)
+    (at-put .put .ensures .1) _ (at-lent .lent .ensures) t (start .pre .0) _ (at-right .right .ensures .0)
+
+walk-lend-enum-known-inner : (t : ℕ) → walk-lend-lts.Need-enum-known-inner (walk-lend-claims t) (walk-lend-at t) walk-lend.Post
+walk-lend-enum-known-inner t c = c .match .keys1
+
+walk-lend-enum-told : (t : ℕ) → walk-lend-lts.Need-enum-told (walk-lend-claims t) (walk-lend-at t) walk-lend.Post
+walk-lend-enum-told t c = c .match .keys2
+
+walk-lend-returns : (t : ℕ) → walk-lend-lts.Need-returns (walk-lend-claims t) (walk-lend-at t) walk-lend.Post
+walk-lend-returns t c =
+    let at-walk = c .before .before in
+    let at-lent = at-walk .before in
+    let at-right = at-lent .before .before .before in
+    let at-put = at-right .before .before in
+    let at-left = at-put .before in
+    let start = at-left .before .before .before .before .before in
+    lend-lost (start .pre .1 .0) _ (start .pre .1 .1 .0) (start .pre .1 .1 .1) _ (at-left .left .ensures .0) (at-put .put .ensures .0)
+    (at-put .put .ensures .1) _ (at-lent .lent .ensures) _ (at-right .right .ensures .0) (at-walk .walk .ensures) (c .enum-told .given .1)
+
+walk-lend-without-requires : (t : ℕ) → walk-lend-lts.Need-without-requires (walk-lend-claims t) (walk-lend-at t) walk-lend.Post
+walk-lend-without-requires t c κs = tt
+
+walk-lend-returns-2 : (t : ℕ) → walk-lend-lts.Need-returns-2 (walk-lend-claims t) (walk-lend-at t) walk-lend.Post
+walk-lend-returns-2 t c =
+    let at-inner = c .before .before in
+    let at-walk = at-inner .before .before in
+    let at-lent = at-walk .before in
+    let at-right = at-lent .before .before .before in
+    let at-put = at-right .before .before in
+    let at-left = at-put .before in
+    let start = at-left .before .before .before .before .before in
+    lend-done (start .pre .1 .0) _ (start .pre .1 .1 .0) (start .pre .1 .1 .1) _ (at-left .left .ensures .0) (at-put .put .ensures .0)
+    (at-put .put .ensures .1) _ (at-lent .lent .ensures) _ (at-right .right .ensures .0) (at-walk .walk .ensures) _ _ (at-inner .inner
+    .given .1) (c .without .ensures)
+
+walk-tensor-left-requires : (t : ℕ) → walk-tensor-lts.Need-left-requires (walk-tensor-claims t) (walk-tensor-at t) walk-tensor.Post
+walk-tensor-left-requires t c κs =
+    let start = c .before .before in
+    goal-here (start .pre .1 .0) _ (start .pre .1 .1 .0)
+
+walk-tensor-walk-requires : (t : ℕ) → walk-tensor-lts.Need-walk-requires (walk-tensor-claims t) (walk-tensor-at t) walk-tensor.Post
+walk-tensor-walk-requires t c κs =
+    let at-left = c .before .before in
+    let start = at-left .before .before .before in
+    let parts = tensor-parts (start .pre .1 .0) _ (start .pre .1 .1 .0) (start .pre .1 .1 .1) in
+    left-call (start .pre .1 .0) _ (start .pre .1 .1 .0) (parts .0) (parts .1) (parts .2) t (start .pre .0) _ (at-left .left .ensures .0)
+
+walk-tensor-enum-known-first : (t : ℕ) → walk-tensor-lts.Need-enum-known-first (walk-tensor-claims t) (walk-tensor-at t) walk-tensor.Post
+walk-tensor-enum-known-first t c = c .match .keys1
+
+walk-tensor-enum-told : (t : ℕ) → walk-tensor-lts.Need-enum-told (walk-tensor-claims t) (walk-tensor-at t) walk-tensor.Post
+walk-tensor-enum-told t c = c .match .keys2
+
+walk-tensor-returns : (t : ℕ) → walk-tensor-lts.Need-returns (walk-tensor-claims t) (walk-tensor-at t) walk-tensor.Post
+walk-tensor-returns t c =
+    let at-walk = c .before .before in
+    let at-left = at-walk .before .before .before in
+    let start = at-left .before .before .before in
+    first-lost (start .pre .1 .0) (tensor-halves (start .pre .1 .0) _ (start .pre .1 .1 .0) _ (at-left .left .ensures .0) _ refl (start
+    .pre .1 .1 .1)) (c .enum-told .given .1) (at-walk .walk .ensures)
+
+walk-tensor-right-requires : (t : ℕ) → walk-tensor-lts.Need-right-requires (walk-tensor-claims t) (walk-tensor-at t) walk-tensor.Post
+walk-tensor-right-requires t c κs =
+    let start = c .before .before .before .before .before .before .before .before .before in
+    goal-here (start .pre .1 .0) _ (start .pre .1 .1 .0)
+
+walk-tensor-on-requires : (t : ℕ) → walk-tensor-lts.Need-on-requires (walk-tensor-claims t) (walk-tensor-at t) walk-tensor.Post
+walk-tensor-on-requires t c κs = tt
+
+walk-tensor-walk-requires-2 : (t : ℕ) → walk-tensor-lts.Need-walk-requires-2 (walk-tensor-claims t) (walk-tensor-at t) walk-tensor.Post
+walk-tensor-walk-requires-2 t c κs =
+    let at-right = c .before .before .before in
+    let at-first = at-right .before .before in
+    let at-walk = at-first .before .before in
+    let start = at-walk .before .before .before .before .before .before in
+    let parts = tensor-parts (start .pre .1 .0) _ (start .pre .1 .1 .0) (start .pre .1 .1 .1) in
+    right-call (start .pre .1 .0) _ (start .pre .1 .1 .0) (parts .0) (parts .1) (parts .2) _ (at-first .first .given .1) (at-walk .walk
+    .ensures) t (start .pre .0) _ (at-right .right .ensures .0) _ (c .on .ensures)
+
+walk-tensor-enum-known-second : (t : ℕ) → walk-tensor-lts.Need-enum-known-second (walk-tensor-claims t) (walk-tensor-at t) walk-tensor.Post
+walk-tensor-enum-known-second t c = c .match2 .keys1
+
+walk-tensor-enum-told-2 : (t : ℕ) → walk-tensor-lts.Need-enum-told-2 (walk-tensor-claims t) (walk-tensor-at t) walk-tensor.Post
+walk-tensor-enum-told-2 t c = c .match2 .keys2
+
+walk-tensor-returns-2 : (t : ℕ) → walk-tensor-lts.Need-returns-2 (walk-tensor-claims t) (walk-tensor-at t) walk-tensor.Post
+walk-tensor-returns-2 t c =
+    let at-walk2 = c .before .before in
+    let at-on = at-walk2 .before in
+    let at-right = at-on .before .before .before in
+    let at-first = at-right .before .before in
+    let at-walk = at-first .before .before in
+    let at-left = at-walk .before .before .before in
+    let start = at-left .before .before .before in
+    run-lost (start .pre .1 .0) _ (at-first .first .given .1) (at-walk .walk .ensures) _ (at-on .on .ensures) (at-walk2 .walk2 .ensures)
+    (tensor-halves (start .pre .1 .0) _ (start .pre .1 .1 .0) _ (at-left .left .ensures .0) _ (at-right .right .ensures .0) (start .pre
+    .1 .1 .1)) (c .enum-told2 .given .1)
+
+walk-tensor-tensor-requires : (t : ℕ) → walk-tensor-lts.Need-tensor-requires (walk-tensor-claims t) (walk-tensor-at t) walk-tensor.Post
+walk-tensor-tensor-requires t c κs = tt
+
+walk-tensor-returns-3 : (t : ℕ) → walk-tensor-lts.Need-returns-3 (walk-tensor-claims t) (walk-tensor-at t) walk-tensor.Post
+walk-tensor-returns-3 t c =
+    let at-second = c .before .before in
+    let at-walk2 = at-second .before .before in
+    let at-on = at-walk2 .before in
+    let at-right = at-on .before .before .before in
+    let at-first = at-right .before .before in
+    let at-walk = at-first .before .before in
+    let at-left = at-walk .before .before .before in
+    let start = at-left .before .before .before in
+    run-tensor (start .pre .1 .0) _ (at-first .first .given .1) (at-walk .walk .ensures) _ (at-on .on .ensures) (at-walk2 .walk2
+    .ensures) _ (at-second .second .given .1) (c .tensor .ensures .1 .0) (c .tensor .ensures .1 .1) _ (c .tensor .ensures .0)
+    (tensor-joins (start .pre .1 .0) _ (start .pre .1 .1 .0) _ (at-left .left .ensures .0) _ (at-right .right .ensures .0) (start .pre .1
+    .1 .1))
+
+walk-with-left-requires : (t : ℕ) → walk-with-lts.Need-left-requires (walk-with-claims t) (walk-with-at t) walk-with.Post
+walk-with-left-requires t c κs =
+    let start = c .before .before in
+    goal-here (start .pre .1 .0) _ (start .pre .1 .1 .0)
+
+walk-with-walk-requires : (t : ℕ) → walk-with-lts.Need-walk-requires (walk-with-claims t) (walk-with-at t) walk-with.Post
+walk-with-walk-requires t c κs =
+    let at-left = c .before .before in
+    let start = at-left .before .before .before in
+    let parts = with-parts (start .pre .1 .0) _ (start .pre .1 .1 .0) (start .pre .1 .1 .1) in
+    left-call (start .pre .1 .0) _ (start .pre .1 .1 .0) (parts .0) (parts .1) (parts .2) t (start .pre .0) _ (at-left .left .ensures .0)
+
+walk-with-enum-known-first : (t : ℕ) → walk-with-lts.Need-enum-known-first (walk-with-claims t) (walk-with-at t) walk-with.Post
+walk-with-enum-known-first t c = c .match .keys1
+
+walk-with-enum-told : (t : ℕ) → walk-with-lts.Need-enum-told (walk-with-claims t) (walk-with-at t) walk-with.Post
+walk-with-enum-told t c = c .match .keys2
+
+walk-with-returns : (t : ℕ) → walk-with-lts.Need-returns (walk-with-claims t) (walk-with-at t) walk-with.Post
+walk-with-returns t c =
+    let at-walk = c .before .before in
+    let at-left = at-walk .before .before .before in
+    let start = at-left .before .before .before in
+    first-lost (start .pre .1 .0) (with-halves (start .pre .1 .0) _ (start .pre .1 .1 .0) _ (at-left .left .ensures .0) _ refl (start
+    .pre .1 .1 .1)) (c .enum-told .given .1) (at-walk .walk .ensures)
+
+walk-with-right-requires : (t : ℕ) → walk-with-lts.Need-right-requires (walk-with-claims t) (walk-with-at t) walk-with.Post
+walk-with-right-requires t c κs =
+    let start = c .before .before .before .before .before .before .before .before .before in
+    goal-here (start .pre .1 .0) _ (start .pre .1 .1 .0)
+
+walk-with-on-requires : (t : ℕ) → walk-with-lts.Need-on-requires (walk-with-claims t) (walk-with-at t) walk-with.Post
+walk-with-on-requires t c κs = tt
+
+walk-with-walk-requires-2 : (t : ℕ) → walk-with-lts.Need-walk-requires-2 (walk-with-claims t) (walk-with-at t) walk-with.Post
+walk-with-walk-requires-2 t c κs =
+    let at-right = c .before .before .before in
+    let at-first = at-right .before .before in
+    let at-walk = at-first .before .before in
+    let start = at-walk .before .before .before .before .before .before in
+    let parts = with-parts (start .pre .1 .0) _ (start .pre .1 .1 .0) (start .pre .1 .1 .1) in
+    right-call (start .pre .1 .0) _ (start .pre .1 .1 .0) (parts .0) (parts .1) (parts .2) _ (at-first .first .given .1) (at-walk .walk
+    .ensures) t (start .pre .0) _ (at-right .right .ensures .0) _ (c .on .ensures)
+
+walk-with-enum-known-second : (t : ℕ) → walk-with-lts.Need-enum-known-second (walk-with-claims t) (walk-with-at t) walk-with.Post
+walk-with-enum-known-second t c = c .match2 .keys1
+
+walk-with-enum-told-2 : (t : ℕ) → walk-with-lts.Need-enum-told-2 (walk-with-claims t) (walk-with-at t) walk-with.Post
+walk-with-enum-told-2 t c = c .match2 .keys2
+
+walk-with-returns-2 : (t : ℕ) → walk-with-lts.Need-returns-2 (walk-with-claims t) (walk-with-at t) walk-with.Post
+walk-with-returns-2 t c =
+    let at-walk2 = c .before .before in
+    let at-on = at-walk2 .before in
+    let at-right = at-on .before .before .before in
+    let at-first = at-right .before .before in
+    let at-walk = at-first .before .before in
+    let at-left = at-walk .before .before .before in
+    let start = at-left .before .before .before in
+    run-lost (start .pre .1 .0) _ (at-first .first .given .1) (at-walk .walk .ensures) _ (at-on .on .ensures) (at-walk2 .walk2 .ensures)
+    (with-halves (start .pre .1 .0) _ (start .pre .1 .1 .0) _ (at-left .left .ensures .0) _ (at-right .right .ensures .0) (start .pre .1
+    .1 .1)) (c .enum-told2 .given .1)
+
+walk-with-beside-requires : (t : ℕ) → walk-with-lts.Need-beside-requires (walk-with-claims t) (walk-with-at t) walk-with.Post
+walk-with-beside-requires t c κs = tt
+
+walk-with-returns-3 : (t : ℕ) → walk-with-lts.Need-returns-3 (walk-with-claims t) (walk-with-at t) walk-with.Post
+walk-with-returns-3 t c =
+    let at-second = c .before .before in
+    let at-walk2 = at-second .before .before in
+    let at-on = at-walk2 .before in
+    let at-right = at-on .before .before .before in
+    let at-first = at-right .before .before in
+    let at-walk = at-first .before .before in
+    let at-left = at-walk .before .before .before in
+    let start = at-left .before .before .before in
+    run-with (start .pre .1 .0) _ (at-first .first .given .1) (at-walk .walk .ensures) _ (at-on .on .ensures) (at-walk2 .walk2 .ensures)
+    _ (at-second .second .given .1) (c .beside .ensures .1 .0) (c .beside .ensures .1 .1) _ (c .beside .ensures .0) (with-joins (start
+    .pre .1 .0) _ (start .pre .1 .1 .0) _ (at-left .left .ensures .0) _ (at-right .right .ensures .0) (start .pre .1 .1 .1))
+
+pub +conditions+use-clause+walk+walk-atom+walk-lend+walk-tensor+walk-with-spec :
+    {M : Type 1} → statement M
++conditions+use-clause+walk+walk-atom+walk-lend+walk-tensor+walk-with-spec =
+    close
+    μ-conditions
+    μ-use-clause
+    μ-walk
+    μ-walk-atom
+    μ-walk-lend
+    μ-walk-tensor
+    μ-walk-with
+    (λ t. conditions-lts.spec (conditions-claims t)
+    (conditions-at t)
+    conditions.Post
+    (conditions-kind-requires t)
+    (conditions-ended-requires t)
+    (conditions-returns t)
+    (conditions-right-requires t)
+    (conditions-conditions-requires t)
+    (conditions-enum-known-first t)
+    (conditions-enum-told t)
+    (conditions-returns-2 t)
+    (conditions-left-requires t)
+    (conditions-on-requires t)
+    (conditions-walk-requires t)
+    (conditions-enum-known-second t)
+    (conditions-enum-told-2 t)
+    (conditions-returns-3 t)
+    (conditions-tensor-requires t)
+    (conditions-returns-4 t))
+    (λ t. use-clause-lts.spec (use-clause-claims t)
+    (use-clause-at t)
+    use-clause.Post
+    (use-clause-mul-node t)
+    (use-clause-element-copy-out-node t)
+    (use-clause-cast-node t)
+    (use-clause-element-copy-out-gone t)
+    (use-clause-deeper-requires t)
+    (use-clause-conditions-requires t)
+    (use-clause-enum-known-inner t)
+    (use-clause-enum-told t)
+    (use-clause-returns t)
+    (use-clause-behind-requires t)
+    (use-clause-returns-2 t))
+    (λ t. walk-lts.spec (walk-claims t)
+    (walk-at t)
+    walk.Post
+    (walk-kind-requires t)
+    (walk-walk-atom-requires t)
+    (walk-ended-requires t)
+    (walk-ended-requires-2 t)
+    (walk-walk-tensor-requires t)
+    (walk-walk-with-requires t)
+    (walk-walk-lend-requires t)
+    (walk-returns t)
+    (walk-returns-2 t)
+    (walk-returns-3 t)
+    (walk-returns-4 t)
+    (walk-returns-5 t)
+    (walk-returns-6 t))
+    (λ t. walk-atom-lts.spec (walk-atom-claims t)
+    (walk-atom-at t)
+    walk-atom.Post
+    (walk-atom-left-requires t)
+    (walk-atom-next-step-requires t)
+    (walk-atom-enum-known-next t)
+    (walk-atom-enum-told t)
+    (walk-atom-returns t)
+    (walk-atom-use-clause-requires t)
+    (walk-atom-returns-2 t))
+    (λ t. walk-lend-lts.spec (walk-lend-claims t)
+    (walk-lend-at t)
+    walk-lend.Post
+    (walk-lend-left-requires t)
+    (walk-lend-put-requires t)
+    (walk-lend-sub-item t)
+    (walk-lend-right-requires t)
+    (walk-lend-lent-requires t)
+    (walk-lend-walk-requires t)
+    (walk-lend-enum-known-inner t)
+    (walk-lend-enum-told t)
+    (walk-lend-returns t)
+    (walk-lend-without-requires t)
+    (walk-lend-returns-2 t))
+    (λ t. walk-tensor-lts.spec (walk-tensor-claims t)
+    (walk-tensor-at t)
+    walk-tensor.Post
+    (walk-tensor-left-requires t)
+    (walk-tensor-walk-requires t)
+    (walk-tensor-enum-known-first t)
+    (walk-tensor-enum-told t)
+    (walk-tensor-returns t)
+    (walk-tensor-right-requires t)
+    (walk-tensor-on-requires t)
+    (walk-tensor-walk-requires-2 t)
+    (walk-tensor-enum-known-second t)
+    (walk-tensor-enum-told-2 t)
+    (walk-tensor-returns-2 t)
+    (walk-tensor-tensor-requires t)
+    (walk-tensor-returns-3 t))
+    λ t. walk-with-lts.spec (walk-with-claims t)
+    (walk-with-at t)
+    walk-with.Post
+    (walk-with-left-requires t)
+    (walk-with-walk-requires t)
+    (walk-with-enum-known-first t)
+    (walk-with-enum-told t)
+    (walk-with-returns t)
+    (walk-with-right-requires t)
+    (walk-with-on-requires t)
+    (walk-with-walk-requires-2 t)
+    (walk-with-enum-known-second t)
+    (walk-with-enum-told-2 t)
+    (walk-with-returns-2 t)
+    (walk-with-beside-requires t)
+    (walk-with-returns-3 t)

@@ -1,0 +1,467 @@
+-- The calls of the walk: what each asks holds where it is made, and what it answers tells of the whole.
+use Prim.Native.Nat.{ℕ, _+_, _-_, _*_, _≤_, _<_}
+use native.Mathlib.Omega.{arith}
+use native.Mathlib.Numerals.{add-one}
+use mathlib.Core.Path.{_≡_, refl, sym, _∙_, ap, subst}
+use mathlib.Core.Logic.{⊎-elim}
+use mathlib.Core.Bool.{Bool, true, false, false≢true}
+use mathlib.Core.List.{List}
+use lib.ListN.{length, getD, set}
+use Rattle.calculus.specs.Formula.{Goal, Clause, Fits, atomᴳ, tensor, with, lolliᴳ, atomᴰ, topᴰ, lolliᴰ, usable}
+use Rattle.calculus.specs.Derivation.{Scope, noEntry, size, entryAt, clauseAt, linearAt, lend}
+use Rattle.calculus.specs.Inner.Trace.{Part, goal, meet, Gathered, Ends, Tensors, Withs, Trace, trace-1, trace-⊤, trace-⊗, trace-&}
+use Rattle.calculus.specs.Inner.Trace.{trace-head, trace-recipe}
+use Rattle.lines.specs.Inner.Set.{Words}
+use Rattle.card.specs.Format.{nodeCount, ruleCount, kindAt, leftAt, rightAt}
+use Rattle.card.specs.Fault.{Sound, goalPart, clausePart, heightAt}
+use Rattle.card.specs.Decode.{goalAt, clauseOf, scopeOf}
+use Rattle.card.proofs.CardChecked.{sound-front}
+use Rattle.card.proofs.NodesDecoded.{reads-name, reads-rest, reads-done}
+use Rattle.card.proofs.SoundNodes.{goal-lower, goal-kind, goal-above, clause-lower, clause-above, clause-kind, node-here, height-low}
+use Rattle.card.proofs.SoundNodes.{height-pos}
+use Rattle.card.proofs.SoundNodes.{height-parts, parts-below, both-parts, either-parts, lend-parts, recipe-parts, sound-both}
+use Rattle.card.proofs.SoundNodes.{sound-either}
+use Rattle.card.proofs.SoundNodes.{sound-lend, sound-recipe, usable-name, usable-rest, usable-recipe}
+use Rattle.scope.specs.Inner.Tables.{scopeIn, Entered, Kept}
+use Rattle.scope.proofs.TablesAreScopes.{scope-size, scope-clause, scope-linear, scope-kept, lend-scope, entered-kept, entered-more}
+use Rattle.scope.proofs.TablesAreScopes.{kept-self, kept-trans, kept-again, kept-set}
+use Rattle.summary.specs.declared.Branch.{Branch}
+use Rattle.summary.specs.declared.Summary.{Summary}
+use Rattle.summary.specs.declared.Walked.{Walked}
+use Rattle.summary.specs.declared.Walked.the-variants.{Ended, Astray}
+use Rattle.summary.specs.declared.Step.{Step}
+use Rattle.summary.specs.declared.Step.the-variants.{Taken, Nothing}
+use Rattle.summary.specs.Inner.Values.{onB, lentB, deeperB, endedW, tensorW, withW, withoutW, behindW}
+use Rattle.summary.specs.Inner.Walks.{EndsWith, FitsNone, Tells, Ready, GoalReady, ClauseReady, CanUse, Stepping, PartWalks}
+use Rattle.summary.proofs.WalksTell.{Halves, halves-⊗, halves-&, halves-recipe, ends-here, first-astray}
+use Rattle.summary.proofs.WalksTell.{second-astray, tensor-ends, with-ends, lend-ends, lend-astray, use-ends, use-astray}
+
+-- the falling number of a call, without its node: nesting and steps left
+abbrev pub weight : Branch → ℕ
+weight b = (b .depth + (b .given - b .at)) * 4096
+
+module _ {bs steps nodes : List ℕ} {linear : List Bool} {b : Branch} (R : Ready bs steps nodes linear b) where
+  abbrev es : Scope
+  es = scopeIn bs nodes linear (b .count)
+
+  pub rules-below : b .rules ≤ b .count
+  rules-below = let s = R .scoped in let r = R .rules in omega arith
+
+  -- an answer that leaves the tables alone
+  at-once : {p : Part} {r : Walked} → Tells steps b es p r → PartWalks bs steps nodes nodes linear linear b p r
+  at-once t = record { tells = t; node-kept = kept-self (b .count) nodes; linear-kept = kept-self (b .count) linear }
+
+  -- Behind a first part
+
+  module _ {nodes₁ : List ℕ} {linear₁ : List Bool} {p : Part} where
+    module _ {q r : Part} (halves : Halves (b .depth) es p q r) where
+      pub first-lost : {x : Walked} → x ≡ Astray → PartWalks bs steps nodes nodes₁ linear linear₁ b p x
+          → PartWalks bs steps nodes nodes₁ linear linear₁ b r x
+      unfolding Tells
+      first-lost e W = rw e (
+          let F : PartWalks bs steps nodes nodes₁ linear linear₁ b p Astray = rw e at W in
+          record { tells = first-astray halves (F .tells); node-kept = F .node-kept; linear-kept = F .linear-kept }
+          )
+
+    module _ {w : Summary} (W : PartWalks bs steps nodes nodes₁ linear linear₁ b p (Ended w)) where
+      ends : EndsWith steps b es p w
+      unfolding Tells
+      ends = W .tells
+
+      same-scope : scopeIn bs nodes₁ linear₁ (b .count) ≡ es
+      same-scope = scope-kept bs nodes nodes₁ linear linear₁ (b .count) (W .node-kept) (W .linear-kept)
+
+      pub ready-on : Ready bs steps nodes₁ linear₁ (onB b (w .at))
+      ready-on = record {
+        sound = R .sound;
+        rules = R .rules;
+        given = R .given;
+        short = R .short;
+        at = ends .bounded;
+        entered = entered-kept (R .entered) (W .node-kept) (W .linear-kept);
+        scoped = R .scoped;
+        few = R .few;
+      }
+
+      pub lighter : weight (onB b (w .at)) ≤ weight b
+      lighter = let o = ends .onward in omega arith
+
+      module _ {q : Part} {nodes₂ : List ℕ} {linear₂ : List Bool} where
+        pub second-lost : {r : Part} → Halves (b .depth) es p q r → PartWalks bs steps nodes₁ nodes₂ linear₁ linear₂ (onB b (w .at)) q Astray
+            → PartWalks bs steps nodes nodes₂ linear linear₂ b r Astray
+        unfolding Tells
+        second-lost halves X = record {
+          tells = second-astray halves ends (subst (λ s. FitsNone steps (onB b (w .at)) s q) same-scope (X .tells));
+          node-kept = kept-again (b .count) (W .node-kept) (X .node-kept);
+          linear-kept = kept-again (b .count) (W .linear-kept) (X .linear-kept);
+        }
+
+        module _ {v : Summary} (X : PartWalks bs steps nodes₁ nodes₂ linear₁ linear₂ (onB b (w .at)) q (Ended v))
+          where
+            then-ends : EndsWith steps (onB b (w .at)) es q v
+            unfolding Tells
+            then-ends = subst (λ s. EndsWith steps (onB b (w .at)) s q v) same-scope (X .tells)
+
+            both-kept : {r : Part} {u : Summary} → EndsWith steps b es r u → PartWalks bs steps nodes nodes₂ linear linear₂ b r (Ended u)
+            unfolding Tells
+            both-kept t = record {
+              tells = t;
+              node-kept = kept-again (b .count) (W .node-kept) (X .node-kept);
+              linear-kept = kept-again (b .count) (W .linear-kept) (X .linear-kept);
+            }
+
+            pub tensor-done : {r : Part} → Words (w .used) → Words (v .used)
+                → ((f g h : Gathered) → Tensors h f g → Trace (b .depth) es p f → Trace (b .depth) es q g → Trace (b .depth) es r h)
+                → PartWalks bs steps nodes nodes₂ linear linear₂ b r (Ended (tensorW w v))
+            tensor-done x y c = both-kept (tensor-ends ends then-ends x y c)
+
+            pub with-done : {r : Part} → Words (w .used) → Words (v .used)
+                → ((f g h : Gathered) → Withs es h f g → Trace (b .depth) es p f → Trace (b .depth) es q g → Trace (b .depth) es r h)
+                → PartWalks bs steps nodes nodes₂ linear linear₂ b r (Ended (withW w v))
+            with-done x y c = both-kept (with-ends ends then-ends x y c)
+
+  -- the same, of the values of a run: what it was given, what it answered, and what was made of both
+  module _ {nodes₁ nodes₂ : List ℕ} {linear₁ linear₂ : List Bool} {p q : Part} (w : Summary) {x : Walked} (ex : x ≡ Ended w)
+      (W : PartWalks bs steps nodes nodes₁ linear linear₁ b p x) (b₂ : Branch) (eb : b₂ ≡ onB b (w .at)) {y : Walked}
+      (X : PartWalks bs steps nodes₁ nodes₂ linear₁ linear₂ b₂ q y) where
+    first-run : PartWalks bs steps nodes nodes₁ linear linear₁ b p (Ended w)
+    first-run = rw ex at W
+
+    pub run-lost : {r : Part} → Halves (b .depth) es p q r → y ≡ Astray → PartWalks bs steps nodes nodes₂ linear linear₂ b r y
+    run-lost halves ey = rw ey (second-lost first-run halves (rw (eb, ey) at X))
+
+    module _ (v : Summary) (ey : y ≡ Ended v) (m : Words (w .used)) (n : Words (v .used)) (u : Summary) where
+      second-run : PartWalks bs steps nodes₁ nodes₂ linear₁ linear₂ (onB b (w .at)) q (Ended v)
+      second-run = rw (eb, ey) at X
+
+      pub run-tensor : {r : Part} → u ≡ tensorW w v
+          → ((f g h : Gathered) → Tensors h f g → Trace (b .depth) es p f → Trace (b .depth) es q g → Trace (b .depth) es r h)
+          → PartWalks bs steps nodes nodes₂ linear linear₂ b r (Ended u)
+      run-tensor eu c = rw eu (tensor-done first-run second-run m n c)
+
+      pub run-with : {r : Part} → u ≡ withW w v
+          → ((f g h : Gathered) → Withs es h f g → Trace (b .depth) es p f → Trace (b .depth) es q g → Trace (b .depth) es r h)
+          → PartWalks bs steps nodes nodes₂ linear linear₂ b r (Ended u)
+      run-with eu c = rw eu (with-done first-run second-run m n c)
+
+  -- At a goal
+
+  module _ (node : ℕ) (Q : GoalReady bs b node) where
+    below : node < nodeCount bs
+    below = goal-lower bs (nodeCount bs) node (Q .goal-node)
+
+    pub goal-here : 16 + 5 * node ≤ length bs
+    goal-here = node-here (R .sound) node below
+
+    -- 1 and ⊤
+    pub done-ends : (slack : Bool) (G : Goal) → goalAt bs node ≡ G → ((w : Gathered) → Ends w slack → Trace (b .depth) es (goal G) w)
+        → (w : Summary) → w ≡ endedW b slack → PartWalks bs steps nodes nodes linear linear b (goal (goalAt bs node)) (Ended w)
+    unfolding Tells
+    done-ends slack G e c w q =
+        rw (q, e) (at-once {r = Ended (endedW b slack)} (ends-here slack (R .at) c))
+
+    -- a part that is a goal, in a branch with the same entries and nesting
+    part-ready : (part : ℕ) (b′ : Branch) → goalPart bs node part ≡ true → heightAt bs part < heightAt bs node → b′ .count ≡ b .count
+        → b′ .depth ≡ b .depth → b′ .rules ≡ b .rules → GoalReady bs b′ part
+    part-ready part b′ p h ec ed er = record {
+      goal-node = goal-above bs node part (nodeCount bs) (let l = below in omega arith) p;
+      deep = let q = Q .deep in omega arith;
+    }
+
+    -- two parts that are goals
+    module _ (big : 3 < kindAt bs node) (first : goalPart bs node (leftAt bs node) ≡ true) (second : goalPart bs node (rightAt bs node) ≡ true)
+      where
+        lower : (leftAt bs node < node) × (rightAt bs node < node)
+        lower = parts-below (R .sound) node below big
+
+        heights : (heightAt bs (leftAt bs node) < heightAt bs node) × (heightAt bs (rightAt bs node) < heightAt bs node)
+        heights = height-parts (R .sound) node below big
+
+        pub left-call : (t : ℕ) → weight b + 4 * node + 2 ≡ t → (l : ℕ) → l ≡ leftAt bs node
+            → (weight b + 4 * l + 3 < t) × (Ready bs steps nodes linear b × GoalReady bs b l)
+        left-call t m l e = rw e (
+          let low = lower in omega arith,
+          (R, part-ready (leftAt bs node) b first (heights .0) refl refl refl),
+        )
+
+        pub right-call : {nodes₁ : List ℕ} {linear₁ : List Bool} {p : Part} (w : Summary) {x : Walked} → x ≡ Ended w
+            → PartWalks bs steps nodes nodes₁ linear linear₁ b p x
+            → (t : ℕ) → weight b + 4 * node + 2 ≡ t → (r : ℕ) → r ≡ rightAt bs node → (b₂ : Branch) → b₂ ≡ onB b (w .at)
+            → (weight b₂ + 4 * r + 3 < t) × (Ready bs steps nodes₁ linear₁ b₂ × GoalReady bs b₂ r)
+        right-call {nodes₁} {linear₁} {p} w e W t m r er b₂ eb = rw (er, eb) (
+            let F : PartWalks bs steps nodes nodes₁ linear linear₁ b p (Ended w) = rw e at W in (
+              let low = lower in let k = lighter F in omega arith,
+              (ready-on F, part-ready (rightAt bs node) (onB b (w .at)) second (heights .1) refl refl refl),
+            )
+            )
+
+    pub kind-six : (kindAt bs node ≡ 1 → ⊥) → (kindAt bs node ≡ 2 → ⊥) → (kindAt bs node ≡ 3 → ⊥) → (kindAt bs node ≡ 4 → ⊥)
+        → (kindAt bs node ≡ 5 → ⊥) → kindAt bs node ≡ 6
+    kind-six n₁ n₂ n₃ n₄ n₅ = let k = goal-kind bs (nodeCount bs) node (Q .goal-node) in omega (arith, k .0, k .1)
+
+    pub tensor-parts : kindAt bs node ≡ 4 → (3 < kindAt bs node) × (goalPart bs node (leftAt bs node) ≡ true)
+        × (goalPart bs node (rightAt bs node) ≡ true)
+    tensor-parts k = let p = both-parts (R .sound) node below k in (omega arith, p .0, p .1)
+
+    pub with-parts : kindAt bs node ≡ 5 → (3 < kindAt bs node) × (goalPart bs node (leftAt bs node) ≡ true)
+        × (goalPart bs node (rightAt bs node) ≡ true)
+    with-parts k = let p = either-parts (R .sound) node below k in (omega arith, p .0, p .1)
+
+    -- what a node of each kind reads as is walked as
+    module _ (l : ℕ) (el : l ≡ leftAt bs node) (m : ℕ) (em : m ≡ rightAt bs node) where
+      pub tensor-halves : kindAt bs node ≡ 4 → Halves (b .depth) es (goal (goalAt bs l)) (goal (goalAt bs m)) (goal (goalAt bs node))
+      tensor-halves k g c = rw (el, em) (halves-⊗ g (rw (sound-both (R .sound) node below k) at c))
+
+      pub tensor-joins : kindAt bs node ≡ 4 → (f g h : Gathered) → Tensors h f g → Trace (b .depth) es (goal (goalAt bs l)) f
+          → Trace (b .depth) es (goal (goalAt bs m)) g → Trace (b .depth) es (goal (goalAt bs node)) h
+      tensor-joins k f g h s c d = rw (sound-both (R .sound) node below k) (trace-⊗ s (rw el at c) (rw em at d))
+
+      pub with-halves : kindAt bs node ≡ 5 → Halves (b .depth) es (goal (goalAt bs l)) (goal (goalAt bs m)) (goal (goalAt bs node))
+      with-halves k g c = rw (el, em) (halves-& g (rw (sound-either (R .sound) node below k) at c))
+
+      pub with-joins : kindAt bs node ≡ 5 → (f g h : Gathered) → Withs es h f g → Trace (b .depth) es (goal (goalAt bs l)) f
+          → Trace (b .depth) es (goal (goalAt bs m)) g → Trace (b .depth) es (goal (goalAt bs node)) h
+      with-joins k f g h s c d = rw (sound-either (R .sound) node below k) (trace-& s (rw el at c) (rw em at d))
+
+    -- D ⊸ G
+    module _ (kind : kindAt bs node ≡ 6) where
+      lower-6 : (leftAt bs node < node) × (rightAt bs node < node)
+      lower-6 = parts-below (R .sound) node below (omega arith)
+
+      heights-6 : (heightAt bs (leftAt bs node) < heightAt bs node) × (heightAt bs (rightAt bs node) < heightAt bs node)
+      heights-6 = height-parts (R .sound) node below (omega arith)
+
+      lent-clause : clausePart bs (nodeCount bs) (leftAt bs node) ≡ true
+      lent-clause =
+          clause-above bs node (leftAt bs node) (nodeCount bs) (let l = below in omega arith) (lend-parts (R .sound) node below kind .0)
+
+      pub lend-room : b .count < ruleCount bs + 168
+      lend-room = let q = Q .deep in let h = heights-6 .0 in let r = R .rules in omega arith
+
+      pub put-room : (b .count < 256) × ((length nodes ≡ 256) × (length linear ≡ 256))
+      put-room =
+          let f = sound-front bs (R .sound) .rules in let l = lend-room in
+          (omega arith, (R .entered .node-room, R .entered .linear-room))
+
+      module _ (c : ℕ) (ec : c ≡ leftAt bs node) {nodes₁ : List ℕ} {linear₁ : List Bool} (en : nodes₁ ≡ set nodes (b .count) c)
+          (el : linear₁ ≡ set linear (b .count) true) (b₁ : Branch) (eb : b₁ ≡ lentB b) where
+        ready-lent : Ready bs steps (set nodes (b .count) c) (set linear (b .count) true) (lentB b)
+        ready-lent = record {
+          sound = R .sound;
+          rules = R .rules;
+          given = R .given;
+          short = R .short;
+          at = R .at;
+          entered =
+              rw (add-one (b .count)) (entered-more c true (R .entered) (put-room .0) (rw ec lent-clause) (λ q. R .scoped));
+          scoped = let s = R .scoped in omega arith;
+          few = let l = lend-room in omega arith;
+        }
+
+        lent-scope : scopeIn bs (set nodes (b .count) c) (set linear (b .count) true) (b .count + 1) ≡ lend es (clauseOf bs c)
+        lent-scope =
+            let q = put-room in
+            rw (add-one (b .count)) (lend-scope bs nodes linear (b .count) c (omega (arith, q .1 .0)) (omega (arith, q .1 .1)))
+
+        pub lend-call : (t : ℕ) → weight b + 4 * node + 2 ≡ t → (r : ℕ) → r ≡ rightAt bs node
+            → (weight b₁ + 4 * r + 3 < t) × (Ready bs steps nodes₁ linear₁ b₁ × GoalReady bs b₁ r)
+        lend-call t m r er = rw (eb, er, en, el) (
+          let low = lower-6 in omega arith,
+          (
+            ready-lent,
+            record {
+              goal-node =
+                  goal-above bs node (rightAt bs node) (nodeCount bs) (let l = below in omega arith)
+                  (lend-parts (R .sound) node below kind .1);
+              deep = let q = Q .deep in let h = heights-6 .1 in omega arith;
+            },
+          ),
+        )
+
+        module _ (r : ℕ) (er : r ≡ rightAt bs node) {nodes₂ : List ℕ} {linear₂ : List Bool} {x : Walked}
+            (X : PartWalks bs steps nodes₁ nodes₂ linear₁ linear₂ b₁ (goal (goalAt bs r)) x) where
+          inner : PartWalks bs steps (set nodes (b .count) c) nodes₂ (set linear (b .count) true) linear₂ (lentB b)
+              (goal (goalAt bs (rightAt bs node))) x
+          inner = rw (eb, er, en, el) at X
+
+          as-lend : goalAt bs node ≡ lolliᴳ (clauseOf bs c) (goalAt bs (rightAt bs node))
+          as-lend =
+              sound-lend (R .sound) node below kind ∙ ap (λ d. lolliᴳ (clauseOf bs d) (goalAt bs (rightAt bs node))) (sym ec)
+
+          node-back : Kept (b .count) nodes nodes₂
+          node-back = kept-trans {n = b .count} {m = b .count + 1} (omega arith) (kept-set (b .count) (b .count) nodes c (omega arith)) (inner .node-kept)
+
+          linear-back : Kept (b .count) linear linear₂
+          linear-back = kept-trans {n = b .count} {m = b .count + 1} (omega arith) (kept-set (b .count) (b .count) linear true (omega arith)) (inner .linear-kept)
+
+          pub lend-lost : x ≡ Astray → PartWalks bs steps nodes nodes₂ linear linear₂ b (goal (goalAt bs node)) x
+          unfolding Tells
+          lend-lost e = rw (e, as-lend) (record {
+            tells = lend-astray (subst (λ s. FitsNone steps (lentB b) s (goal (goalAt bs (rightAt bs node)))) lent-scope
+                (let t = inner .tells in rw e at t));
+            node-kept = node-back;
+            linear-kept = linear-back;
+          })
+
+          pub lend-done : (w u : Summary) → x ≡ Ended w → u ≡ withoutW w (b .count - b .rules)
+              → PartWalks bs steps nodes nodes₂ linear linear₂ b (goal (goalAt bs node)) (Ended u)
+          unfolding Tells
+          lend-done w u e q = rw (q, as-lend) (record {
+            tells = lend-ends rules-below (scope-size bs nodes linear (b .count))
+                (subst (λ s. EndsWith steps (lentB b) s (goal (goalAt bs (rightAt bs node))) w) lent-scope
+                (let t = inner .tells in rw e at t));
+            node-kept = node-back;
+            linear-kept = linear-back;
+          })
+
+    -- a name
+    module _ (kind : kindAt bs node ≡ 1) (name : ℕ) (en : name ≡ leftAt bs node) where
+      as-atom : goalAt bs node ≡ atomᴳ name
+      as-atom = reads-name bs node kind .0 ∙ ap atomᴳ (sym en)
+
+      module _ {y : Step} (S : Stepping bs steps nodes linear b name y) where
+        pub atom-lost : y ≡ Nothing → PartWalks bs steps nodes nodes linear linear b (goal (goalAt bs node)) Astray
+        unfolding Stepping Tells
+        atom-lost e = rw as-atom (at-once {r = Astray} (rw e at S))
+
+        pub atom-call : (e : ℕ) → y ≡ Taken e → (t : ℕ) → weight b + 4 * node + 2 ≡ t
+            → (weight b < t) × (Ready bs steps nodes linear b × (CanUse bs steps nodes b name e
+            × (b .count + 1 + 6 * b .depth ≤ b .rules + 168)))
+        unfolding Stepping
+        atom-call e q t m =
+            let u : CanUse bs steps nodes b name e = rw q at S in
+            (omega arith, (R, (u, (let d = Q .deep in let h = height-pos bs node in omega arith))))
+
+      pub atom-done : {nodes₂ : List ℕ} {linear₂ : List Bool} {x : Walked}
+          → PartWalks bs steps nodes nodes₂ linear linear₂ b (goal (atomᴳ name)) x
+          → PartWalks bs steps nodes nodes₂ linear linear₂ b (goal (goalAt bs node)) x
+      atom-done X = rw as-atom X
+
+  -- At a clause in use for a name
+
+  module _ (name node : ℕ) (Q : ClauseReady bs b name node) where
+    clause-below : node < nodeCount bs
+    clause-below = clause-lower bs (nodeCount bs) node (Q .clause-node)
+
+    pub clause-here : 16 + 5 * node ≤ length bs
+    clause-here = node-here (R .sound) node clause-below
+
+    -- a clause that is no recipe and can be used is a name that is met
+    pub head-ends : (kindAt bs node ≡ 7 → ⊥) → (w : Summary) → w ≡ endedW b false
+        → PartWalks bs steps nodes nodes linear linear b (meet name (clauseOf bs node)) (Ended w)
+    unfolding Tells scopeIn
+    head-ends n w q = ⊎-elim
+        (λ k. rw (q, reads-name bs node k .1)
+        (at-once {r = Ended (endedW b false)} (ends-here false (R .at)
+        (λ g e. trace-head (sym (usable-name bs node k (scopeOf bs .fits) name) ∙ Q .fitting) e))))
+        (⊎-elim (λ k. absurd (false≢true (sym (usable-rest bs node k (scopeOf bs .fits) name) ∙ Q .fitting))) (λ k. absurd (n k)))
+        (clause-kind bs (nodeCount bs) node (Q .clause-node))
+
+    module _ (kind : kindAt bs node ≡ 7) where
+      lower-7 : (leftAt bs node < node) × (rightAt bs node < node)
+      lower-7 = parts-below (R .sound) node clause-below (omega arith)
+
+      module _ (m : ℕ) (em : m ≡ rightAt bs node) (l : ℕ) (el : l ≡ leftAt bs node) where
+        pub recipe-halves : Halves (b .depth) es (meet name (clauseOf bs m)) (goal (goalAt bs l)) (meet name (clauseOf bs node))
+        recipe-halves g c = rw (el, em) (halves-recipe g (rw (sound-recipe (R .sound) node clause-below kind) at c))
+
+        pub recipe-joins : (f g h : Gathered) → Tensors h f g → Trace (b .depth) es (meet name (clauseOf bs m)) f
+            → Trace (b .depth) es (goal (goalAt bs l)) g → Trace (b .depth) es (meet name (clauseOf bs node)) h
+        recipe-joins f g h s c d = rw (sound-recipe (R .sound) node clause-below kind) (trace-recipe s (rw em at c) (rw el at d))
+
+      pub recipe-call : (t : ℕ) → weight b + 4 * node + 2 ≡ t → (r : ℕ) → r ≡ rightAt bs node
+          → (weight b + 4 * r + 2 < t) × (Ready bs steps nodes linear b × ClauseReady bs b name r)
+      recipe-call t m r e = rw e (
+        let low = lower-7 in omega arith,
+        (
+          R,
+          record {
+            clause-node =
+                clause-above bs node (rightAt bs node) (nodeCount bs) (let l = clause-below in omega arith)
+                (recipe-parts (R .sound) node clause-below kind .1);
+            fitting = sym (usable-recipe (R .sound) node clause-below kind (scopeOf bs .fits) name) ∙ Q .fitting;
+            deep = Q .deep;
+          },
+        ),
+      )
+
+      pub condition-call : {nodes₁ : List ℕ} {linear₁ : List Bool} {p : Part} (w : Summary) {x : Walked} → x ≡ Ended w
+          → PartWalks bs steps nodes nodes₁ linear linear₁ b p x
+          → (t : ℕ) → weight b + 4 * node + 2 ≡ t → (l : ℕ) → l ≡ leftAt bs node → (b₂ : Branch) → b₂ ≡ onB b (w .at)
+          → (weight b₂ + 4 * l + 3 < t) × (Ready bs steps nodes₁ linear₁ b₂ × GoalReady bs b₂ l)
+      condition-call {nodes₁} {linear₁} {p} w e W t m l el b₂ eb = rw (el, eb) (
+          let F : PartWalks bs steps nodes nodes₁ linear linear₁ b p (Ended w) = rw e at W in (
+            let low = lower-7 in let k = lighter F in omega arith,
+            (
+              ready-on F,
+              record {
+                goal-node =
+                    goal-above bs node (leftAt bs node) (nodeCount bs) (let k = clause-below in omega arith)
+                    (recipe-parts (R .sound) node clause-below kind .0);
+                deep =
+                    let q = Q .deep in let h = height-parts (R .sound) node clause-below (omega arith) .0 in
+                    let k = height-low (R .sound) node clause-below in omega arith;
+              },
+            ),
+          )
+          )
+
+  -- The use of an entry
+
+  module _ (name e : ℕ) (U : CanUse bs steps nodes b name e) where
+    entry-clause : clausePart bs (nodeCount bs) (getD nodes e 0) ≡ true
+    entry-clause = R .entered .clauses e (U .inside)
+
+    pub use-call : b .count + 1 + 6 * b .depth ≤ b .rules + 168 → (t : ℕ) → weight b ≡ t → (node : ℕ) → node ≡ getD nodes e 0
+        → (b₁ : Branch) → b₁ ≡ deeperB b
+        → (weight b₁ + 4 * node + 2 < t) × (Ready bs steps nodes linear b₁ × ClauseReady bs b₁ name node)
+    use-call room t m node en b₁ eb = rw (eb, en) (
+      (
+          let l = clause-lower bs (nodeCount bs) (getD nodes e 0) entry-clause in
+          let f = sound-front bs (R .sound) .few in
+          let d = U .deep in let r = U .room in omega arith
+          ),
+      (
+        record {
+          sound = R .sound;
+          rules = R .rules;
+          given = R .given;
+          short = R .short;
+          at = let r = U .room in omega arith;
+          entered = R .entered;
+          scoped = R .scoped;
+          few = R .few;
+        },
+        record { clause-node = entry-clause; fitting = U .fitting; deep = let d = U .deep in omega arith },
+      ),
+    )
+
+    module _ (node : ℕ) (en : node ≡ getD nodes e 0) (b₁ : Branch) (eb : b₁ ≡ deeperB b) {nodes₂ : List ℕ} {linear₂ : List Bool}
+        {x : Walked} (X : PartWalks bs steps nodes nodes₂ linear linear₂ b₁ (meet name (clauseOf bs node)) x) where
+      conditions : PartWalks bs steps nodes nodes₂ linear linear₂ (deeperB b) (meet name (clauseAt es e)) x
+      conditions = rw (scope-clause bs nodes linear (b .count) e (U .inside), ← en, ← eb) X
+
+      pub use-lost : x ≡ Astray → PartWalks bs steps nodes nodes₂ linear linear₂ b (goal (atomᴳ name)) x
+      unfolding Tells
+      use-lost q = rw q (record {
+        tells = use-astray (U .deep) (U .next) (let t = conditions .tells in rw q at t);
+        node-kept = conditions .node-kept;
+        linear-kept = conditions .linear-kept;
+      })
+
+      pub use-done : (w u : Summary) → x ≡ Ended w → (gone : Bool) → gone ≡ getD linear e false → u ≡ behindW w gone (b .rules) e
+          → PartWalks bs steps nodes nodes₂ linear linear₂ b (goal (atomᴳ name)) (Ended u)
+      unfolding Tells
+      use-done w u q gone eg f = rw f (record {
+        tells = use-ends (U .deep) (U .next) gone (scope-linear bs nodes linear (b .count) e (U .inside) ∙ sym eg)
+            (λ h. item-low h) (let i = U .inside in let k = R .few in let r = R .rules in omega arith)
+            (let t = conditions .tells in rw q at t);
+        node-kept = conditions .node-kept;
+        linear-kept = conditions .linear-kept;
+      })
+        where
+          item-low : gone ≡ true → b .rules ≤ e
+          item-low h = let l = R .entered .items e (U .inside) (sym eg ∙ h) in let r = R .rules in omega arith
+
+    pub behind-low : (gone : Bool) → gone ≡ getD linear e false → gone ≡ true → b .rules ≤ e
+    behind-low gone eg h = let l = R .entered .items e (U .inside) (sym eg ∙ h) in let r = R .rules in omega arith

@@ -1,0 +1,2 @@
+-- Theorems about the calls of the walk.
+pub mod CallsAreReady

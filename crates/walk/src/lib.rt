@@ -1,0 +1,200 @@
+// One pass along a given list. It goes by clauses and does not mind items: it ends, or says that the list does not fit; on the way it
+// gathers the list's summary and whether the items divided, and never breaks off because they did not.
+use card::format::kind;
+use card::format::left;
+use card::format::right;
+use summary::Branch;
+use summary::Step;
+use summary::Walked;
+use summary::next_step;
+ghost use mathlib.Core.Path.{_≡_};
+ghost use Prim.Native.Nat.{_+_, _*_, _≤_};
+ghost use Rattle.card.specs.Format.{kindAt};
+ghost use Rattle.summary.specs.Inner.Walks.{Ready, GoalReady, ClauseReady, CanUse, GoalWalks, ClauseWalks, UseWalks};
+
+// A goal.
+pub fn walk(
+    card: &[u8],
+    steps: &[u8],
+    nodes: &mut [u16; 256],
+    linear: &mut [bool; 256],
+    b: Branch,
+    node: usize,
+) -> Walked
+    requires { ⌜ Ready (now card) (now steps) (now nodes) (now linear) b ⌝ }
+    requires { ⌜ GoalReady (now card) b node ⌝ }
+    ensures { λ r. ⌜ GoalWalks (now (card .entry)) (now (steps .entry)) (now (nodes .entry)) (now (nodes .exit)) (now (linear .entry))
+        (now (linear .exit)) b node r ⌝ }
+{
+    let k = kind(card, node);
+    match k {
+        1 => walk_atom(card, steps, nodes, linear, b, node),
+        2 => Walked::Ended(b.ended(true)),
+        3 => Walked::Ended(b.ended(false)),
+        4 => walk_tensor(card, steps, nodes, linear, b, node),
+        5 => walk_with(card, steps, nodes, linear, b, node),
+        _ => walk_lend(card, steps, nodes, linear, b, node),
+    }
+}
+
+// G ⊗ H.
+fn walk_tensor(
+    card: &[u8],
+    steps: &[u8],
+    nodes: &mut [u16; 256],
+    linear: &mut [bool; 256],
+    b: Branch,
+    node: usize,
+) -> Walked
+    requires { ⌜ Ready (now card) (now steps) (now nodes) (now linear) b ⌝ }
+    requires { ⌜ GoalReady (now card) b node ⌝ }
+    requires { ⌜ kindAt (now card) node ≡ 4 ⌝ }
+    ensures { λ r. ⌜ GoalWalks (now (card .entry)) (now (steps .entry)) (now (nodes .entry)) (now (nodes .exit)) (now (linear .entry))
+        (now (linear .exit)) b node r ⌝ }
+{
+    let l = left(card, node);
+    let first = walk(card, steps, nodes, linear, b, l);
+    let Walked::Ended(w) = first else {
+        return first;
+    };
+    let r = right(card, node);
+    let second = walk(card, steps, nodes, linear, b.on(w.at), r);
+    let Walked::Ended(v) = second else {
+        return second;
+    };
+    Walked::Ended(w.tensor(v))
+}
+
+// G & H.
+fn walk_with(
+    card: &[u8],
+    steps: &[u8],
+    nodes: &mut [u16; 256],
+    linear: &mut [bool; 256],
+    b: Branch,
+    node: usize,
+) -> Walked
+    requires { ⌜ Ready (now card) (now steps) (now nodes) (now linear) b ⌝ }
+    requires { ⌜ GoalReady (now card) b node ⌝ }
+    requires { ⌜ kindAt (now card) node ≡ 5 ⌝ }
+    ensures { λ r. ⌜ GoalWalks (now (card .entry)) (now (steps .entry)) (now (nodes .entry)) (now (nodes .exit)) (now (linear .entry))
+        (now (linear .exit)) b node r ⌝ }
+{
+    let l = left(card, node);
+    let first = walk(card, steps, nodes, linear, b, l);
+    let Walked::Ended(w) = first else {
+        return first;
+    };
+    let r = right(card, node);
+    let second = walk(card, steps, nodes, linear, b.on(w.at), r);
+    let Walked::Ended(v) = second else {
+        return second;
+    };
+    Walked::Ended(w.beside(v))
+}
+
+// D ⊸ G.
+fn walk_lend(
+    card: &[u8],
+    steps: &[u8],
+    nodes: &mut [u16; 256],
+    linear: &mut [bool; 256],
+    b: Branch,
+    node: usize,
+) -> Walked
+    requires { ⌜ Ready (now card) (now steps) (now nodes) (now linear) b ⌝ }
+    requires { ⌜ GoalReady (now card) b node ⌝ }
+    requires { ⌜ kindAt (now card) node ≡ 6 ⌝ }
+    ensures { λ r. ⌜ GoalWalks (now (card .entry)) (now (steps .entry)) (now (nodes .entry)) (now (nodes .exit)) (now (linear .entry))
+        (now (linear .exit)) b node r ⌝ }
+{
+    let n = b.count;
+    scope::put(nodes, linear, n, left(card, node), true);
+    let item = n - b.rules;
+    let r = right(card, node);
+    let inner = walk(card, steps, nodes, linear, b.lent(), r);
+    let Walked::Ended(w) = inner else {
+        return inner;
+    };
+    Walked::Ended(w.without(item))
+}
+
+// A name.
+fn walk_atom(
+    card: &[u8],
+    steps: &[u8],
+    nodes: &mut [u16; 256],
+    linear: &mut [bool; 256],
+    b: Branch,
+    node: usize,
+) -> Walked
+    requires { ⌜ Ready (now card) (now steps) (now nodes) (now linear) b ⌝ }
+    requires { ⌜ GoalReady (now card) b node ⌝ }
+    requires { ⌜ kindAt (now card) node ≡ 1 ⌝ }
+    ensures { λ r. ⌜ GoalWalks (now (card .entry)) (now (steps .entry)) (now (nodes .entry)) (now (nodes .exit)) (now (linear .entry))
+        (now (linear .exit)) b node r ⌝ }
+{
+    let name = left(card, node);
+    let next = next_step(card, steps, nodes, linear, b, name);
+    let Step::Taken(e) = next else {
+        return Walked::Astray;
+    };
+    use_clause(card, steps, nodes, linear, b, name, e)
+}
+
+// The use of an entry for a name.
+fn use_clause(
+    card: &[u8],
+    steps: &[u8],
+    nodes: &mut [u16; 256],
+    linear: &mut [bool; 256],
+    b: Branch,
+    name: usize,
+    e: usize,
+) -> Walked
+    requires { ⌜ Ready (now card) (now steps) (now nodes) (now linear) b ⌝ }
+    requires { ⌜ CanUse (now card) (now steps) (now nodes) b name e ⌝ }
+    requires { ⌜ b .count + 1 + 6 * b .depth ≤ b .rules + 168 ⌝ }
+    ensures { λ r. ⌜ UseWalks (now (card .entry)) (now (steps .entry)) (now (nodes .entry)) (now (nodes .exit)) (now (linear .entry))
+        (now (linear .exit)) b name r ⌝ }
+{
+    let node = nodes[e] as usize;
+    let gone = linear[e];
+    let inner = conditions(card, steps, nodes, linear, b.deeper(), name, node);
+    let Walked::Ended(w) = inner else {
+        return inner;
+    };
+    Walked::Ended(w.behind(gone, b.rules, e))
+}
+
+// The conditions of a clause in use for a name, the one nearest the head first.
+fn conditions(
+    card: &[u8],
+    steps: &[u8],
+    nodes: &mut [u16; 256],
+    linear: &mut [bool; 256],
+    b: Branch,
+    name: usize,
+    node: usize,
+) -> Walked
+    requires { ⌜ Ready (now card) (now steps) (now nodes) (now linear) b ⌝ }
+    requires { ⌜ ClauseReady (now card) b name node ⌝ }
+    ensures { λ r. ⌜ ClauseWalks (now (card .entry)) (now (steps .entry)) (now (nodes .entry)) (now (nodes .exit)) (now (linear .entry))
+        (now (linear .exit)) b name node r ⌝ }
+{
+    let k = kind(card, node);
+    if k != 7 {
+        return Walked::Ended(b.ended(false));
+    }
+    let r = right(card, node);
+    let first = conditions(card, steps, nodes, linear, b, name, r);
+    let Walked::Ended(w) = first else {
+        return first;
+    };
+    let l = left(card, node);
+    let second = walk(card, steps, nodes, linear, b.on(w.at), l);
+    let Walked::Ended(v) = second else {
+        return second;
+    };
+    Walked::Ended(w.tensor(v))
+}
