@@ -18,7 +18,7 @@ use Rattle.agenda.specs.Inner.Sought.{Place, None}
 use Rattle.agenda.proofs.SearchTells.{dead-none}
 use Rattle.entries.specs.Inner.Twins.{eligible}
 use Rattle.entries.specs.Inner.Masks.{maskSet, Seen}
-use Rattle.segment.specs.declared.branch.Branch.{Branch}
+use Rattle.branch.specs.declared.Branch.{Branch}
 use Rattle.segment.specs.Inner.Tasks.{taskOf, agendaOf}
 use Rattle.dead.specs.Inner.Rows.{rowCount, rowWidth, codeCells, wordCells}
 use Rattle.dead.specs.Inner.Rows.{wordAt, rowStrict, rowLax, rowSeen, rowLen, rowRoom, rowAgenda, keyWords, Same, Put}

@@ -1,7 +1,7 @@
 // Dead states: what the search remembers of agendas for which nothing is readable. A row is a key and a room: the tasks, how many they
 // are, the free items, strict and lax apart, the lines seen; and within how many steps there is nothing. The scope is no part of the key:
 // one memory is for one scope. A row is overwritten by the next key that falls on it. A row without tasks is free.
-use segment::branch::Branch;
+use branch::Branch;
 ghost use mathlib.Core.Path.{_≡_};
 ghost use mathlib.Core.Bool.{true};
 ghost use Prim.Native.Nat.{_+_, _≤_, _<_};

@@ -25,11 +25,11 @@ use Rattle.agenda.specs.Inner.Order.{next-here}
 use Rattle.agenda.specs.Inner.Sought.{Place, None, Least}
 use Rattle.agenda.proofs.AgendasRead.{reads-empty}
 use Rattle.agenda.proofs.SearchTells.{done-solved}
-use Rattle.segment.specs.declared.branch.Branch.{Branch}
-use Rattle.segment.specs.declared.branch.Way.{Way}
-use Rattle.segment.specs.declared.branch.Floor.{Floor}
-use Rattle.segment.specs.Inner.Values.{Answer, Solved, Stuck, Tired}
-use Rattle.segment.specs.Inner.Values.{closedA, pastF}
+use Rattle.branch.specs.declared.Branch.{Branch}
+use Rattle.branch.specs.declared.Way.{Way}
+use Rattle.branch.specs.declared.Floor.{Floor}
+use Rattle.branch.specs.Inner.Values.{Answer, Solved, Stuck, Tired}
+use Rattle.branch.specs.Inner.Values.{closedA, pastF}
 use Rattle.segment.specs.Inner.Tasks.{agendaOf, Laid, Unwound, Opened, OpenTask, itemsAt}
 use Rattle.segment.proofs.TasksAreAgendas.{laid-short}
 use Rattle.moves.specs.Inner.Moves.{givenAt, fromAt}

@@ -25,11 +25,11 @@ use Rattle.agenda.specs.Inner.Order.{Next}
 use Rattle.agenda.specs.Inner.Order.{Floor as FloorOf}
 use Rattle.agenda.specs.Inner.Sought.{Place, floored, past, lead, pastLead, None, Least}
 use Rattle.agenda.proofs.WindowsDivide.{Divides, behind-divides}
-use Rattle.segment.specs.declared.branch.Branch.{Branch}
-use Rattle.segment.specs.declared.branch.Way.{Way}
-use Rattle.segment.specs.declared.branch.Floor.{Floor}
-use Rattle.segment.specs.Inner.Values.{Answer, Solved, Stuck, Tired}
-use Rattle.segment.specs.Inner.Values.{leadB, pastTensorB, pastF, followingW}
+use Rattle.branch.specs.declared.Branch.{Branch}
+use Rattle.branch.specs.declared.Way.{Way}
+use Rattle.branch.specs.declared.Floor.{Floor}
+use Rattle.branch.specs.Inner.Values.{Answer, Solved, Stuck, Tired}
+use Rattle.branch.specs.Inner.Values.{leadB, pastTensorB, pastF, followingW}
 use Rattle.segment.specs.Inner.Tasks.{agendaOf, Laid}
 use Rattle.segment.proofs.TasksAreAgendas.{laid-less}
 use Rattle.engine.specs.Inner.Engine.{PartNext}

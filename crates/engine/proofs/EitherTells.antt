@@ -26,11 +26,11 @@ use Rattle.agenda.specs.Inner.Order.{Next}
 use Rattle.agenda.specs.Inner.Order.{Floor as FloorOf}
 use Rattle.agenda.specs.Inner.Sought.{Place, floored, past, pastWith, None, Least}
 use Rattle.agenda.proofs.WindowsDivide.{Divides, either-divides}
-use Rattle.segment.specs.declared.branch.Branch.{Branch}
-use Rattle.segment.specs.declared.branch.Way.{Way}
-use Rattle.segment.specs.declared.branch.Floor.{Floor}
-use Rattle.segment.specs.Inner.Values.{Answer, Solved, Stuck, Tired}
-use Rattle.segment.specs.Inner.Values.{pastWithB, pastF, besideW, followingW}
+use Rattle.branch.specs.declared.Branch.{Branch}
+use Rattle.branch.specs.declared.Way.{Way}
+use Rattle.branch.specs.declared.Floor.{Floor}
+use Rattle.branch.specs.Inner.Values.{Answer, Solved, Stuck, Tired}
+use Rattle.branch.specs.Inner.Values.{pastWithB, pastF, besideW, followingW}
 use Rattle.segment.specs.Inner.Tasks.{Laid}
 use Rattle.engine.specs.Inner.Engine.{GoalReady}
 use Rattle.engine.proofs.NumbersFall.{number, alone}

@@ -39,11 +39,11 @@ use Rattle.agenda.proofs.ListsOrdered.{next-two}
 use Rattle.agenda.proofs.SearchTells.{name-unnested, name-roomless, trying-given, trying-open, trying-unfit, trying-gone}
 use Rattle.agenda.proofs.SearchTells.{trying-ineligible}
 use Rattle.agenda.proofs.SearchTells.{trying-next, trying-found, trying-end}
-use Rattle.segment.specs.declared.branch.Branch.{Branch}
-use Rattle.segment.specs.declared.branch.Way.{Way}
-use Rattle.segment.specs.declared.branch.Floor.{Floor}
-use Rattle.segment.specs.Inner.Values.{Answer, Solved, Stuck, Tired}
-use Rattle.segment.specs.Inner.Values.{usingB, pastF, followingW, answerIn}
+use Rattle.branch.specs.declared.Branch.{Branch}
+use Rattle.branch.specs.declared.Way.{Way}
+use Rattle.branch.specs.declared.Floor.{Floor}
+use Rattle.branch.specs.Inner.Values.{Answer, Solved, Stuck, Tired}
+use Rattle.branch.specs.Inner.Values.{usingB, pastF, followingW, answerIn}
 use Rattle.segment.specs.Inner.Tasks.{taskOf, agendaOf, Laid, Pushing}
 use Rattle.segment.proofs.TasksAreAgendas.{agenda-next, nest-low, laid-less, laid-short}
 use Rattle.moves.specs.declared.Sought.{Sought as Found}

@@ -5,7 +5,7 @@ use mathlib.Core.Path.{_≡_}
 use mathlib.Core.List.{List}
 use Rattle.card.specs.Fault.{Sound}
 use Rattle.card.specs.Decode.{goalAt}
-use Rattle.segment.specs.declared.branch.Branch.{Branch}
+use Rattle.branch.specs.declared.Branch.{Branch}
 use Rattle.segment.specs.Inner.Tasks.{weight, total, Laid}
 use Rattle.segment.proofs.TasksAreAgendas.{total-bound}
 

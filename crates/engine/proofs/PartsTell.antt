@@ -31,11 +31,11 @@ use Rattle.entries.proofs.TablesAreScopes.{scope-len, lend-scope, entered-more}
 use Rattle.agenda.specs.Inner.Agenda.{Agenda, task}
 use Rattle.agenda.specs.Inner.Sought.{Place, lentPlace, None, Least}
 use Rattle.agenda.proofs.SearchTells.{lend-none, lend-least}
-use Rattle.segment.specs.declared.branch.Branch.{Branch}
-use Rattle.segment.specs.declared.branch.Way.{Way}
-use Rattle.segment.specs.declared.branch.Floor.{Floor}
-use Rattle.segment.specs.Inner.Values.{Answer, Solved, Stuck, Tired}
-use Rattle.segment.specs.Inner.Values.{ownB, leadB, lentB, joinedW, withoutW}
+use Rattle.branch.specs.declared.Branch.{Branch}
+use Rattle.branch.specs.declared.Way.{Way}
+use Rattle.branch.specs.declared.Floor.{Floor}
+use Rattle.branch.specs.Inner.Values.{Answer, Solved, Stuck, Tired}
+use Rattle.branch.specs.Inner.Values.{ownB, leadB, lentB, joinedW, withoutW}
 use Rattle.segment.specs.Inner.Tasks.{taskOf, agendaOf, weight, taskWeight, total, Laid}
 use Rattle.segment.proofs.WeightsFall.{weight-pos, weight-times, either-weight, lend-weight}
 use Rattle.segment.proofs.TasksAreAgendas.{nest-low, agenda-next, total-next, agenda-one, total-one, laid-one}

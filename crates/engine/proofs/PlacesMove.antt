@@ -22,10 +22,10 @@ use Rattle.entries.specs.Inner.Entries.{scopeIn}
 use Rattle.entries.proofs.TablesAreScopes.{scope-kept, entered-kept}
 use Rattle.agenda.specs.Inner.Order.{Next}
 use Rattle.agenda.specs.Inner.Sought.{floored, lead, past, pastLead, pastWith, lentPlace, pastUse, spent, spending}
-use Rattle.segment.specs.declared.branch.Branch.{Branch}
-use Rattle.segment.specs.declared.branch.Way.{Way}
-use Rattle.segment.specs.declared.branch.Floor.{Floor}
-use Rattle.segment.specs.Inner.Values.{leadB, pastTensorB, pastWithB, lentB, usingB}
+use Rattle.branch.specs.declared.Branch.{Branch}
+use Rattle.branch.specs.declared.Way.{Way}
+use Rattle.branch.specs.declared.Floor.{Floor}
+use Rattle.branch.specs.Inner.Values.{leadB, pastTensorB, pastWithB, lentB, usingB}
 use Rattle.moves.specs.Inner.Moves.{givenAt, fromAt, raisedF}
 use Rattle.engine.specs.Inner.Engine.{placeOf, Ready}
 

@@ -28,11 +28,11 @@ use Rattle.agenda.specs.Inner.Sought.{Place, floored, holding, past, Spares, No
 use Rattle.agenda.proofs.ListsOrdered.{next-append, next-none}
 use Rattle.agenda.proofs.WindowsDivide.{Divides}
 use Rattle.agenda.proofs.SearchTells.{part-none, part-solved, part-nosteps, part-raise, raised-start, raised-none, raised-least}
-use Rattle.segment.specs.declared.branch.Branch.{Branch}
-use Rattle.segment.specs.declared.branch.Way.{Way}
-use Rattle.segment.specs.declared.branch.Floor.{Floor}
-use Rattle.segment.specs.Inner.Values.{Answer, Stuck, Tired}
-use Rattle.segment.specs.Inner.Values.{leadB, ownB, pastF}
+use Rattle.branch.specs.declared.Branch.{Branch}
+use Rattle.branch.specs.declared.Way.{Way}
+use Rattle.branch.specs.declared.Floor.{Floor}
+use Rattle.branch.specs.Inner.Values.{Answer, Stuck, Tired}
+use Rattle.branch.specs.Inner.Values.{leadB, ownB, pastF}
 use Rattle.moves.specs.Inner.Moves.{givenAt, fromAt, raisedF}
 use Rattle.engine.specs.Inner.Engine.{placeOf, Ready, Fresh}
 use Rattle.engine.specs.Inner.Engine.{Told, Searches}

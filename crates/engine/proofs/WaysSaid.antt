@@ -10,12 +10,12 @@ use types.Run.{OneOf}
 use denote.Enum.Declared.{tagOf}
 use Rattle.card.specs.Format.{ruleCount, lineCount, nodeCount, kindAt, leftAt}
 use Rattle.scope.specs.Inner.Tables.{Kept}
-use Rattle.segment.specs.declared.branch.Branch.{Branch}
-use Rattle.segment.specs.declared.branch.Way.{Way}
-use Rattle.segment.specs.declared.branch.Outcome.{Outcome}
-use Rattle.segment.specs.declared.branch.Outcome.the-variants.{Solved as IsSolved, Stuck as IsStuck, Tired as IsTired}
-use Rattle.segment.specs.Inner.Values.{Solved, Stuck, Tired, wayIn, answerIn, Awake, usingB, pastTensorB, pastWithB}
-use Rattle.segment.proofs.branch.Outcome.{the-type}
+use Rattle.branch.specs.declared.Branch.{Branch}
+use Rattle.branch.specs.declared.Way.{Way}
+use Rattle.branch.specs.declared.Outcome.{Outcome}
+use Rattle.branch.specs.declared.Outcome.the-variants.{Solved as IsSolved, Stuck as IsStuck, Tired as IsTired}
+use Rattle.branch.specs.Inner.Values.{Solved, Stuck, Tired, wayIn, answerIn, Awake, usingB, pastTensorB, pastWithB}
+use Rattle.branch.proofs.Outcome.{the-type}
 use Rattle.prune.specs.Inner.Prune.{Memory}
 use Rattle.prune.proofs.RootsKept.{rooted-kept, rooted-lent}
 use Rattle.prune.proofs.StockKept.{stocked-kept}

@@ -1,6 +1,12 @@
 // The engine: what a segment still has to do is an agenda, handed on by value. A name goes on at once with the conditions of the entry that
 // serves it before the rest; & and ⊸ are segments of their own, raised in place where the rest finds nothing behind them. Nothing is ever
 // given back: each try goes on with a branch and an agenda of its own.
+use branch::Branch;
+use branch::Floor;
+use branch::Outcome;
+use branch::follow;
+use branch::put_way;
+use branch::way_in;
 use card::both;
 use card::format::byte;
 use card::format::kind;
@@ -16,19 +22,13 @@ use moves::raise;
 use moves::right_alone;
 use moves::seek;
 use moves::unfloored;
-use segment::branch::Branch;
-use segment::branch::Floor;
-use segment::branch::Outcome;
-use segment::branch::follow;
-use segment::branch::put_way;
-use segment::branch::way_in;
 use segment::tasks::nest;
 use segment::tasks::node;
 use segment::tasks::unwind;
 ghost use mathlib.Core.Path.{_≡_};
 ghost use Rattle.card.specs.Format.{kindAt};
 ghost use Rattle.segment.specs.Inner.Tasks.{Laid};
-ghost use Rattle.segment.specs.Inner.Values.{answerIn};
+ghost use Rattle.branch.specs.Inner.Values.{answerIn};
 ghost use Rattle.moves.specs.Inner.Moves.{FirstEntry};
 ghost use Rattle.engine.specs.Inner.Engine.{Ready, NameNext, NameOpen, CanUse, PartNext, GoalReady, Fresh, Solving, Alone, Using};
 ghost use Rattle.engine.specs.Inner.Engine.{Equipped, Stays};

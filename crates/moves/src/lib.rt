@@ -1,12 +1,12 @@
 // The engine's moves, each by itself: which entry is tried next at a name and where the given steps bear on it, the floor behind a list, the
 // agenda of a part or of a clause's conditions, the item of a lent clause, the branch at the start.
+use branch::Branch;
+use branch::Floor;
+use branch::Outcome;
 use card::format::byte;
 use card::format::left;
 use card::format::right;
 use lines::LineSet;
-use segment::branch::Branch;
-use segment::branch::Floor;
-use segment::branch::Outcome;
 use segment::tasks::nest;
 use segment::tasks::push;
 use segment::tasks::put;

@@ -12,7 +12,7 @@ use Rattle.agenda.specs.Inner.Agenda.{Agenda}
 use Rattle.agenda.specs.Inner.Sought.{Place, None}
 use Rattle.entries.specs.Inner.Entries.{scopeIn}
 use Rattle.entries.specs.Inner.Twins.{eligible}
-use Rattle.segment.specs.declared.branch.Branch.{Branch}
+use Rattle.branch.specs.declared.Branch.{Branch}
 use Rattle.segment.specs.Inner.Tasks.{nodeOf, agendaOf, Laid}
 use Rattle.dead.specs.Inner.Barren.{BarrenIn, Honest, Asking, Dead, Remembers}
 use Rattle.dead.proofs.DeadStaysDead.{barren-none}

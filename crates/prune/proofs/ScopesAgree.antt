@@ -18,7 +18,7 @@ use Rattle.card.proofs.SoundNodes.{sound-rule-node, sound-line-node}
 use Rattle.scope.specs.Inner.Tables.{scopeIn as tableScope, Entered}
 use Rattle.entries.specs.Inner.Entries.{scopeIn}
 use Rattle.entries.proofs.TablesAreScopes.{scope-clause}
-use Rattle.segment.specs.declared.branch.Branch.{Branch}
+use Rattle.branch.specs.declared.Branch.{Branch}
 use Rattle.bounds.specs.Inner.Table.{OfCard, rule, line, lent}
 use Rattle.bounds.specs.Inner.Doom.{Stocked}
 use Rattle.prune.specs.Inner.Prune.{jobCount, Asks}

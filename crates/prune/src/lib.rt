@@ -1,7 +1,7 @@
 // Prunings: what the engine asks before it searches a branch, and what it tells of a dead end. The table of bounds says which agendas are
 // hopeless, the memory which were found dead. A first run has neither: it counts its dead ends and gives up after so many.
+use branch::Branch;
 use card::format::byte;
-use segment::branch::Branch;
 ghost use mathlib.Core.Path.{_≡_};
 ghost use mathlib.Core.Bool.{true};
 ghost use lib.ListN.{length};

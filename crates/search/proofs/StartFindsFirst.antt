@@ -26,10 +26,10 @@ use Rattle.entries.proofs.TwinsLoseNothing.{first-eligible, none-eligible}
 use Rattle.agenda.specs.Inner.Agenda.{Agenda, task}
 use Rattle.agenda.specs.Inner.Sought.{Place, None, Least, startPlace}
 use Rattle.agenda.proofs.StartTells.{start-none, start-least}
-use Rattle.segment.specs.declared.branch.Branch.{Branch}
-use Rattle.segment.specs.declared.branch.Way.{Way}
-use Rattle.segment.specs.declared.branch.Floor.{Floor}
-use Rattle.segment.specs.Inner.Values.{Answer, Solved, Stuck, Tired}
+use Rattle.branch.specs.declared.Branch.{Branch}
+use Rattle.branch.specs.declared.Way.{Way}
+use Rattle.branch.specs.declared.Floor.{Floor}
+use Rattle.branch.specs.Inner.Values.{Answer, Solved, Stuck, Tired}
 use Rattle.segment.specs.Inner.Tasks.{agendaOf, Laid}
 use Rattle.segment.proofs.TasksAreAgendas.{agenda-one, laid-one}
 use Rattle.moves.specs.Inner.Moves.{givenAt, fromAt}

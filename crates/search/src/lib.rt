@@ -1,12 +1,12 @@
 // The search: the first list of a sound card (01, "Steps, nesting, order, marks").
-use segment::branch::Floor;
-use segment::branch::Outcome;
-use segment::branch::way_in;
+use branch::Floor;
+use branch::Outcome;
+use branch::way_in;
 ghost use mathlib.Core.Path.{_≡_};
 ghost use mathlib.Core.Bool.{true};
 ghost use lib.ListN.{length};
 ghost use Rattle.card.specs.Fault.{Sound};
-ghost use Rattle.segment.specs.Inner.Values.{answerIn, Awake};
+ghost use Rattle.branch.specs.Inner.Values.{answerIn, Awake};
 ghost use Rattle.bounds.specs.Inner.Table.{Held, Settled};
 ghost use Rattle.prune.specs.Inner.Prune.{Tabled, Stocked};
 ghost use Rattle.engine.specs.Inner.Engine.{Weary};

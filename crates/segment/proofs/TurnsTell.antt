@@ -18,8 +18,8 @@ use Rattle.agenda.specs.Inner.Agenda.{Agenda, Task, task}
 use Rattle.agenda.specs.Inner.Sought.{Place, holding, eased, None, Least}
 use Rattle.agenda.proofs.AgendasRead.{reads-⊗, reads-1}
 use Rattle.agenda.proofs.SearchTells.{alike-none, alike-least, rest-none, rest-least}
-use Rattle.segment.specs.declared.branch.Branch.{Branch}
-use Rattle.segment.specs.Inner.Values.{droppedB, longerB, easedB}
+use Rattle.branch.specs.declared.Branch.{Branch}
+use Rattle.branch.specs.Inner.Values.{droppedB, longerB, easedB}
 use Rattle.segment.specs.Inner.Tasks.{nodeOf, nestOf, taskOf, agendaOf, weight, taskWeight, total, Fit, Laid}
 use Rattle.segment.specs.Inner.Tasks.{Splitting, halves, Turning, itemsAt, Unwound, Lighter}
 use Rattle.segment.proofs.WeightsFall.{weight-pos, weights-times, both-weight}

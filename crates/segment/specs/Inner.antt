@@ -1,3 +1,2 @@
--- The terms of the search's own contracts: how a branch changes, and which agenda the tasks of an array are.
-pub mod Values
+-- The terms of the contracts: which agenda the tasks of an array are.
 pub mod Tasks

@@ -1,3 +1,2 @@
 // A segment of the search: all parts of ⊗ and all conditions that share one window and one scope.
-pub mod branch;
 pub mod tasks;

@@ -1,5 +1,5 @@
 // The agenda as an array of tasks, each a goal's node and the nesting left to it; the next task is the last.
-use crate::branch::Branch;
+use branch::Branch;
 use card::format::kind;
 use card::format::left;
 use card::format::right;

@@ -12,7 +12,7 @@ use Rattle.agenda.specs.Inner.Agenda.{Agenda}
 use Rattle.agenda.specs.Inner.Sought.{Place, None}
 use Rattle.entries.specs.Inner.Twins.{eligible}
 use Rattle.entries.specs.Inner.Masks.{Seen}
-use Rattle.segment.specs.declared.branch.Branch.{Branch}
+use Rattle.branch.specs.declared.Branch.{Branch}
 use Rattle.segment.specs.Inner.Tasks.{agendaOf}
 use Rattle.dead.specs.Inner.Rows.{rowCount, rowWidth, codeCells, wordCells, rowStrict, rowLax, rowSeen, rowLen, rowRoom, rowAgenda}
 

@@ -5,7 +5,7 @@ use mathlib.Core.Logic.{_⊎_}
 use mathlib.Core.List.{List, [], _∷_}
 use lib.ListN.{length, getD, drop}
 use Rattle.lines.specs.declared.LineSet.{LineSet}
-use Rattle.segment.specs.declared.branch.Branch.{Branch}
+use Rattle.branch.specs.declared.Branch.{Branch}
 use Rattle.entries.specs.Inner.Masks.{maskSet}
 use Rattle.agenda.specs.Inner.Agenda.{Agenda}
 use Rattle.segment.specs.Inner.Tasks.{agendaOf}

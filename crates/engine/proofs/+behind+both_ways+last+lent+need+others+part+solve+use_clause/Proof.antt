@@ -10,8 +10,8 @@ use Rattle.card.specs.Decode.{goalAt}
 use Rattle.card.proofs.CardChecked.{sound-front}
 use Rattle.card.proofs.SoundNodes.{clause-lower, node-here}
 use Rattle.agenda.specs.Inner.Agenda.{task}
-use Rattle.segment.specs.declared.branch.Branch.{Branch}
-use Rattle.segment.specs.Inner.Values.{Solved, answerIn, lentB}
+use Rattle.branch.specs.declared.Branch.{Branch}
+use Rattle.branch.specs.Inner.Values.{Solved, answerIn, lentB}
 use Rattle.segment.specs.Inner.Tasks.{agendaOf}
 use Rattle.moves.specs.Inner.Moves.{givenAt, fromAt}
 use Rattle.engine.specs.Inner.Engine.{Equipped}
@@ -83,20 +83,20 @@ use Rattle.moves.proofs.raise.Reads as raise-reads
 use Rattle.moves.proofs.right_alone.Reads as right-alone-reads
 use Rattle.moves.proofs.seek.Reads as seek-reads
 use Rattle.moves.proofs.unfloored.Reads as unfloored-reads
-use Rattle.segment.proofs.branch.Branch.closed.Reads as closed-reads
-use Rattle.segment.proofs.branch.Branch.joined.Reads as joined-reads
-use Rattle.segment.proofs.branch.Branch.lead.Reads as lead-reads
-use Rattle.segment.proofs.branch.Branch.lent.Reads as lent-reads
-use Rattle.segment.proofs.branch.Branch.own.Reads as own-reads
-use Rattle.segment.proofs.branch.Branch.past_tensor.Reads as past-tensor-reads
-use Rattle.segment.proofs.branch.Branch.past_with.Reads as past-with-reads
-use Rattle.segment.proofs.branch.Branch.using.Reads as using-reads
-use Rattle.segment.proofs.branch.Floor.past.Reads as past-reads
-use Rattle.segment.proofs.branch.Way.beside.Reads as beside-reads
-use Rattle.segment.proofs.branch.Way.without.Reads as without-reads
-use Rattle.segment.proofs.branch.follow.Reads as follow-reads
-use Rattle.segment.proofs.branch.put_way.Reads as put-way-reads
-use Rattle.segment.proofs.branch.way_in.Reads as way-in-reads
+use Rattle.branch.proofs.Branch.closed.Reads as closed-reads
+use Rattle.branch.proofs.Branch.joined.Reads as joined-reads
+use Rattle.branch.proofs.Branch.lead.Reads as lead-reads
+use Rattle.branch.proofs.Branch.lent.Reads as lent-reads
+use Rattle.branch.proofs.Branch.own.Reads as own-reads
+use Rattle.branch.proofs.Branch.past_tensor.Reads as past-tensor-reads
+use Rattle.branch.proofs.Branch.past_with.Reads as past-with-reads
+use Rattle.branch.proofs.Branch.using.Reads as using-reads
+use Rattle.branch.proofs.Floor.past.Reads as past-reads
+use Rattle.branch.proofs.Way.beside.Reads as beside-reads
+use Rattle.branch.proofs.Way.without.Reads as without-reads
+use Rattle.branch.proofs.follow.Reads as follow-reads
+use Rattle.branch.proofs.put_way.Reads as put-way-reads
+use Rattle.branch.proofs.way_in.Reads as way-in-reads
 use Rattle.segment.proofs.tasks.nest.Reads as nest-reads
 use Rattle.segment.proofs.tasks.node.Reads as node-reads
 use Rattle.segment.proofs.tasks.unwind.Reads as unwind-reads

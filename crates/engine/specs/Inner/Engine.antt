@@ -20,12 +20,12 @@ use Rattle.entries.specs.Inner.Masks.{Waiting, Seen}
 use Rattle.agenda.specs.Inner.Agenda.{Agenda, task, pushed}
 use Rattle.agenda.specs.Inner.Order.{Next}
 use Rattle.agenda.specs.Inner.Sought.{Place, None, Least}
-use Rattle.segment.specs.declared.branch.Branch.{Branch}
-use Rattle.segment.specs.declared.branch.Way.{Way}
-use Rattle.segment.specs.declared.branch.Floor.{Floor}
-use Rattle.segment.specs.declared.branch.Outcome.{Outcome}
-use Rattle.segment.specs.declared.branch.Outcome.the-variants.{Solved as IsSolved, Stuck as IsStuck, Tired as IsTired}
-use Rattle.segment.specs.Inner.Values.{Answer, Solved, Stuck, Tired, usingB, pastF}
+use Rattle.branch.specs.declared.Branch.{Branch}
+use Rattle.branch.specs.declared.Way.{Way}
+use Rattle.branch.specs.declared.Floor.{Floor}
+use Rattle.branch.specs.declared.Outcome.{Outcome}
+use Rattle.branch.specs.declared.Outcome.the-variants.{Solved as IsSolved, Stuck as IsStuck, Tired as IsTired}
+use Rattle.branch.specs.Inner.Values.{Answer, Solved, Stuck, Tired, usingB, pastF}
 use Rattle.segment.specs.Inner.Tasks.{nodeOf, nestOf, agendaOf, Laid}
 use Rattle.prune.specs.Inner.Prune.{Rooted, Stocked}
 use Rattle.moves.specs.Inner.Moves.{takableBy, givenAt, fromAt}

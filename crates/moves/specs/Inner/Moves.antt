@@ -11,10 +11,10 @@ use Rattle.card.specs.Fault.{Sound}
 use Rattle.lines.specs.Inner.Set.{emptyS, fullS, cutS}
 use Rattle.scope.specs.Inner.Sets.{items, strictOf}
 use Rattle.entries.specs.Inner.Masks.{readyBy}
-use Rattle.segment.specs.declared.branch.Branch.{Branch}
-use Rattle.segment.specs.declared.branch.Floor.{Floor}
-use Rattle.segment.specs.declared.branch.Outcome.{Outcome}
-use Rattle.segment.specs.declared.branch.Outcome.the-variants.{Stuck as IsStuck, Tired as IsTired}
+use Rattle.branch.specs.declared.Branch.{Branch}
+use Rattle.branch.specs.declared.Floor.{Floor}
+use Rattle.branch.specs.declared.Outcome.{Outcome}
+use Rattle.branch.specs.declared.Outcome.the-variants.{Stuck as IsStuck, Tired as IsTired}
 use Rattle.moves.specs.declared.Sought.{Sought}
 use Rattle.moves.specs.declared.Sought.the-variants.{At, Nothing}
 

@@ -13,7 +13,7 @@ use Rattle.agenda.specs.Inner.Sought.{Place, None}
 use Rattle.entries.specs.Inner.Entries.{scopeIn}
 use Rattle.entries.specs.Inner.Twins.{eligible}
 use Rattle.entries.specs.Inner.Masks.{Seen}
-use Rattle.segment.specs.declared.branch.Branch.{Branch}
+use Rattle.branch.specs.declared.Branch.{Branch}
 use Rattle.segment.specs.Inner.Tasks.{agendaOf, Laid}
 use Rattle.dead.specs.Inner.Barren.{Honest}
 use Rattle.bounds.specs.Inner.Table.{Held, Settled}

@@ -7,10 +7,10 @@ use mathlib.Core.List.{List, [], _∷_}
 use types.Run.{OneOf}
 use denote.Enum.Declared.{tagOf}
 use borrow.Author.Needs.{needs}
-use Rattle.segment.specs.declared.branch.Outcome.{Outcome}
-use Rattle.segment.specs.declared.branch.Outcome.the-variants.{Solved as IsSolved, Stuck as IsStuck, Tired as IsTired}
-use Rattle.segment.specs.Inner.Values.{answerIn, Awake}
-use Rattle.segment.proofs.branch.Outcome.{the-type}
+use Rattle.branch.specs.declared.Outcome.{Outcome}
+use Rattle.branch.specs.declared.Outcome.the-variants.{Solved as IsSolved, Stuck as IsStuck, Tired as IsTired}
+use Rattle.branch.specs.Inner.Values.{answerIn, Awake}
+use Rattle.branch.proofs.Outcome.{the-type}
 use Rattle.prune.proofs.StockKept.{stocked-start}
 use Rattle.search.specs.declared.Found.{Found}
 use Rattle.search.specs.Inner.Found.{Finds, Ran, Says}

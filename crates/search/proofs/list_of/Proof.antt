@@ -5,11 +5,11 @@ use mathlib.Core.List.{List, [], _∷_}
 use Prim.Native.Nat.{ℕ}
 use types.Run.{OneOf}
 use denote.Enum.Declared.{tagOf}
-use Rattle.segment.specs.declared.branch.Way.{Way}
-use Rattle.segment.specs.declared.branch.Outcome.{Outcome}
-use Rattle.segment.specs.declared.branch.Outcome.the-variants.{Solved as IsSolved, Stuck as IsStuck, Tired as IsTired}
-use Rattle.segment.specs.Inner.Values.{wayIn, Awake}
-use Rattle.segment.proofs.branch.Outcome.{the-type}
+use Rattle.branch.specs.declared.Way.{Way}
+use Rattle.branch.specs.declared.Outcome.{Outcome}
+use Rattle.branch.specs.declared.Outcome.the-variants.{Solved as IsSolved, Stuck as IsStuck, Tired as IsTired}
+use Rattle.branch.specs.Inner.Values.{wayIn, Awake}
+use Rattle.branch.proofs.Outcome.{the-type}
 use Rattle.search.specs.declared.Found.the-variants.{List as ListOf, Nothing}
 use mathlib.Core.Path.{_≡_, refl, ap}
 use borrow.Author.Needs.{needs}

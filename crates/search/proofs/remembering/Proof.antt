@@ -6,9 +6,9 @@ use mathlib.Core.Logic.{inr}
 use mathlib.Core.List.{List}
 use lib.ListN.{length, length-replicate}
 use borrow.Author.Needs.{needs}
-use Rattle.segment.specs.declared.branch.Outcome.{Outcome}
-use Rattle.segment.specs.declared.branch.Outcome.the-variants.{Solved as IsSolved, Stuck as IsStuck, Tired as IsTired}
-use Rattle.segment.specs.Inner.Values.{Awake}
+use Rattle.branch.specs.declared.Outcome.{Outcome}
+use Rattle.branch.specs.declared.Outcome.the-variants.{Solved as IsSolved, Stuck as IsStuck, Tired as IsTired}
+use Rattle.branch.specs.Inner.Values.{Awake}
 use Rattle.dead.proofs.DeadStaysDead.{honest-new}
 use Rattle.engine.specs.Inner.Engine.{Weary}
 use Rattle.search.proofs.remembering.Statement.{statement}

@@ -9,9 +9,9 @@ use Rattle.card.specs.Fault.{Sound}
 use Rattle.card.specs.Decode.{jobOf}
 use Rattle.entries.specs.Inner.Entries.{scopeIn, Entered}
 use Rattle.entries.specs.Inner.Masks.{Waiting}
-use Rattle.segment.specs.declared.branch.Outcome.{Outcome}
-use Rattle.segment.specs.declared.branch.Outcome.the-variants.{Solved as IsSolved, Stuck as IsStuck, Tired as IsTired}
-use Rattle.segment.specs.Inner.Values.{Answer, Solved, Stuck, Tired, wayIn}
+use Rattle.branch.specs.declared.Outcome.{Outcome}
+use Rattle.branch.specs.declared.Outcome.the-variants.{Solved as IsSolved, Stuck as IsStuck, Tired as IsTired}
+use Rattle.branch.specs.Inner.Values.{Answer, Solved, Stuck, Tired, wayIn}
 use Rattle.search.specs.declared.Found.{Found}
 use Rattle.search.specs.declared.Found.the-variants.{List as ListOf, Nothing}
 

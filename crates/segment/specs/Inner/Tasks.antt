@@ -14,7 +14,7 @@ use Rattle.card.specs.Decode.{goalAt, clauseOf}
 use Rattle.scope.specs.Inner.Sets.{items}
 use Rattle.agenda.specs.Inner.Agenda.{Agenda, Task, task, pushed}
 use Rattle.agenda.specs.Inner.Sought.{Place, holding, None, Least}
-use Rattle.segment.specs.declared.branch.Branch.{Branch}
+use Rattle.branch.specs.declared.Branch.{Branch}
 
 -- a task in two bytes: the goal's node and the nesting left
 unfoldable pub nodeOf : ℕ → ℕ

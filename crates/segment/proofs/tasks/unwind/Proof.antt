@@ -9,7 +9,7 @@ use lib.ListN.{length, getD}
 use Rattle.card.specs.Format.{nodeCount, kindAt}
 use Rattle.card.specs.Fault.{Sound}
 use Rattle.card.proofs.SoundNodes.{goal-lower, goal-kind, node-here}
-use Rattle.segment.specs.declared.branch.Branch.{Branch}
+use Rattle.branch.specs.declared.Branch.{Branch}
 use Rattle.segment.specs.Inner.Tasks.{nodeOf, total, Laid, Turning, Unwound, Opened}
 use Rattle.segment.proofs.TasksAreAgendas.{laid-short}
 use Rattle.segment.proofs.TurnsTell.{unwound-self, unwound-trans}

@@ -1,0 +1,35 @@
+-- By whether a strict item is left.
+use mathlib.Core.Path.{_≡_, refl, sym, _∙_, ap}
+use mathlib.Core.Bool.{true, false}
+use Rattle.lines.specs.Inner.Set.{isEmptyS, Words}
+use Rattle.branch.specs.Inner.Values.{Solved, answerIn, Awake, closedA}
+use borrow.Author.Needs.{needs}
+use Rattle.branch.proofs.Branch.closed.Statement.{statement}
+use Rattle.branch.proofs.Branch.closed.Tie as tie
+
+words : (s : tie.Start) → Words (s .args .self .strict)
+words s = search needs
+
+is-empty-requires : tie.Need-is-empty-requires
+is-empty-requires c κs = search needs
+
+put-way-requires : tie.Need-put-way-requires
+put-way-requires c κs = search needs
+
+returns : tie.Need-returns
+unfolding closedA answerIn Awake
+returns c =
+    let at-test = c .before .before .before in
+    let start = at-test .before .before .before .before in
+    let e : isEmptyS (start .args .self .strict) ≡ true = sym (at-test .is-empty .ensures) ∙ c .before .before .if1 .taken in
+    (rw e (ap Solved (c .put-way .ensures .0)), (words start, (c .put-way .ensures .1, tt)))
+
+returns-2 : tie.Need-returns-2
+unfolding closedA answerIn Awake
+returns-2 c =
+    let start = c .before .before .before .before .before in
+    let e : isEmptyS (start .args .self .strict) ≡ false = sym (c .before .is-empty .ensures) ∙ c .if1 .left in
+    (rw e refl, (words start, (start .pre, tt)))
+
+pub closed-spec : {M : Type 1} → statement M
+closed-spec = tie.close (tie.spec is-empty-requires put-way-requires returns returns-2)
