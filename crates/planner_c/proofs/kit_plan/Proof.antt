@@ -1,58 +1,29 @@
--- `kit_plan` meets its contract: each case of the answer is told as a number that reads as it.
+-- `kit_plan` meets its contract: the answer is an outcome, and its number reads as it.
+use mathlib.Core.Path.{sym, subst}
 use borrow.Author.Needs.{needs}
-use Rattle.planner_c.proofs.NumbersReadBack.{plain-fine, tells-planned, tells-refused}
+use Rattle.planner.specs.Plan.{PlanVerdict, Planning}
+use Rattle.planner.proofs.PlannedExactly.{plan-decided}
+use Rattle.numbers.proofs.NumbersReadBack.{plan-nonzero}
 use Rattle.planner_c.proofs.kit_plan.Statement.{statement}
 use Rattle.planner_c.proofs.kit_plan.Tie as tie
 
 plan-requires : tie.Need-plan-requires
 plan-requires c κs = search needs
 
-enum-known-answer : tie.Need-enum-known-answer
-enum-known-answer c = search needs
-
-cast-packed : tie.Need-cast-packed
-cast-packed c = search needs
-
-packed-requires : tie.Need-packed-requires
-packed-requires c κs = search needs
-
-enum-known-answer-2 : tie.Need-enum-known-answer-2
-enum-known-answer-2 c = search needs
-
-packed-refusal-requires : tie.Need-packed-refusal-requires
-packed-refusal-requires c κs = search needs
+packed-plan-requires : tie.Need-packed-plan-requires
+packed-plan-requires c κs = plan-nonzero (plan-decided (c .before .before .plan .ensures))
 
 same-length : tie.Need-same-length
 same-length c = search needs
 
 returns : tie.Need-returns
 returns c =
-    let m = c .before .before .before .before .before .before in (
-      tells-planned (c .packed .result) _ (m .plan .ensures) (c .before .before .answer .given .1) (c .packed .ensures),
-      plain-fine (c .packed .result) (c .packed .ensures .0),
-    )
-
-same-length-2 : tie.Need-same-length-2
-same-length-2 c = search needs
-
-returns-2 : tie.Need-returns-2
-returns-2 c =
-    let m = c .before .before .before .before .before .before in (
-      tells-refused (c .packed-refusal .result) _ (m .plan .ensures) (c .before .before .answer2 .given .1) (c .packed-refusal .ensures .0),
-      c .packed-refusal .ensures .1,
+    let m = c .before .before .before in
+    let s = m .before .before .before .before .args in (
+      subst (λ (v : PlanVerdict). Planning (s .card .now) (s .sheet .now) v (m .plan .last .1 .0)) (sym (c .packed-plan .ensures .0))
+          (m .plan .ensures),
+      c .packed-plan .ensures .1,
     )
 
 pub kit-plan-spec : {M : Type 1} → statement M
-kit-plan-spec =
-    tie.close
-    (tie.spec
-    plan-requires
-    enum-known-answer
-    cast-packed
-    packed-requires
-    enum-known-answer-2
-    packed-refusal-requires
-    same-length
-    returns
-    same-length-2
-    returns-2)
+kit-plan-spec = tie.close (tie.spec plan-requires packed-plan-requires same-length returns)

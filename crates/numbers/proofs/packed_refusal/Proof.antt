@@ -2,10 +2,10 @@ use native.Mathlib.Omega.{arith}
 use mathlib.Core.Path.{refl}
 use borrow.Author.Needs.{needs}
 use Rattle.card.specs.Verdict.{whereOf}
-use Rattle.planner_c.specs.Numbers.{places, placeOf}
-use Rattle.planner_c.proofs.NumbersReadBack.{told-at, indexOf, plain-indexed, plain-bare}
-use Rattle.planner_c.proofs.packed_refusal.Statement.{statement}
-use Rattle.planner_c.proofs.packed_refusal.Tie as tie
+use Rattle.numbers.specs.Numbers.{places, placeOf}
+use Rattle.numbers.proofs.NumbersReadBack.{told-at, indexOf, plain-indexed, plain-bare}
+use Rattle.numbers.proofs.packed_refusal.Statement.{statement}
+use Rattle.numbers.proofs.packed_refusal.Tie as tie
 
 enum-told : tie.Need-enum-told
 enum-told c = search needs

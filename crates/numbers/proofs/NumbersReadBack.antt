@@ -1,7 +1,7 @@
 -- A number reads as the outcome that it tells, and every decision has a number.
 use Prim.Native.Nat.{ℕ, _+_, _*_, _^_, _≤_, _<_}
 use native.Mathlib.Omega.{arith}
-use mathlib.Core.Path.{_≡_, refl, sym, ap, ap₂, subst, _∙_}
+use mathlib.Core.Path.{_≡_, refl, sym, ap, ap₂, _∙_}
 use mathlib.Core.Logic.{⊎-elim}
 use mathlib.Core.List.{List}
 use borrow.Author.Tests.{eq-eqb, ne-eqb}
@@ -12,14 +12,13 @@ use Rattle.card.specs.Fault.{Placed}
 use Rattle.card.specs.Verdict.{Where, card, node, rule, line, sheet, steps, mark, whereOf}
 use Rattle.planner.specs.declared.Answer.{Answer}
 use Rattle.planner.specs.declared.Answer.the-variants.{Planned, Refused}
-use Rattle.planner.specs.Plan.{PlanVerdict, planned, refused, toldPlan, Planning, PlanDecided, is-planned, is-refused}
-use Rattle.planner.proofs.PlannedExactly.{plan-decided}
+use Rattle.planner.specs.Plan.{PlanVerdict, planned, refused, toldPlan, PlanDecided, is-planned, is-refused}
 use Rattle.reader.specs.declared.Answer.{Answer as ReadAnswer}
 use Rattle.reader.specs.declared.Answer.the-variants.{Accepted, Refused as NotAccepted}
-use Rattle.reader.specs.Read.{ReadVerdict, accepted, refused as not-accepted, toldRead, Reading, AcceptsExactly, ReadDecided, is-accepted}
+use Rattle.reader.specs.Read.{ReadVerdict, accepted, refused as not-accepted, toldRead, ReadDecided, is-accepted}
 use Rattle.reader.specs.Read.{is-refused as is-not-accepted}
-use Rattle.reader.proofs.AcceptedExactly.{read-decided}
-use Rattle.planner_c.specs.Numbers.{numberIn, placeIn, indexIn, places, placeOf, Plain, saidBy, planIn, readIn}
+use Rattle.numbers.specs.Inner.Nonzero.{Nonzero}
+use Rattle.numbers.specs.Numbers.{numberIn, placeIn, indexIn, places, placeOf, Plain, saidBy, planIn, readIn}
 
 -- a refusal whose place is known, told in the three parts of r
 pub told-at : (r : ℕ) {n m i : ℕ} {p q : Place} → p ≡ q → (numberIn r ≡ n) × (placeIn r ≡ m) × (indexIn r ≡ i) → placeOf m i ≡ whereOf q
@@ -138,43 +137,35 @@ read-back b (is-not-accepted {n} {w} h p) =
     refused-back accepted not-accepted b n w p (⊎-elim (λ q. q .0) (λ q. omega (arith, q .0)) h)
     (⊎-elim (λ q. omega (arith, q .1)) (λ q. omega (arith, q .1)) h)
 
--- a refusal's number is not 0
-plan-refused : {bs old new : List ℕ} {n : ℕ} {w : Where} → PlanDecided bs old new (refused n w) → 1 ≤ n
-plan-refused (is-refused h p e) = h .0
+-- a decision's refusal has a number that is not 0
+pub plan-nonzero : {bs old new : List ℕ} {v : PlanVerdict} → PlanDecided bs old new v → Nonzero refused v
+plan-nonzero (is-planned h) = record { nonzero = λ n w e. let z : _≡_ {A = ℕ} 0 1 = cc in absurd (omega arith) }
+plan-nonzero (is-refused {n} {w} h p e) = record { nonzero = λ m v q. let z : n ≡ m = cc in omega (arith, h .0) }
 
-read-refused : {bs : List ℕ} {n : ℕ} {w : Where} → ReadDecided bs (not-accepted n w) → 1 ≤ n
-read-refused (is-not-accepted h p) = ⊎-elim (λ q. q .0) (λ q. omega (arith, q .0)) h
+pub read-nonzero : {bs : List ℕ} {v : ReadVerdict} → ReadDecided bs v → Nonzero not-accepted v
+read-nonzero (is-accepted h) = record { nonzero = λ n w e. let z : _≡_ {A = ℕ} 0 1 = cc in absurd (omega arith) }
+read-nonzero (is-not-accepted {n} {w} h p) =
+    let low = ⊎-elim (λ q. q .0) (λ q. omega (arith, q .0)) h in
+    record { nonzero = λ m v q. let z : n ≡ m = cc in omega (arith, low) }
 
 -- a planner's answer that is known, told as the number r
-module _ {bs old new : List ℕ} (r : ℕ) (a : Answer) (p : Planning bs old (toldPlan a) new) where
-  tells-plan : planIn r ≡ toldPlan a → Planning bs old (planIn r) new
-  tells-plan e = subst (λ (v : PlanVerdict). Planning bs old v new) (sym e) p
-
-  pub tells-planned : {k : ℕ} → a ≡ Planned k → (numberIn r ≡ 0) × (placeIn r ≡ 0) × (indexIn r ≡ k) → Planning bs old (planIn r) new
+module _ (r : ℕ) (a : Answer) where
+  pub tells-planned : {k : ℕ} → a ≡ Planned k → (numberIn r ≡ 0) × (placeIn r ≡ 0) × (indexIn r ≡ k) → planIn r ≡ toldPlan a
   unfolding toldPlan planIn
-  tells-planned e h = tells-plan (said-fine planned refused r h ∙ ap toldPlan (sym e))
+  tells-planned e h = said-fine planned refused r h ∙ ap toldPlan (sym e)
 
-  pub tells-refused : {f : Refusal} → a ≡ Refused f
-      → (numberIn r ≡ f .number) × (placeOf (placeIn r) (indexIn r) ≡ whereOf (f .place)) → Planning bs old (planIn r) new
+  pub tells-refused : {f : Refusal} → a ≡ Refused f → Nonzero refused (toldPlan a)
+      → (numberIn r ≡ f .number) × (placeOf (placeIn r) (indexIn r) ≡ whereOf (f .place)) → planIn r ≡ toldPlan a
   unfolding toldPlan planIn
-  tells-refused e h =
-      let d = plan-refused (subst (λ (x : Answer). PlanDecided bs old new (toldPlan x)) e (plan-decided p)) in
-      tells-plan (said-refused planned refused r d h ∙ ap toldPlan (sym e))
+  tells-refused e z h = said-refused planned refused r (z .nonzero _ _ (ap toldPlan e)) h ∙ ap toldPlan (sym e)
 
--- a reader's answer that is known, told as the number r: what holds of the answer holds of what r reads as
-module _ {bs sh : List ℕ} (r : ℕ) (a : ReadAnswer) (p : Reading bs sh (toldRead a)) (x : AcceptsExactly bs sh (toldRead a)) where
-  tells-read : readIn r ≡ toldRead a → Reading bs sh (readIn r) × AcceptsExactly bs sh (readIn r)
-  tells-read e = subst (λ (v : ReadVerdict). Reading bs sh v × AcceptsExactly bs sh v) (sym e) (p, x)
-
-  pub tells-accepted : {k : ℕ} → a ≡ Accepted k → (numberIn r ≡ 0) × (placeIn r ≡ 0) × (indexIn r ≡ k)
-      → Reading bs sh (readIn r) × AcceptsExactly bs sh (readIn r)
+-- a reader's answer that is known, told as the number r
+module _ (r : ℕ) (a : ReadAnswer) where
+  pub tells-accepted : {k : ℕ} → a ≡ Accepted k → (numberIn r ≡ 0) × (placeIn r ≡ 0) × (indexIn r ≡ k) → readIn r ≡ toldRead a
   unfolding toldRead readIn
-  tells-accepted e h = tells-read (said-fine accepted not-accepted r h ∙ ap toldRead (sym e))
+  tells-accepted e h = said-fine accepted not-accepted r h ∙ ap toldRead (sym e)
 
-  pub tells-not-accepted : {f : Refusal} → a ≡ NotAccepted f
-      → (numberIn r ≡ f .number) × (placeOf (placeIn r) (indexIn r) ≡ whereOf (f .place))
-      → Reading bs sh (readIn r) × AcceptsExactly bs sh (readIn r)
+  pub tells-not-accepted : {f : Refusal} → a ≡ NotAccepted f → Nonzero not-accepted (toldRead a)
+      → (numberIn r ≡ f .number) × (placeOf (placeIn r) (indexIn r) ≡ whereOf (f .place)) → readIn r ≡ toldRead a
   unfolding toldRead readIn
-  tells-not-accepted e h =
-      let d = read-refused (subst (λ (y : ReadAnswer). ReadDecided bs (toldRead y)) e (read-decided p)) in
-      tells-read (said-refused accepted not-accepted r d h ∙ ap toldRead (sym e))
+  tells-not-accepted e z h = said-refused accepted not-accepted r (z .nonzero _ _ (ap toldRead e)) h ∙ ap toldRead (sym e)
