@@ -17,7 +17,7 @@ use Rattle.card.specs.Format.{Bytes, ruleCount, lineCount}
 use Rattle.card.specs.Fault.{Sound}
 use Rattle.card.specs.Decode.{jobOf}
 use Rattle.card.proofs.StepsFitAByte.{steps-fit}
-use Rattle.planner.specs.Plan.{PlanVerdict, planned, roomOf, Planning, PlanDecided, Carries}
+use Rattle.planning.specs.Plan.{PlanVerdict, planned, roomOf, Planning, PlanDecided, Carries}
 use Rattle.planner.proofs.PlannedExactly.{plan-decided, plan-determined, planned-exactly, planned-sheet}
 use Rattle.reader.specs.Read.{ReadVerdict, accepted, Reading, ReadDecided, Holds, AcceptsExactly}
 use Rattle.reader.proofs.AcceptedExactly.{read-decided, read-determined, accepts-exactly, holds-accepted}

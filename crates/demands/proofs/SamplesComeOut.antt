@@ -6,7 +6,7 @@ use Rattle.calculus.specs.Steps.{stands}
 use Rattle.card.specs.Format.{listing}
 use Rattle.card.specs.Sheet.{sheetOf, word, marksOf, markOf}
 use Rattle.card.specs.Sample.{sample, sampleSheet}
-use Rattle.planner.specs.Plan.{Planning, planned, planned-as, roomOf}
+use Rattle.planning.specs.Plan.{Planning, planned, planned-as, roomOf}
 use Rattle.planner.specs.Trays.{mixed, mixedSheet, PlannedAs}
 use Rattle.planner.proofs.TraysComeOut.{each-sample-comes}
 use Rattle.reader.specs.Read.{Reading, accepted}

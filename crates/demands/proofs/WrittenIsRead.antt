@@ -6,7 +6,7 @@ use lib.ListN.{length, take, drop}
 use lib.Seq.{take-at}
 use Rattle.card.specs.Format.{lineCount}
 use Rattle.card.specs.Sheet.{sheetOf}
-use Rattle.planner.specs.Plan.{Planning, planned, Carries}
+use Rattle.planning.specs.Plan.{Planning, planned, Carries}
 use Rattle.planner.proofs.PlannedExactly.{planned-sheet}
 use Rattle.reader.specs.Read.{Reading, accepted}
 use Rattle.reader.proofs.AcceptedExactly.{sheet-length, round-trip}

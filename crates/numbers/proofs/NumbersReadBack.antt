@@ -10,9 +10,9 @@ use Rattle.card.specs.declared.Refusal.{Refusal}
 use Rattle.card.specs.Format.{Bytes}
 use Rattle.card.specs.Fault.{Placed}
 use Rattle.card.specs.Verdict.{Where, card, node, rule, line, sheet, steps, mark, whereOf}
-use Rattle.planner.specs.declared.Answer.{Answer}
-use Rattle.planner.specs.declared.Answer.the-variants.{Planned, Refused}
-use Rattle.planner.specs.Plan.{PlanVerdict, planned, refused, toldPlan, PlanDecided, is-planned, is-refused}
+use Rattle.planning.specs.declared.Answer.{Answer}
+use Rattle.planning.specs.declared.Answer.the-variants.{Planned, Refused}
+use Rattle.planning.specs.Plan.{PlanVerdict, planned, refused, toldPlan, PlanDecided, is-planned, is-refused}
 use Rattle.reader.specs.declared.Answer.{Answer as ReadAnswer}
 use Rattle.reader.specs.declared.Answer.the-variants.{Accepted, Refused as NotAccepted}
 use Rattle.reader.specs.Read.{ReadVerdict, accepted, refused as not-accepted, toldRead, ReadDecided, is-accepted}

@@ -7,7 +7,7 @@ use mathlib.Core.List.{List, [], _∷_}
 use lib.ListN.{length, getD}
 use lib.Dec.{eqb}
 use Rattle.card.specs.Verdict.{Where, card, node, rule, line, sheet, steps, mark}
-use Rattle.planner.specs.Plan.{PlanVerdict, planned, refused}
+use Rattle.planning.specs.Plan.{PlanVerdict, planned, refused}
 use Rattle.reader.specs.Read.{ReadVerdict, accepted, refused as not-accepted}
 
 abbrev pub numberIn : ℕ → ℕ

@@ -3,7 +3,7 @@ use card::Place;
 use card::Refusal;
 ghost use mathlib.Core.Path.{_≡_};
 ghost use Rattle.card.specs.Verdict.{whereOf};
-ghost use Rattle.planner.specs.Plan.{refused, toldPlan};
+ghost use Rattle.planning.specs.Plan.{refused, toldPlan};
 ghost use Rattle.reader.specs.Read.{refused as not-accepted, toldRead};
 ghost use Rattle.numbers.specs.Inner.Nonzero.{Nonzero};
 ghost use Rattle.numbers.specs.Numbers.{numberIn, placeIn, indexIn, placeOf, Plain, planIn, readIn};
@@ -34,14 +34,14 @@ fn packed_refusal(refusal: Refusal) -> u32
 }
 
 // The planner's answer.
-pub fn packed_plan(answer: planner::Answer) -> u32
+pub fn packed_plan(answer: planning::Answer) -> u32
     requires { ⌜ Nonzero refused (toldPlan answer) ⌝ }
     ensures { λ r. ⌜ planIn r ≡ toldPlan answer ⌝ }
     ensures { λ r. ⌜ Plain r ⌝ }
 {
     match answer {
-        planner::Answer::Planned(k) => packed(0, 0, k as u16),
-        planner::Answer::Refused(refusal) => packed_refusal(refusal),
+        planning::Answer::Planned(k) => packed(0, 0, k as u16),
+        planning::Answer::Refused(refusal) => packed_refusal(refusal),
     }
 }
 

@@ -4,7 +4,7 @@ use libc::STDOUT_FILENO;
 use planner::Answer;
 ghost use Prim.Native.Nat.{_+_, _≤_};
 ghost use lib.ListN.{length};
-ghost use Rattle.planner.specs.Plan.{roomForAny, toldPlan, Planning, NeverShort};
+ghost use Rattle.planning.specs.Plan.{roomForAny, toldPlan, Planning, NeverShort};
 
 // A line of the output, or its end: a word and a number.
 fn print_line(word: &[u8], n: u64) {

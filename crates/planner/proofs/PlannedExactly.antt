@@ -17,10 +17,10 @@ use Rattle.card.specs.Sheet.{word, sheetOf}
 use Rattle.card.proofs.CardChecked.{sound-front}
 use Rattle.card.proofs.FaultsInRange.{fault-in-range}
 use Rattle.card.proofs.NodesDecoded.{listed-short}
-use Rattle.planner.specs.declared.Answer.{Answer}
-use Rattle.planner.specs.declared.Answer.the-variants.{Planned}
-use Rattle.planner.specs.Plan.{PlanVerdict, planned, refused, toldPlan, roomOf, Planning, faulty, short, underivable, planned-as}
-use Rattle.planner.specs.Plan.{roomForAny, NeverShort, PlanDecided, is-planned, is-refused, Carries}
+use Rattle.planning.specs.declared.Answer.{Answer}
+use Rattle.planning.specs.declared.Answer.the-variants.{Planned}
+use Rattle.planning.specs.Plan.{PlanVerdict, planned, refused, toldPlan, roomOf, Planning, faulty, short, underivable, planned-as}
+use Rattle.planning.specs.Plan.{roomForAny, NeverShort, PlanDecided, is-planned, is-refused, Carries}
 
 -- The first list is the only one.
 before-not-both : {l m : List ℕ} → Before l m → Before m l → ⊥

@@ -1,4 +1,2 @@
--- What a reader must believe of the planner; apart from it, Inner.
-pub mod Plan
+-- What a reader must believe of the trays.
 pub mod Trays
-pub mod Inner

@@ -1,5 +1,5 @@
 // The calls for C and Rust: each answer in one number (include/kit_planner.h).
-ghost use Rattle.planner.specs.Plan.{Planning};
+ghost use Rattle.planning.specs.Plan.{Planning};
 ghost use Rattle.reader.specs.Read.{Reading, AcceptsExactly};
 ghost use Rattle.numbers.specs.Numbers.{Plain, planIn, readIn};
 

@@ -4,7 +4,7 @@ use borrow.Author.Needs.{needs}
 use Rattle.card.specs.declared.Checked.{Checked}
 use Rattle.card.specs.Verdict.{told}
 use Rattle.card.specs.Inner.Checks.{answerOf}
-use Rattle.planner.specs.Plan.{planned, refused, toldPlan}
+use Rattle.planning.specs.Plan.{planned, refused, toldPlan}
 use Rattle.planner.proofs.answered.Statement.{statement}
 use Rattle.planner.proofs.answered.Tie as tie
 

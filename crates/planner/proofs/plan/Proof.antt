@@ -1,7 +1,7 @@
 -- `plan` meets its contract: 1 to 9, or the outcome of what comes after them.
 use borrow.Author.Needs.{needs}
 use Rattle.card.proofs.CardChecked.{found-sound, stopped}
-use Rattle.planner.specs.Plan.{planned, refused, Planning, faulty}
+use Rattle.planning.specs.Plan.{planned, refused, Planning, faulty}
 use Rattle.planner.proofs.plan.Statement.{statement}
 use Rattle.planner.proofs.plan.Tie as tie
 

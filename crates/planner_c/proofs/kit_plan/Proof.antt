@@ -1,7 +1,7 @@
 -- `kit_plan` meets its contract: the answer is an outcome, and its number reads as it.
 use mathlib.Core.Path.{sym, subst}
 use borrow.Author.Needs.{needs}
-use Rattle.planner.specs.Plan.{PlanVerdict, Planning}
+use Rattle.planning.specs.Plan.{PlanVerdict, Planning}
 use Rattle.planner.proofs.PlannedExactly.{plan-decided}
 use Rattle.numbers.proofs.NumbersReadBack.{plan-nonzero}
 use Rattle.planner_c.proofs.kit_plan.Statement.{statement}

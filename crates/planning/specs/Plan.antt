@@ -9,8 +9,8 @@ use Rattle.card.specs.Verdict.{Where, fault, card, sheet, whereOf}
 use Rattle.card.specs.Fault.{firstFault, Placed, Sound}
 use Rattle.card.specs.Decode.{jobOf}
 use Rattle.card.specs.Sheet.{sheetOf}
-use Rattle.planner.specs.declared.Answer.{Answer}
-use Rattle.planner.specs.declared.Answer.the-variants.{Planned, Refused}
+use Rattle.planning.specs.declared.Answer.{Answer}
+use Rattle.planning.specs.declared.Answer.the-variants.{Planned, Refused}
 
 -- "The planner answers planned with k, or a refusal".
 pub data PlanVerdict : Type 0 where

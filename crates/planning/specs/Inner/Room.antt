@@ -1,9 +1,9 @@
 -- The answer of the check of the buffer's room.
 use Prim.Native.Nat.{ℕ, _≤_, _<_}
 use mathlib.Core.List.{List}
-use Rattle.planner.specs.declared.Room.{Room}
-use Rattle.planner.specs.declared.Room.the-variants.{Enough, Short}
-use Rattle.planner.specs.Plan.{roomOf}
+use Rattle.planning.specs.declared.Room.{Room}
+use Rattle.planning.specs.declared.Room.the-variants.{Enough, Short}
+use Rattle.planning.specs.Plan.{roomOf}
 
 -- what each case of the enum `Room` says of a buffer of n bytes
 unfoldable pub RoomSays : List ℕ → ℕ → Room → Type 0

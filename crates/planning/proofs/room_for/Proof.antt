@@ -1,8 +1,8 @@
 use native.Mathlib.Omega.{arith}
 use borrow.Author.Needs.{needs}
-use Rattle.planner.specs.Inner.Room.{RoomSays}
-use Rattle.planner.proofs.room_for.Statement.{statement}
-use Rattle.planner.proofs.room_for.Tie as tie
+use Rattle.planning.specs.Inner.Room.{RoomSays}
+use Rattle.planning.proofs.room_for.Statement.{statement}
+use Rattle.planning.proofs.room_for.Tie as tie
 
 byte-requires : tie.Need-byte-requires
 byte-requires c κs = search needs
