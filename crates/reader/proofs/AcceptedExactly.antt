@@ -18,11 +18,11 @@ use Rattle.card.proofs.TablesGrow.{length-listing, listing-at}
 use Rattle.card.proofs.FaultsInOrder.{not-applied, first-each, first-goes, sound-or-faulty, same-fault}
 use Rattle.card.proofs.NodesDecoded.{listed-short}
 use Rattle.card.proofs.FaultsInRange.{Tells, tells-refuse, tells-first, fault-in-range}
-use Rattle.sheet.specs.Front.{stepCount, stepsOf, marksIn, sheetFault}
-use Rattle.sheet.specs.Inner.Fitting.{Fitting}
-use Rattle.sheet.specs.Marks.{markFault}
-use Rattle.sheet.proofs.SheetFits.{fitting, all-fit, sheet-fits, steps-length}
-use Rattle.sheet.proofs.SheetWritten.{mark-right}
+use Rattle.sheet_front.specs.Front.{stepCount, stepsOf, marksIn, sheetFault}
+use Rattle.sheet_front.specs.Inner.Fitting.{Fitting}
+use Rattle.marks.specs.Marks.{markFault}
+use Rattle.sheet_front.proofs.SheetFits.{fitting, all-fit, sheet-fits, steps-length}
+use Rattle.marks.proofs.LinesMarked.{mark-right}
 use Rattle.reader.specs.Read.{ReadVerdict, accepted, refused, marksFault, Reading, faulty, misfit, no-list, wrong-mark, accepted-as}
 use Rattle.reader.specs.Read.{ReadDecided, is-accepted, is-refused, Holds, AcceptsExactly}
 

@@ -16,11 +16,11 @@ use Rattle.card.specs.Decode.{jobOf}
 use Rattle.trace.specs.Inner.Listing.{ListedSays}
 use Rattle.trace.specs.declared.Followed.{Followed}
 use Rattle.trace.specs.declared.Followed.the-variants.{Listed as Listed⁺, Unlisted}
-use Rattle.sheet.specs.Front.{stepCount, stepsOf, sheetFault}
-use Rattle.sheet.specs.Inner.Fitting.{Fitting}
-use Rattle.sheet.specs.Marks.{markFault}
+use Rattle.sheet_front.specs.Front.{stepCount, stepsOf, sheetFault}
+use Rattle.sheet_front.specs.Inner.Fitting.{Fitting}
+use Rattle.marks.specs.Marks.{markFault}
 use Rattle.card.proofs.CardChecked.{passed, stopped}
-use Rattle.sheet.proofs.SheetFits.{fitting, steps-length}
+use Rattle.sheet_front.proofs.SheetFits.{fitting, steps-length}
 use Rattle.card.specs.Inner.Checks.{answerOf}
 use Rattle.reader.specs.Read.{ReadVerdict, accepted, refused, marksFault, Reading, no-list, wrong-mark, accepted-as}
 

@@ -10,8 +10,8 @@ use Rattle.card.specs.Verdict.{Verdict, Where, sound, fault, steps, firstOf, wh
 use Rattle.card.specs.Fault.{firstFault, Placed, Sound}
 use Rattle.card.specs.Decode.{jobOf}
 use Rattle.card.specs.Sheet.{sheetOf}
-use Rattle.sheet.specs.Front.{stepsOf, marksIn, sheetFault}
-use Rattle.sheet.specs.Marks.{markFault}
+use Rattle.sheet_front.specs.Front.{stepsOf, marksIn, sheetFault}
+use Rattle.marks.specs.Marks.{markFault}
 use Rattle.reader.specs.declared.Answer.{Answer}
 use Rattle.reader.specs.declared.Answer.the-variants.{Accepted, Refused}
 

@@ -7,7 +7,7 @@ use trace::Followed;
 ghost use mathlib.Core.Path.{_≡_};
 ghost use Rattle.card.specs.Fault.{Sound};
 ghost use Rattle.card.specs.Verdict.{sound, told};
-ghost use Rattle.sheet.specs.Front.{sheetFault};
+ghost use Rattle.sheet_front.specs.Front.{sheetFault};
 ghost use Rattle.reader.specs.Read.{accepted, refused, toldRead, Reading, AcceptsExactly};
 ghost use Rattle.card.specs.Inner.Checks.{answerOf};
 
@@ -41,7 +41,7 @@ fn read_steps(card: &[u8], sheet: &[u8]) -> Answer
         });
     };
     let start = 5 + k;
-    let marks = sheet::marks_check(card, &sheet[5..], k, &sheet[start..]);
+    let marks = marks::marks_check(card, &sheet[5..], k, &sheet[start..]);
     let Checked::Sound = marks else {
         return answered(marks, 0);
     };
@@ -54,7 +54,7 @@ fn read_sheet(card: &[u8], sheet: &[u8]) -> Answer
     requires { ⌜ Sound (now card) ⌝ }
     ensures { λ r. ⌜ Reading (now (card .entry)) (now (sheet .entry)) (toldRead r) ⌝ }
 {
-    let front = sheet::front_check(card, sheet);
+    let front = sheet_front::front_check(card, sheet);
     let Checked::Sound = front else {
         return answered(front, 0);
     };

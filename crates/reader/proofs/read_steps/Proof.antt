@@ -5,8 +5,8 @@ use Rattle.calculus.specs.Job.{Listed}
 use Rattle.card.specs.Verdict.{whereOf}
 use Rattle.card.specs.Decode.{jobOf}
 use Rattle.card.proofs.CardChecked.{sound-front}
-use Rattle.sheet.specs.Front.{stepsOf}
-use Rattle.sheet.proofs.SheetFits.{fitting}
+use Rattle.sheet_front.specs.Front.{stepsOf}
+use Rattle.sheet_front.proofs.SheetFits.{fitting}
 use Rattle.reader.specs.Read.{toldRead}
 use Rattle.reader.proofs.ReaderExits.{Fits, steps-room, marks-room, found-list, found-no-list, found-mark, found-right}
 use Rattle.reader.proofs.read_steps.Statement.{statement}

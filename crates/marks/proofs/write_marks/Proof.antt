@@ -6,9 +6,9 @@ use mathlib.Core.List.{_++_}
 use lib.ListN.{length, take, drop}
 use Rattle.card.specs.Format.{lineCount, listing}
 use Rattle.card.specs.Sheet.{markOf, marksOf}
-use Rattle.sheet.proofs.SheetWritten.{listing-more, listing-kept}
-use Rattle.sheet.proofs.write_marks.Statement.{statement}
-use Rattle.sheet.proofs.write_marks.Tie as tie
+use Rattle.marks.proofs.LinesMarked.{listing-more, listing-kept}
+use Rattle.marks.proofs.write_marks.Statement.{statement}
+use Rattle.marks.proofs.write_marks.Tie as tie
 
 abbrev Inv-loop : tie.InvT-loop
 Inv-loop card steps k marks₀ t i₀ marks i = (i ≤ t) × (marks ≡ listing i (markOf card (take k steps)) ++ drop i marks₀)

@@ -3,9 +3,9 @@ use mathlib.Core.Path.{_≡_, sym}
 use borrow.Author.Needs.{needs}
 use Rattle.card.specs.Verdict.{told, whereOf}
 use Rattle.card.proofs.CardChecked.{passed}
-use Rattle.sheet.specs.Front.{sheetFault}
-use Rattle.sheet.proofs.front_check.Statement.{statement}
-use Rattle.sheet.proofs.front_check.Tie as tie
+use Rattle.sheet_front.specs.Front.{sheetFault}
+use Rattle.sheet_front.proofs.front_check.Statement.{statement}
+use Rattle.sheet_front.proofs.front_check.Tie as tie
 
 -- what the check answers
 told-12 : (c : tie.After-refuse)

@@ -3,9 +3,9 @@ use native.Mathlib.Omega.{arith}
 use mathlib.Core.Path.{_≡_, sym, _∙_}
 use lib.ListN.{getD}
 use borrow.Author.Count.{below-none, below-more}
-use Rattle.sheet.proofs.SheetWritten.{stands-found, stands-none}
-use Rattle.sheet.proofs.is_step.Statement.{statement}
-use Rattle.sheet.proofs.is_step.Tie as tie
+use Rattle.marks.proofs.LinesMarked.{stands-found, stands-none}
+use Rattle.marks.proofs.is_step.Statement.{statement}
+use Rattle.marks.proofs.is_step.Tie as tie
 
 abbrev Inv-loop : tie.InvT-loop
 Inv-loop steps k e i₀ i = (i ≤ k) × ((j : ℕ) → j < i → e ≡ getD steps j 0 → ⊥)

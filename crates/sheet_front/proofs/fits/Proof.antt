@@ -5,10 +5,10 @@ use mathlib.Core.Path.{_≡_, sym, _∙_}
 use mathlib.Core.List.{List}
 use lib.ListN.{length}
 use Rattle.card.specs.Format.{lengthField, version, lineCount, stepLimit}
-use Rattle.sheet.specs.Front.{stepCount, markCount}
-use Rattle.sheet.proofs.SheetFits.{too-short, other-length, other-version, other-lines, other-size, too-many, all-fit}
-use Rattle.sheet.proofs.fits.Statement.{statement}
-use Rattle.sheet.proofs.fits.Tie as tie
+use Rattle.sheet_front.specs.Front.{stepCount, markCount}
+use Rattle.sheet_front.proofs.SheetFits.{too-short, other-length, other-version, other-lines, other-size, too-many, all-fit}
+use Rattle.sheet_front.proofs.fits.Statement.{statement}
+use Rattle.sheet_front.proofs.fits.Tie as tie
 
 -- the card and the sheet, where the first test has passed, and that place from those behind it
 abbrev bs : tie.Else1 → List ℕ

@@ -12,8 +12,8 @@ use Rattle.card.specs.Format.{lengthField, version, lineCount, stepLimit}
 use Rattle.card.specs.Verdict.{sound}
 use Rattle.card.proofs.FaultsInOrder.{refuse-false, not-applied}
 use Rattle.card.proofs.FrontChecked.{both-left, both-right}
-use Rattle.sheet.specs.Front.{stepCount, markCount, stepsOf, sheetFits, sheetFault}
-use Rattle.sheet.specs.Inner.Fitting.{Fitting}
+use Rattle.sheet_front.specs.Front.{stepCount, markCount, stepsOf, sheetFits, sheetFault}
+use Rattle.sheet_front.specs.Inner.Fitting.{Fitting}
 
 module _ (bs sh : List ℕ) where
   -- which test fails

@@ -6,9 +6,9 @@ use lib.ListN.{take}
 use Rattle.card.specs.Format.{lineCount}
 use Rattle.card.specs.Verdict.{firstOf, sound, told}
 use Rattle.card.proofs.CardChecked.{refused-at, passed-at}
-use Rattle.sheet.specs.Marks.{markFault}
-use Rattle.sheet.proofs.marks_check.Statement.{statement}
-use Rattle.sheet.proofs.marks_check.Tie as tie
+use Rattle.marks.specs.Marks.{markFault}
+use Rattle.marks.proofs.marks_check.Statement.{statement}
+use Rattle.marks.proofs.marks_check.Tie as tie
 
 abbrev Inv-loop : tie.InvT-loop
 Inv-loop card steps k marks t i₀ i = (i ≤ t) × (firstOf i (markFault card (take k steps) marks) ≡ sound)

@@ -4,7 +4,7 @@ use mathlib.Core.Path.{_≡_}
 use mathlib.Core.List.{List}
 use lib.ListN.{length}
 use Rattle.card.specs.Format.{lengthField, version, lineCount, stepLimit}
-use Rattle.sheet.specs.Front.{stepCount, markCount}
+use Rattle.sheet_front.specs.Front.{stepCount, markCount}
 
 -- what later checks may ask of a sheet that fits
 pub record Fitting (bs sh : List ℕ) : Type 0 where

@@ -5,9 +5,9 @@ use lib.Dec.{eqb}
 use borrow.Author.Needs.{needs}
 use Rattle.card.specs.Format.{byteAt}
 use Rattle.card.specs.Verdict.{mark as markAt, refuse, whereOf}
-use Rattle.sheet.specs.Marks.{markFault}
-use Rattle.sheet.proofs.mark_check.Statement.{statement}
-use Rattle.sheet.proofs.mark_check.Tie as tie
+use Rattle.marks.specs.Marks.{markFault}
+use Rattle.marks.proofs.mark_check.Statement.{statement}
+use Rattle.marks.proofs.mark_check.Tie as tie
 
 mark-requires : tie.Need-mark-requires
 mark-requires c κs = search needs

@@ -8,8 +8,8 @@ use borrow.Author.Tests.{eq-eqb, ne-eqb}
 use Rattle.calculus.specs.Steps.{stands}
 use Rattle.card.specs.Format.{ruleCount}
 use Rattle.card.specs.Sheet.{markOf}
-use Rattle.sheet.proofs.mark.Statement.{statement}
-use Rattle.sheet.proofs.mark.Tie as tie
+use Rattle.marks.proofs.mark.Statement.{statement}
+use Rattle.marks.proofs.mark.Tie as tie
 
 -- the function's entry
 abbrev start : (c : tie.After-byte) → tie.Start

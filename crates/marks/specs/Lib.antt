@@ -1,0 +1,2 @@
+-- What a reader must believe of the marks of a sheet that is read.
+pub mod Marks
