@@ -18,7 +18,7 @@ use Rattle.agenda.specs.Inner.Sought.{Place, None, Spares}
 use Rattle.segment.specs.Inner.Tasks.{nodeOf, taskOf, agendaOf}
 use Rattle.bounds.specs.Inner.Bound.{leastA, lowA, highA, LendsA, too-long, too-few, too-many}
 use Rattle.bounds.specs.Inner.Table.{classes, OfCard, Settled, namesOf, classOf}
-use Rattle.bounds.specs.Inner.Doom.{Coded, Stocked, leastSum, lowSum, highSum, Short, few, many, Doomed, long, short}
+use Rattle.bounds.specs.Inner.Doom.{Coded, ScopeOfCard, leastSum, lowSum, highSum, Short, few, many, Doomed, long, short}
 use Rattle.bounds.proofs.NodesBounded.{goal-under, goal-lends, closed}
 use Rattle.bounds.proofs.AgendasBounded.{hopeless-none, least-spares}
 use Rattle.bounds.proofs.StockCounted.{stock-scoped, stock-counts}
@@ -62,7 +62,7 @@ module _ {bs names t masks : List ℕ} (s : Sound bs) (z : Settled bs names t ma
         let y = high-under n (coded-less g) (omega arith) in
         omega arith
 
-  module _ {nodes : List ℕ} {linear : List Bool} {n : ℕ} (en : Entered bs nodes linear n) (k : Stocked bs nodes linear n)
+  module _ {nodes : List ℕ} {linear : List Bool} {n : ℕ} (en : Entered bs nodes linear n) (k : ScopeOfCard bs nodes linear n)
       (len : ℕ) (g : Coded bs codes len) where
     pub doomed-none : (eligible : List ℕ → ℕ → Bool) (p : Place) (strict lax : LineSet)
         → p .strict ≡ items (ruleCount bs) strict → p .lax ≡ items (ruleCount bs) lax

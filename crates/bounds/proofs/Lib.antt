@@ -4,7 +4,6 @@ pub mod GoalsBounded
 pub mod AgendasBounded
 pub mod NodesBounded
 pub mod StockCounted
-pub mod StockKept
 pub mod DoomedHasNone
 pub mod WordCounted
 pub mod CellsKept

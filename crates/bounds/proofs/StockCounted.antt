@@ -23,12 +23,12 @@ use Rattle.scope.proofs.TablesAreScopes.{scope-size, scope-clause, scope-linear
 use Rattle.bounds.specs.Inner.Count.{number, ofClass, count}
 use Rattle.bounds.specs.Inner.Bound.{Scoped}
 use Rattle.bounds.specs.Inner.Table.{takesIn, classAt, classes, inClass, OfCard, Settled, classOf}
-use Rattle.bounds.specs.Inner.Doom.{Stocked, lineStock, lentStock, stock}
+use Rattle.bounds.specs.Inner.Doom.{ScopeOfCard, lineStock, lentStock, stock}
 use Rattle.bounds.proofs.CountLaws.{number-same, number-none, number-add}
 use Rattle.bounds.proofs.NodesBounded.{head-is}
 
 -- the scope of the tables is of the card's family
-pub stock-scoped : {bs nodes : List ℕ} {linear : List Bool} {n : ℕ} → Stocked bs nodes linear n
+pub stock-scoped : {bs nodes : List ℕ} {linear : List Bool} {n : ℕ} → ScopeOfCard bs nodes linear n
     → Scoped (OfCard bs) eqb (scopeIn bs nodes linear n)
 unfolding scopeIn scopeOf
 stock-scoped {bs} {nodes} {linear} {n} k = record {
@@ -43,7 +43,7 @@ none-right true = refl
 none-right false = refl
 
 module _ {bs names t masks nodes : List ℕ} {linear : List Bool} {n : ℕ} (s : Sound bs) (z : Settled bs names t masks)
-    (en : Entered bs nodes linear n) (k : Stocked bs nodes linear n) (c : ℕ) (q : c < classes names) (set : LineSet) where
+    (en : Entered bs nodes linear n) (k : ScopeOfCard bs nodes linear n) (c : ℕ) (q : c < classes names) (set : LineSet) where
   abbrev P : ℕ
   P = ruleCount bs
 

@@ -30,7 +30,8 @@ impl Kind {
 
 // The table: the row of kind k.
 pub fn row(k: usize) -> Kind
-    ensures { λ r. ⌜ (r .left ≡ kindOf k .left) × (r .right ≡ kindOf k .right) × (r .goal ≡ isGoal k) × (r .clause ≡ isClause k) ⌝ }
+    ensures { λ r. ⌜ (r .left ≡ kindOf k .left) × (r .right ≡ kindOf k .right)
+        × (r .goal ≡ isGoal k) × (r .clause ≡ isClause k) ⌝ }
 {
     match k {
         1 => Kind::new(Field::Name, Field::Unused, true, true),

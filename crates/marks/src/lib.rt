@@ -57,7 +57,8 @@ pub fn write_marks(card: &[u8], steps: &[u8; 255], k: usize, marks: &mut [u8])
     requires { ⌜ k ≤ 255 ⌝ }
     requires { ⌜ lineCount (now card) ≤ length (now marks) ⌝ }
     ensures { λ _. ⌜ now (marks .exit)
-        ≡ marksOf (now (card .entry)) (take k (now (steps .entry))) ++ drop (lineCount (now (card .entry))) (now (marks .entry)) ⌝ }
+        ≡ marksOf (now (card .entry)) (take k (now (steps .entry)))
+        ++ drop (lineCount (now (card .entry))) (now (marks .entry)) ⌝ }
 {
     let t = byte(card, 4);
     let mut i = 0;
@@ -85,7 +86,8 @@ pub fn marks_check(card: &[u8], steps: &[u8], k: usize, marks: &[u8]) -> Checked
     requires { ⌜ k ≤ length (now steps) ⌝ }
     requires { ⌜ lineCount (now card) ≤ length (now marks) ⌝ }
     ensures { λ r. ⌜ told r
-        ≡ firstOf (lineCount (now (card .entry))) (markFault (now (card .entry)) (take k (now (steps .entry))) (now (marks .entry))) ⌝ }
+        ≡ firstOf (lineCount (now (card .entry)))
+        (markFault (now (card .entry)) (take k (now (steps .entry))) (now (marks .entry))) ⌝ }
 {
     let t = byte(card, 4);
     let mut i = 0;

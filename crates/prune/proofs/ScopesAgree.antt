@@ -20,7 +20,7 @@ use Rattle.entries.specs.Inner.Entries.{scopeIn}
 use Rattle.entries.proofs.TablesAreScopes.{scope-clause}
 use Rattle.branch.specs.declared.Branch.{Branch}
 use Rattle.bounds.specs.Inner.Table.{OfCard, rule, line, lent}
-use Rattle.bounds.specs.Inner.Doom.{Stocked}
+use Rattle.bounds.specs.Inner.Doom.{ScopeOfCard}
 use Rattle.prune.specs.Inner.Prune.{jobCount, Asks}
 
 -- all entries but the rules
@@ -94,7 +94,7 @@ module _ {bs nodes agenda : List ℕ} {b : Branch} (a : Asks bs nodes agenda b) 
             origin = lent (p .node) (getD nodes e 0) (p .here) (p .lend) (p .part);
           })
 
-  pub stocked : Stocked bs nodes (linearOf bs) (b .count)
+  pub stocked : ScopeOfCard bs nodes (linearOf bs) (b .count)
   stocked = record {
     whole = a .whole;
     kin = λ e h. rw (linear-at bs e (omega (arith, a .few))) (kin e h);

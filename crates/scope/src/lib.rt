@@ -33,9 +33,11 @@ pub fn put(nodes: &mut [u16; 256], linear: &mut [bool; 256], e: usize, node: usi
 fn enter_rules(card: &[u8], nodes: &mut [u16; 256], linear: &mut [bool; 256])
     requires { ⌜ Sound (now card) ⌝ }
     requires { ⌜ (length (now nodes) ≡ 256) × (length (now linear) ≡ 256) ⌝ }
-    ensures { λ _. ⌜ (let bs = now (card .entry) in Entered bs (now (nodes .exit)) (now (linear .exit)) (ruleCount bs)) ⌝ }
     ensures { λ _. ⌜ (let bs = now (card .entry) in
-        scopeIn bs (now (nodes .exit)) (now (linear .exit)) (ruleCount bs) .entries ≡ listing (ruleCount bs) (ruleEntry bs)) ⌝ }
+        Entered bs (now (nodes .exit)) (now (linear .exit)) (ruleCount bs)) ⌝ }
+    ensures { λ _. ⌜ (let bs = now (card .entry) in
+        scopeIn bs (now (nodes .exit)) (now (linear .exit)) (ruleCount bs) .entries
+        ≡ listing (ruleCount bs) (ruleEntry bs)) ⌝ }
 {
     let p = byte(card, 3);
     let mut i = 0;
@@ -50,7 +52,8 @@ fn enter_rules(card: &[u8], nodes: &mut [u16; 256], linear: &mut [bool; 256])
 pub fn enter(card: &[u8], nodes: &mut [u16; 256], linear: &mut [bool; 256])
     requires { ⌜ Sound (now card) ⌝ }
     requires { ⌜ (length (now nodes) ≡ 256) × (length (now linear) ≡ 256) ⌝ }
-    ensures { λ _. ⌜ (let bs = now (card .entry) in Entered bs (now (nodes .exit)) (now (linear .exit)) (ruleCount bs + lineCount bs)) ⌝ }
+    ensures { λ _. ⌜ (let bs = now (card .entry) in
+        Entered bs (now (nodes .exit)) (now (linear .exit)) (ruleCount bs + lineCount bs)) ⌝ }
     ensures { λ _. ⌜ (let bs = now (card .entry) in
         scopeIn bs (now (nodes .exit)) (now (linear .exit)) (ruleCount bs + lineCount bs) ≡ jobOf bs .scope) ⌝ }
 {

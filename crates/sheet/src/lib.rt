@@ -28,7 +28,8 @@ fn write_steps(steps: &[u8; 255], k: usize, sheet: &mut [u8])
     requires { ⌜ length (now steps) ≡ 255 ⌝ }
     requires { ⌜ k ≤ 255 ⌝ }
     requires { ⌜ 5 + k ≤ length (now sheet) ⌝ }
-    ensures { λ _. ⌜ now (sheet .exit) ≡ take 5 (now (sheet .entry)) ++ take k (now (steps .entry)) ++ drop (5 + k) (now (sheet .entry)) ⌝ }
+    ensures { λ _. ⌜ now (sheet .exit) ≡ take 5 (now (sheet .entry))
+        ++ take k (now (steps .entry)) ++ drop (5 + k) (now (sheet .entry)) ⌝ }
 {
     let mut i = 0;
     while i < k {
@@ -44,7 +45,8 @@ pub fn write(card: &[u8], steps: &[u8; 255], k: usize, sheet: &mut [u8])
     requires { ⌜ k ≤ 255 ⌝ }
     requires { ⌜ 5 + k + lineCount (now card) ≤ length (now sheet) ⌝ }
     ensures { λ _. ⌜ now (sheet .exit)
-        ≡ sheetOf (now (card .entry)) (take k (now (steps .entry))) ++ drop (5 + k + lineCount (now (card .entry))) (now (sheet .entry)) ⌝ }
+        ≡ sheetOf (now (card .entry)) (take k (now (steps .entry)))
+        ++ drop (5 + k + lineCount (now (card .entry))) (now (sheet .entry)) ⌝ }
 {
     let t = byte(card, 4);
     write_front(k, t, sheet);

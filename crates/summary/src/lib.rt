@@ -184,7 +184,8 @@ pub fn next_step(
     name: usize,
 ) -> Step
     requires { ⌜ Ready (now card) (now steps) (now nodes) (now linear) b ⌝ }
-    ensures { λ r. ⌜ Stepping (now (card .entry)) (now (steps .entry)) (now (nodes .entry)) (now (linear .entry)) b name r ⌝ }
+    ensures { λ r. ⌜ Stepping (now (card .entry)) (now (steps .entry)) (now (nodes .entry)) (now (linear .entry))
+        b name r ⌝ }
 {
     let at = b.at;
     if b.depth == 0 {

@@ -23,8 +23,8 @@ pub fn walk(
 ) -> Walked
     requires { ⌜ Ready (now card) (now steps) (now nodes) (now linear) b ⌝ }
     requires { ⌜ GoalReady (now card) b node ⌝ }
-    ensures { λ r. ⌜ GoalWalks (now (card .entry)) (now (steps .entry)) (now (nodes .entry)) (now (nodes .exit)) (now (linear .entry))
-        (now (linear .exit)) b node r ⌝ }
+    ensures { λ r. ⌜ GoalWalks (now (card .entry)) (now (steps .entry)) (now (nodes .entry)) (now (nodes .exit))
+        (now (linear .entry)) (now (linear .exit)) b node r ⌝ }
 {
     let k = kind(card, node);
     match k {
@@ -49,8 +49,8 @@ fn walk_tensor(
     requires { ⌜ Ready (now card) (now steps) (now nodes) (now linear) b ⌝ }
     requires { ⌜ GoalReady (now card) b node ⌝ }
     requires { ⌜ kindAt (now card) node ≡ 4 ⌝ }
-    ensures { λ r. ⌜ GoalWalks (now (card .entry)) (now (steps .entry)) (now (nodes .entry)) (now (nodes .exit)) (now (linear .entry))
-        (now (linear .exit)) b node r ⌝ }
+    ensures { λ r. ⌜ GoalWalks (now (card .entry)) (now (steps .entry)) (now (nodes .entry)) (now (nodes .exit))
+        (now (linear .entry)) (now (linear .exit)) b node r ⌝ }
 {
     let l = left(card, node);
     let first = walk(card, steps, nodes, linear, b, l);
@@ -77,8 +77,8 @@ fn walk_with(
     requires { ⌜ Ready (now card) (now steps) (now nodes) (now linear) b ⌝ }
     requires { ⌜ GoalReady (now card) b node ⌝ }
     requires { ⌜ kindAt (now card) node ≡ 5 ⌝ }
-    ensures { λ r. ⌜ GoalWalks (now (card .entry)) (now (steps .entry)) (now (nodes .entry)) (now (nodes .exit)) (now (linear .entry))
-        (now (linear .exit)) b node r ⌝ }
+    ensures { λ r. ⌜ GoalWalks (now (card .entry)) (now (steps .entry)) (now (nodes .entry)) (now (nodes .exit))
+        (now (linear .entry)) (now (linear .exit)) b node r ⌝ }
 {
     let l = left(card, node);
     let first = walk(card, steps, nodes, linear, b, l);
@@ -105,8 +105,8 @@ fn walk_lend(
     requires { ⌜ Ready (now card) (now steps) (now nodes) (now linear) b ⌝ }
     requires { ⌜ GoalReady (now card) b node ⌝ }
     requires { ⌜ kindAt (now card) node ≡ 6 ⌝ }
-    ensures { λ r. ⌜ GoalWalks (now (card .entry)) (now (steps .entry)) (now (nodes .entry)) (now (nodes .exit)) (now (linear .entry))
-        (now (linear .exit)) b node r ⌝ }
+    ensures { λ r. ⌜ GoalWalks (now (card .entry)) (now (steps .entry)) (now (nodes .entry)) (now (nodes .exit))
+        (now (linear .entry)) (now (linear .exit)) b node r ⌝ }
 {
     let n = b.count;
     scope::put(nodes, linear, n, left(card, node), true);
@@ -131,8 +131,8 @@ fn walk_atom(
     requires { ⌜ Ready (now card) (now steps) (now nodes) (now linear) b ⌝ }
     requires { ⌜ GoalReady (now card) b node ⌝ }
     requires { ⌜ kindAt (now card) node ≡ 1 ⌝ }
-    ensures { λ r. ⌜ GoalWalks (now (card .entry)) (now (steps .entry)) (now (nodes .entry)) (now (nodes .exit)) (now (linear .entry))
-        (now (linear .exit)) b node r ⌝ }
+    ensures { λ r. ⌜ GoalWalks (now (card .entry)) (now (steps .entry)) (now (nodes .entry)) (now (nodes .exit))
+        (now (linear .entry)) (now (linear .exit)) b node r ⌝ }
 {
     let name = left(card, node);
     let next = next_step(card, steps, nodes, linear, b, name);
@@ -155,8 +155,8 @@ fn use_clause(
     requires { ⌜ Ready (now card) (now steps) (now nodes) (now linear) b ⌝ }
     requires { ⌜ CanUse (now card) (now steps) (now nodes) b name e ⌝ }
     requires { ⌜ b .count + 1 + 6 * b .depth ≤ b .rules + 168 ⌝ }
-    ensures { λ r. ⌜ UseWalks (now (card .entry)) (now (steps .entry)) (now (nodes .entry)) (now (nodes .exit)) (now (linear .entry))
-        (now (linear .exit)) b name r ⌝ }
+    ensures { λ r. ⌜ UseWalks (now (card .entry)) (now (steps .entry)) (now (nodes .entry)) (now (nodes .exit))
+        (now (linear .entry)) (now (linear .exit)) b name r ⌝ }
 {
     let node = nodes[e] as usize;
     let gone = linear[e];
@@ -179,8 +179,8 @@ fn conditions(
 ) -> Walked
     requires { ⌜ Ready (now card) (now steps) (now nodes) (now linear) b ⌝ }
     requires { ⌜ ClauseReady (now card) b name node ⌝ }
-    ensures { λ r. ⌜ ClauseWalks (now (card .entry)) (now (steps .entry)) (now (nodes .entry)) (now (nodes .exit)) (now (linear .entry))
-        (now (linear .exit)) b name node r ⌝ }
+    ensures { λ r. ⌜ ClauseWalks (now (card .entry)) (now (steps .entry)) (now (nodes .entry)) (now (nodes .exit))
+        (now (linear .entry)) (now (linear .exit)) b name node r ⌝ }
 {
     let k = kind(card, node);
     if k != 7 {

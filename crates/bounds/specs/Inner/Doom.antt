@@ -40,7 +40,7 @@ pub record Stores (names masks nodes : List ℕ) (n : ℕ) : Type 0 where
   pub filed : Filed nodes n
 
 -- The entries in scope are clauses of rules, of lines and of lends; the lines stand behind the rules.
-pub record Stocked (bs nodes : List ℕ) (linear : List Bool) (n : ℕ) : Type 0 where
+pub record ScopeOfCard (bs nodes : List ℕ) (linear : List Bool) (n : ℕ) : Type 0 where
   pub whole : ruleCount bs + lineCount bs ≤ n
   pub kin : (e : ℕ) → e < n → OfCard bs (clauseOf bs (getD nodes e 0)) (getD linear e false)
   pub lines : (k : ℕ) → k < lineCount bs → clauseOf bs (getD nodes (ruleCount bs + k) 0) ≡ clauseOf bs (lineNode bs k)
