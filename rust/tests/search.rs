@@ -11,6 +11,7 @@ use asked::{Asked, ROOM};
 use cards::{Draft, Random};
 use families::{kits, recursive};
 use met::{compare_plan, Met, LONG};
+use std::thread;
 use std::time::Duration;
 
 /// What counting may spend on a card.
@@ -35,7 +36,8 @@ const KINDS: &[Kind] = &[
 ];
 
 /// Compares the cards of a kind, but for those that are left out.
-fn compare(kind: &Kind, asked: &mut Asked) -> Met {
+fn compare(kind: &Kind) -> Met {
+    let mut asked = Asked::start(0);
     // what is left out has no part in which cards are drawn
     let (mut drawn, mut buffers) = (Random::new(kind.seed), Random::new(kind.seed + 100));
     let mut met = Met::default();
@@ -77,12 +79,14 @@ fn main() {
         "\n{:<22}{:>8}{:>9}{:>9}{:>8}{:>7}{:>9}{:>7}",
         "", "cards", "planned", "refused", "pairs", "time", "longest", "long"
     );
-    let (mut asked, mut all) = (Asked::start(0), Vec::new());
-    for kind in KINDS {
-        let met = compare(kind, &mut asked);
-        print_row(kind, &met);
-        check(kind, &met);
-        all.push(met);
+    // side by side, each kind with a planner of its own to ask
+    let all: Vec<Met> = thread::scope(|scope| {
+        let runs: Vec<_> = KINDS.iter().map(|kind| scope.spawn(|| compare(kind))).collect();
+        runs.into_iter().map(|run| run.join().expect("the cards of a kind compared")).collect()
+    });
+    for (kind, met) in KINDS.iter().zip(&all) {
+        print_row(kind, met);
+        check(kind, met);
     }
     let sum = |of: fn(&Met) -> usize| all.iter().map(of).sum::<usize>();
     let (compared, left_out, long) = (sum(Met::searched), sum(Met::left_out), sum(|m| m.long));

@@ -21,7 +21,8 @@ use Rattle.entries.specs.Inner.Masks.{maskSet, Seen}
 use Rattle.branch.specs.declared.Branch.{Branch}
 use Rattle.segment.specs.Inner.Tasks.{taskOf, agendaOf}
 use Rattle.dead.specs.Inner.Rows.{rowCount, rowWidth, codeCells, wordCells}
-use Rattle.dead.specs.Inner.Rows.{wordAt, rowStrict, rowLax, rowSeen, rowLen, rowRoom, rowAgenda, keyWords, Same, Put}
+use Rattle.keys.specs.Inner.Keys.{keyWords}
+use Rattle.dead.specs.Inner.Rows.{wordAt, rowStrict, rowLax, rowSeen, rowLen, rowRoom, rowAgenda, Same, Put}
 use Rattle.dead.specs.Inner.Barren.{openPlace, Barren, BarrenIn, BarrenRow, Honest, Dead, Remembers}
 use Rattle.dead.proofs.LinesDecide.{seen-lines, chosen-same, seen-word}
 

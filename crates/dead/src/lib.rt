@@ -2,11 +2,12 @@
 // are, the free items, strict and lax apart, the lines seen; and within how many steps there is nothing. The scope is no part of the key:
 // one memory is for one scope. A row is overwritten by the next key that falls on it. A row without tasks is free.
 use branch::Branch;
+use keys::words_of;
 ghost use mathlib.Core.Path.{_≡_};
 ghost use mathlib.Core.Bool.{true};
 ghost use Prim.Native.Nat.{_+_, _≤_, _<_};
 ghost use lib.ListN.{length};
-ghost use Rattle.dead.specs.Inner.Rows.{rowCount, rowWidth, codeCells, wordCells, Same, Put, Places, keyWords};
+ghost use Rattle.dead.specs.Inner.Rows.{rowCount, rowWidth, codeCells, wordCells, Same, Put, Places};
 ghost use Rattle.dead.specs.Inner.Barren.{Asking, Dead, Remembers};
 
 // Codes and words of a row; there are 1,024 rows. An agenda that is longer is not remembered.
@@ -42,29 +43,6 @@ fn row_of(agenda: &[u16; 104], b: Branch) -> usize
         i += 1;
     }
     (sum & 1023) as usize
-}
-
-// The words of a row: the key and, last, the room.
-fn words_of(b: Branch) -> [u64; 9]
-    requires { ⌜ b .at ≤ b .limit ⌝ }
-    ensures { λ r. ⌜ r ≡ keyWords b ⌝ }
-{
-    let strict = b.strict;
-    let lax = b.lax;
-    let seen = b.seen;
-    let len = b.len as u64;
-    let room = (b.limit - b.at) as u64;
-    [
-        strict.low,
-        strict.mid,
-        strict.high,
-        lax.low,
-        lax.mid,
-        lax.high,
-        seen.low,
-        len,
-        room,
-    ]
 }
 
 // The first n words from a place on are those given.

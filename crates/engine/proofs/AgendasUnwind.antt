@@ -32,7 +32,7 @@ use Rattle.branch.specs.Inner.Values.{Answer, Solved, Stuck, Tired}
 use Rattle.branch.specs.Inner.Values.{closedA, pastF}
 use Rattle.segment.specs.Inner.Tasks.{agendaOf, Laid, Unwound, Opened, OpenTask, itemsAt}
 use Rattle.segment.proofs.TasksAreAgendas.{laid-short}
-use Rattle.moves.specs.Inner.Moves.{givenAt, fromAt}
+use Rattle.choice.specs.Inner.Choice.{givenAt, fromAt}
 use Rattle.engine.specs.Inner.Engine.{placeOf, Ready, NameNext, PartNext, topNode, Solves, Told, Searches}
 use Rattle.engine.proofs.NumbersFall.{number}
 

@@ -35,7 +35,8 @@ use Rattle.segment.proofs.TasksAreAgendas.{laid-less}
 use Rattle.engine.specs.Inner.Engine.{PartNext}
 use Rattle.engine.proofs.NumbersFall.{number}
 use Rattle.engine.proofs.PartsTell.{rest-number}
-use Rattle.moves.specs.Inner.Moves.{givenAt, fromAt, raisedF}
+use Rattle.choice.specs.Inner.Choice.{givenAt, fromAt}
+use Rattle.moves.specs.Inner.Moves.{raisedF}
 use Rattle.engine.specs.Inner.Engine.{placeOf, Ready, Solves}
 use Rattle.engine.specs.Inner.Engine.{Told, Searches}
 use Rattle.engine.proofs.PlacesMove.{slices, lead-place}

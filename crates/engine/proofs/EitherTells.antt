@@ -35,7 +35,8 @@ use Rattle.segment.specs.Inner.Tasks.{Laid}
 use Rattle.engine.specs.Inner.Engine.{GoalReady}
 use Rattle.engine.proofs.NumbersFall.{number, alone}
 use Rattle.engine.proofs.PartsTell.{right-asks}
-use Rattle.moves.specs.Inner.Moves.{givenAt, fromAt, raisedF}
+use Rattle.choice.specs.Inner.Choice.{givenAt, fromAt}
+use Rattle.moves.specs.Inner.Moves.{raisedF}
 use Rattle.engine.specs.Inner.Engine.{placeOf, Ready, Fresh, Solves}
 use Rattle.engine.specs.Inner.Engine.{Told, Searches}
 use Rattle.engine.proofs.PlacesMove.{slices}

@@ -46,13 +46,13 @@ use Rattle.branch.specs.Inner.Values.{Answer, Solved, Stuck, Tired}
 use Rattle.branch.specs.Inner.Values.{usingB, pastF, followingW, answerIn}
 use Rattle.segment.specs.Inner.Tasks.{taskOf, agendaOf, Laid, Pushing}
 use Rattle.segment.proofs.TasksAreAgendas.{agenda-next, nest-low, laid-less, laid-short}
-use Rattle.moves.specs.declared.Sought.{Sought as Found}
-use Rattle.moves.specs.declared.Sought.the-variants.{At, Nothing}
-use Rattle.moves.specs.Inner.Moves.{atHandBy, takableBy, Testing, SeeksAt, Seeks, givenAt, fromAt}
+use Rattle.choice.specs.declared.Sought.{Sought as Found}
+use Rattle.choice.specs.declared.Sought.the-variants.{At, Nothing}
+use Rattle.choice.specs.Inner.Choice.{atHandBy, takableBy, Testing, SeeksAt, Seeks, givenAt, fromAt}
 use Rattle.engine.specs.Inner.Engine.{placeOf, Ready, topNode}
 use Rattle.engine.specs.Inner.Engine.{topNest}
 use Rattle.engine.specs.Inner.Engine.{NameNext, NameOpen, CanUse, found, Solves, Told, Searches, Solving, Using}
-use Rattle.moves.specs.Inner.Moves.{FirstEntry, firstAt, keepsBy, openBy, gives}
+use Rattle.choice.specs.Inner.Choice.{FirstEntry, firstAt, keepsBy, openBy, gives}
 use Rattle.dead.specs.Inner.Barren.{BarrenIn}
 use Rattle.dead.proofs.DeadStaysDead.{none-barren}
 use Rattle.prune.specs.Inner.Prune.{Rooted, Asks, Doom}

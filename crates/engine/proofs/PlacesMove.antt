@@ -26,7 +26,8 @@ use Rattle.branch.specs.declared.Branch.{Branch}
 use Rattle.branch.specs.declared.Way.{Way}
 use Rattle.branch.specs.declared.Floor.{Floor}
 use Rattle.branch.specs.Inner.Values.{leadB, pastTensorB, pastWithB, lentB, usingB}
-use Rattle.moves.specs.Inner.Moves.{givenAt, fromAt, raisedF}
+use Rattle.choice.specs.Inner.Choice.{givenAt, fromAt}
+use Rattle.moves.specs.Inner.Moves.{raisedF}
 use Rattle.engine.specs.Inner.Engine.{placeOf, Ready}
 
 -- the floor of the entries from the given one on

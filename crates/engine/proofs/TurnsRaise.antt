@@ -33,7 +33,8 @@ use Rattle.branch.specs.declared.Way.{Way}
 use Rattle.branch.specs.declared.Floor.{Floor}
 use Rattle.branch.specs.Inner.Values.{Answer, Stuck, Tired}
 use Rattle.branch.specs.Inner.Values.{leadB, ownB, pastF}
-use Rattle.moves.specs.Inner.Moves.{givenAt, fromAt, raisedF}
+use Rattle.choice.specs.Inner.Choice.{givenAt, fromAt}
+use Rattle.moves.specs.Inner.Moves.{raisedF}
 use Rattle.engine.specs.Inner.Engine.{placeOf, Ready, Fresh}
 use Rattle.engine.specs.Inner.Engine.{Told, Searches}
 use Rattle.engine.proofs.PlacesMove.{ready-moved, next-from, from-low, run-length, given-run, given-past, from-here, raised-given, floor-place}

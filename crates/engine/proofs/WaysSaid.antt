@@ -19,7 +19,7 @@ use Rattle.branch.proofs.Outcome.{the-type}
 use Rattle.prune.specs.Inner.Prune.{Memory}
 use Rattle.prune.proofs.RootsKept.{rooted-kept, rooted-lent}
 use Rattle.prune.proofs.StockKept.{stocked-kept}
-use Rattle.moves.specs.Inner.Moves.{gives}
+use Rattle.choice.specs.Inner.Choice.{gives}
 use Rattle.engine.specs.Inner.Engine.{Equipped, Stays, Weary}
 
 pub solved-said : {r : Outcome} → r ≡ IsSolved → (ws : List ℕ) → answerIn r ws ≡ Solved (wayIn ws)

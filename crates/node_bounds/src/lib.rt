@@ -11,13 +11,13 @@ use bounds::table::low;
 use bounds::table::of_head;
 use bounds::table::row;
 ghost use mathlib.Core.Path.{_≡_};
-ghost use mathlib.Core.Bool.{_&&_};
+ghost use mathlib.Core.Bool.{true, _&&_};
 ghost use Prim.Native.Nat.{_-_, _<_, _≤_, min, max};
 ghost use Rattle.card.specs.Fault.{Sound};
 ghost use Rattle.bounds.specs.Inner.Count.{bit};
 ghost use Rattle.bounds.specs.Inner.Table.{NameCells, Held, Node, ifRecipe, inClass, headStep, leastStep, lowStep, highStep};
 ghost use Rattle.bounds.specs.Inner.Table.{leastUse, lowUse};
-ghost use Rattle.bounds.specs.Inner.Table.{highUse};
+ghost use Rattle.bounds.specs.Inner.Table.{highUse, NodeFits};
 
 fn greater(a: usize, b: usize) -> usize
     ensures { λ r. ⌜ r ≡ max a b ⌝ }
@@ -211,4 +211,23 @@ pub fn high_use(
         × (r < 512) ⌝ }
 {
     weight(names, i, linear, c) + if_recipe(card, i, high(table, i, c))
+}
+
+// Whether class c of the table at node i is settled: its bounds take in those from the node's parts.
+pub fn node_fits(card: &[u8], names: &[u16; 1577], table: &[u8; 66177], i: usize, c: usize) -> bool
+    requires { ⌜ Held (now card) (now names) (now table) ⌝ }
+    requires { ⌜ Node (now card) i × (c < 64) ⌝ }
+    ensures { λ r. ⌜ (r ≡ true → NodeFits (now (card .entry)) (now (names .entry)) (now (table .entry)) i c) ⌝ }
+{
+    if low_step(card, names, table, i, c) < low(table, i, c) {
+        return false;
+    }
+    let h = high(table, i, c);
+    if h == 255 {
+        return true;
+    }
+    if h < high_step(card, names, table, i, c) {
+        return false;
+    }
+    true
 }

@@ -32,7 +32,7 @@ use Rattle.branch.specs.declared.Floor.{Floor}
 use Rattle.branch.specs.Inner.Values.{Answer, Solved, Stuck, Tired}
 use Rattle.segment.specs.Inner.Tasks.{agendaOf, Laid}
 use Rattle.segment.proofs.TasksAreAgendas.{agenda-one, laid-one}
-use Rattle.moves.specs.Inner.Moves.{givenAt, fromAt}
+use Rattle.choice.specs.Inner.Choice.{givenAt, fromAt}
 use Rattle.engine.specs.Inner.Engine.{placeOf, Ready, Solves, Told, Solving}
 use Rattle.moves.specs.Inner.Moves.{startB}
 use Rattle.search.specs.Inner.Found.{FirstOn, Ran, Starts}

@@ -3,11 +3,9 @@ use branch::Floor;
 use branch::Outcome;
 use branch::way_in;
 ghost use mathlib.Core.Path.{_≡_};
-ghost use mathlib.Core.Bool.{true};
 ghost use lib.ListN.{length};
 ghost use Rattle.card.specs.Fault.{Sound};
 ghost use Rattle.branch.specs.Inner.Values.{answerIn, Awake};
-ghost use Rattle.bounds.specs.Inner.Table.{Held, Settled};
 ghost use Rattle.prune.specs.Inner.Prune.{Tabled, Stocked};
 ghost use Rattle.engine.specs.Inner.Engine.{Weary};
 ghost use Rattle.search.specs.Inner.Found.{Finds, Ran, Says, Starts};
@@ -96,24 +94,6 @@ fn remembering(
     )
 }
 
-// Fills the table of the card in. Whether it is settled, and so may be used.
-fn prepare(
-    card: &[u8],
-    names: &mut [u16; 1577],
-    table: &mut [u8; 66177],
-    masks: &mut [u64; 64],
-) -> bool
-    requires { ⌜ Held (now card) (now names) (now table) ⌝ }
-    requires { ⌜ length (now masks) ≡ 64 ⌝ }
-    ensures { λ r. ⌜ (r ≡ true → Settled (now (card .entry)) (now (names .exit)) (now (table .exit))
-        (now (masks .exit))) ⌝ }
-    ensures { λ _. ⌜ Held (now (card .entry)) (now (names .exit)) (now (table .exit))
-        × (length (now (masks .exit)) ≡ 64) ⌝ }
-{
-    bounds_fill::build(card, names, table, masks);
-    bounds_check::settled(card, names, table, masks)
-}
-
 // A run with the table of bounds, if it is asked for and settled, and a memory. It calls itself where the table is not settled, so the
 // room for its arrays is not taken up by a first run that answers.
 fn pruned(
@@ -145,7 +125,7 @@ fn pruned(
             &[0u64; 1],
         );
     }
-    let ready = prepare(card, &mut names, &mut table, &mut masks);
+    let ready = tables::prepare(card, &mut names, &mut table, &mut masks);
     if !ready {
         return pruned(card, waits, tape, nodes, heads, way, false);
     }

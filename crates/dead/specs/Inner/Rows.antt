@@ -1,11 +1,10 @@
 -- The rows of the memory: how a row is read back, compared and written.
-use Prim.Native.Nat.{ℕ, _+_, _-_, _*_, _≤_, _<_}
+use Prim.Native.Nat.{ℕ, _+_, _*_, _≤_, _<_}
 use mathlib.Core.Path.{_≡_}
 use mathlib.Core.Logic.{_⊎_}
-use mathlib.Core.List.{List, [], _∷_}
+use mathlib.Core.List.{List}
 use lib.ListN.{length, getD, drop}
 use Rattle.lines.specs.declared.LineSet.{LineSet}
-use Rattle.branch.specs.declared.Branch.{Branch}
 use Rattle.entries.specs.Inner.Masks.{maskSet}
 use Rattle.agenda.specs.Inner.Agenda.{Agenda}
 use Rattle.segment.specs.Inner.Tasks.{agendaOf}
@@ -46,12 +45,6 @@ rowRoom words row = wordAt words row 8
 
 unfoldable pub rowAgenda : List ℕ → List ℕ → List ℕ → ℕ → Agenda
 rowAgenda bs codes words row = agendaOf bs (drop (row * rowWidth) codes) (rowLen words row)
-
--- the words of a branch's row: its key and, last, its room
-abbrev pub keyWords : Branch → List ℕ
-keyWords b =
-    b .strict .low ∷ b .strict .mid ∷ b .strict .high ∷ b .lax .low ∷ b .lax .mid ∷ b .lax .high ∷ b .seen .low ∷ b .len
-    ∷ (b .limit - b .at) ∷ []
 
 -- There are n places from `at` on in xs, which has so many in all, and n in ys.
 pub record Places (xs : List ℕ) (at all : ℕ) (ys : List ℕ) (n most : ℕ) : Type 0 where

@@ -13,7 +13,7 @@ use Rattle.agenda.specs.Inner.Agenda.{task}
 use Rattle.branch.specs.declared.Branch.{Branch}
 use Rattle.branch.specs.Inner.Values.{Solved, answerIn, lentB}
 use Rattle.segment.specs.Inner.Tasks.{agendaOf}
-use Rattle.moves.specs.Inner.Moves.{givenAt, fromAt}
+use Rattle.choice.specs.Inner.Choice.{givenAt, fromAt}
 use Rattle.engine.specs.Inner.Engine.{Equipped}
 use Rattle.engine.proofs.NumbersFall.{number, alone}
 use Rattle.engine.proofs.AgendasUnwind.{top-within, top-here, name-next, part-next, unwound-number, unwound-ready}
@@ -74,15 +74,15 @@ use Rattle.entries.proofs.put.Reads as put-reads
 use Rattle.prune.proofs.dead_end.Reads as dead-end-reads
 use Rattle.prune.proofs.doomed.Reads as doomed-reads
 use Rattle.moves.proofs.conditions.Reads as conditions-reads
-use Rattle.moves.proofs.first_at.Reads as first-at-reads
-use Rattle.moves.proofs.given_up.Reads as given-up-reads
-use Rattle.moves.proofs.keeps.Reads as keeps-reads
+use Rattle.choice.proofs.first_at.Reads as first-at-reads
+use Rattle.choice.proofs.given_up.Reads as given-up-reads
+use Rattle.choice.proofs.keeps.Reads as keeps-reads
 use Rattle.moves.proofs.left_alone.Reads as left-alone-reads
 use Rattle.moves.proofs.lent_item.Reads as lent-item-reads
 use Rattle.moves.proofs.raise.Reads as raise-reads
 use Rattle.moves.proofs.right_alone.Reads as right-alone-reads
-use Rattle.moves.proofs.seek.Reads as seek-reads
-use Rattle.moves.proofs.unfloored.Reads as unfloored-reads
+use Rattle.choice.proofs.seek.Reads as seek-reads
+use Rattle.choice.proofs.unfloored.Reads as unfloored-reads
 use Rattle.branch.proofs.Branch.closed.Reads as closed-reads
 use Rattle.branch.proofs.Branch.joined.Reads as joined-reads
 use Rattle.branch.proofs.Branch.lead.Reads as lead-reads

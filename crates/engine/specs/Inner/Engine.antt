@@ -28,7 +28,7 @@ use Rattle.branch.specs.declared.Outcome.the-variants.{Solved as IsSolved, Stuc
 use Rattle.branch.specs.Inner.Values.{Answer, Solved, Stuck, Tired, usingB, pastF}
 use Rattle.segment.specs.Inner.Tasks.{nodeOf, nestOf, agendaOf, Laid}
 use Rattle.prune.specs.Inner.Prune.{Rooted, Stocked}
-use Rattle.moves.specs.Inner.Moves.{takableBy, givenAt, fromAt}
+use Rattle.choice.specs.Inner.Choice.{takableBy, givenAt, fromAt}
 
 -- Where a branch stands.
 unfoldable pub placeOf : ℕ → Floor → Branch → List ℕ → Place

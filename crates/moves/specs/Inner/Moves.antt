@@ -1,82 +1,16 @@
--- The terms of the moves' contracts: which entry is tried next at a name, where the given steps bear on it, the branch at the start.
-use Prim.Native.Nat.{ℕ, _+_, _-_, _≤_, _<_}
-use mathlib.Core.Path.{_≡_}
-use mathlib.Core.Bool.{Bool, true, false, not, cond, _&&_, _||_}
+-- The terms of the moves' contracts: the floor behind a list, the branch at the start.
+use Prim.Native.Nat.{ℕ, _+_, _-_}
+use mathlib.Core.Bool.{false}
 use mathlib.Core.List.{List}
-use lib.ListN.{length, getD, take, drop}
-use lib.Dec.{leb, ltb, eqb}
-use Rattle.calculus.specs.Items.{_∪_}
 use Rattle.card.specs.Format.{ruleCount, lineCount, stepLimit, byteAt}
-use Rattle.card.specs.Fault.{Sound}
 use Rattle.lines.specs.Inner.Set.{emptyS, fullS, cutS}
-use Rattle.scope.specs.Inner.Sets.{items, strictOf}
-use Rattle.entries.specs.Inner.Masks.{readyBy}
+use Rattle.scope.specs.Inner.Sets.{strictOf}
 use Rattle.branch.specs.declared.Branch.{Branch}
 use Rattle.branch.specs.declared.Floor.{Floor}
-use Rattle.branch.specs.declared.Outcome.{Outcome}
-use Rattle.branch.specs.declared.Outcome.the-variants.{Stuck as IsStuck, Tired as IsTired}
-use Rattle.moves.specs.declared.Sought.{Sought}
-use Rattle.moves.specs.declared.Sought.the-variants.{At, Nothing}
 
--- the entry is a rule or an item at hand
-unfoldable pub atHandBy : ℕ → ℕ → Branch → Bool
-atHandBy P e b = not (leb P e) || (items P (b .strict) ∪ items P (b .lax)) e
-
--- the entry can be used for the name: it is in scope, its head is the name, it is a rule or an item at hand, and the lines that it waits
--- for are seen
-unfoldable pub takableBy : List ℕ → List ℕ → List ℕ → Branch → ℕ → ℕ → Bool
-takableBy bs waits heads b name e =
-    ltb e (b .count)
-    && (eqb (getD heads e 0) name && (atHandBy (ruleCount bs) e b && readyBy (ruleCount bs) (lineCount bs) waits (b .seen) e))
-
--- What the test of an entry asks.
-pub record Testing (bs waits heads : List ℕ) (b : Branch) : Type 0 where
-  pub sound : Sound bs
-  pub wait-room : length waits ≡ 64
-  pub head-room : length heads ≡ 256
-  pub few : b .count ≤ 256
-  pub heads-low : (e : ℕ) → e < b .count → getD heads e 0 ≤ 1000
-
--- What the least usable entry from the given one on is.
-pub record SeeksAt (bs waits heads : List ℕ) (b : Branch) (name from e : ℕ) : Type 0 where
-  pub onward : from ≤ e
-  pub inside : e < b .count
-  pub takable : takableBy bs waits heads b name e ≡ true
-  pub passed : (x : ℕ) → from ≤ x → x < e → takableBy bs waits heads b name x ≡ false
-
-unfoldable pub Seeks : List ℕ → List ℕ → List ℕ → Branch → ℕ → ℕ → Sought → Type 0
-Seeks bs waits heads b name from (At e) = SeeksAt bs waits heads b name from e
-Seeks bs waits heads b name from Nothing = (x : ℕ) → from ≤ x → x < b .count → takableBy bs waits heads b name x ≡ false
-
--- The floor at a place of the tape, and the one behind so many steps, the last of which is to be passed.
-unfoldable pub givenAt : Floor → ℕ → List ℕ → List ℕ
-givenAt f at tape = drop at (take (f .fixed) tape)
-
-unfoldable pub fromAt : Floor → ℕ → ℕ
-fromAt f at = cond (leb at (f .fixed)) (f .from) 0
-
--- the least entry to be taken at a place: the given step, or the least after the given ones
-unfoldable pub firstAt : Floor → ℕ → List ℕ → ℕ
-firstAt f at tape = cond (ltb at (f .fixed)) (byteAt tape at) (fromAt f at)
-
-pub record FirstEntry (f : Floor) (at : ℕ) (tape : List ℕ) (first : ℕ) : Type 0 where
-  pub is : first ≡ firstAt f at tape
-  pub low : at < f .fixed → first < 256
-
--- the entry e is a given step, where `first` is the least to be taken; no floor bears on the place
-unfoldable pub keepsBy : Floor → ℕ → ℕ → ℕ → Bool
-keepsBy f at first e = cond (ltb at (f .fixed)) (eqb e first) false
-
-unfoldable pub openBy : Floor → ℕ → ℕ → Bool
-openBy f at first = cond (ltb at (f .fixed)) false (eqb first 0)
-
+-- the floor behind so many steps, the last of which is to be passed
 unfoldable pub raisedF : List ℕ → ℕ → Floor
 raisedF tape at = record { fixed = at - 1; from = byteAt tape (at - 1) + 1 }
-
--- what a dead end answers: that the search gives up, or that nothing is found
-unfoldable pub gives : Bool → Outcome
-gives true = IsTired
-gives false = IsStuck
 
 -- The branch at the card's goal: every line at hand, must lines strict.
 unfoldable pub startB : List ℕ → Branch

@@ -11,7 +11,7 @@ use borrow.Fn.PlainCycle.{Measures, is, falls, and}
 use Rattle.search.proofs.pruned.Reads as pruned
 use Rattle.search.proofs.pruned.Kinds as pruned-kinds
 use Rattle.search.proofs.+pruned.Lts-pruned as pruned-lts
-use Rattle.search.proofs.prepare.Reads as prepare-reads
+use Rattle.tables.proofs.prepare.Reads as prepare-reads
 use Rattle.search.proofs.remembering.Reads as remembering-reads
 use Rattle.search.proofs.+pruned.{statement}
 use Rattle.search.proofs.+pruned.Tie.{close}

@@ -1,0 +1,124 @@
+// The choice at a name: which entry is tried next, and where the given steps bear on it.
+use branch::Branch;
+use branch::Floor;
+use branch::Outcome;
+use card::format::byte;
+ghost use mathlib.Core.Path.{_≡_};
+ghost use Prim.Native.Nat.{_≤_};
+ghost use lib.ListN.{length};
+ghost use Rattle.choice.specs.Inner.Choice.{atHandBy, takableBy, Testing, Seeks, FirstEntry, keepsBy, openBy, gives};
+
+// The least usable entry.
+pub enum Sought {
+    At(usize),
+    Nothing,
+}
+
+// The entry is a rule or an item at hand.
+pub fn at_hand(rules: usize, e: usize, b: Branch) -> bool
+    ensures { λ r. ⌜ r ≡ atHandBy rules e b ⌝ }
+{
+    let strict = b.strict;
+    let lax = b.lax;
+    if e < rules {
+        return true;
+    }
+    if strict.has(e - rules) {
+        return true;
+    }
+    lax.has(e - rules)
+}
+
+// The entry can be used for the name.
+pub fn usable(
+    card: &[u8],
+    waits: &[u64; 64],
+    heads: &[u16; 256],
+    b: Branch,
+    name: usize,
+    e: usize,
+) -> bool
+    requires { ⌜ Testing (now card) (now waits) (now heads) b ⌝ }
+    ensures { λ r. ⌜ r ≡ takableBy (now (card .entry)) (now (waits .entry)) (now (heads .entry)) b name e ⌝ }
+{
+    if b.count <= e {
+        return false;
+    }
+    let head = heads[e] as usize;
+    if head != name {
+        return false;
+    }
+    let rules = byte(card, 3);
+    let hand = at_hand(rules, e, b);
+    if !hand {
+        return false;
+    }
+    entries::ready(rules, byte(card, 4), waits, b.seen, e)
+}
+
+// The least usable entry from the given one on.
+pub fn seek(
+    card: &[u8],
+    waits: &[u64; 64],
+    heads: &[u16; 256],
+    b: Branch,
+    name: usize,
+    from: usize,
+) -> Sought
+    requires { ⌜ Testing (now card) (now waits) (now heads) b ⌝ }
+    ensures { λ r. ⌜ Seeks (now (card .entry)) (now (waits .entry)) (now (heads .entry)) b name from r ⌝ }
+{
+    let mut e = from;
+    while e < b.count {
+        let good = usable(card, waits, heads, b, name, e);
+        if good {
+            return Sought::At(e);
+        }
+        e += 1;
+    }
+    Sought::Nothing
+}
+
+// The least entry to be taken at a place: the given step, or the least after the given ones.
+pub fn first_at(tape: &[u8], f: Floor, at: usize) -> usize
+    requires { ⌜ (f .fixed ≤ 255) × (length (now tape) ≡ 255) ⌝ }
+    ensures { λ r. ⌜ FirstEntry f at (now (tape .entry)) r ⌝ }
+{
+    if at < f.fixed {
+        return byte(tape, at);
+    }
+    if at == f.fixed {
+        return f.from;
+    }
+    0
+}
+
+// The entry is a given step.
+pub fn keeps(f: Floor, at: usize, first: usize, e: usize) -> bool
+    ensures { λ r. ⌜ r ≡ keepsBy f at first e ⌝ }
+{
+    if at < f.fixed {
+        return e == first;
+    }
+    false
+}
+
+// No floor bears on the place.
+pub fn unfloored(f: Floor, at: usize, first: usize) -> bool
+    ensures { λ r. ⌜ r ≡ openBy f at first ⌝ }
+{
+    if at < f.fixed {
+        return false;
+    }
+    first == 0
+}
+
+// Nothing is found, or the search gives up.
+pub fn given_up(tired: bool) -> Outcome
+    ensures { λ r. ⌜ r ≡ gives tired ⌝ }
+{
+    if tired {
+        return Outcome::Tired;
+    }
+    Outcome::Stuck
+}

@@ -1,0 +1,2 @@
+-- The terms of the contract: a key as words.
+pub mod Keys

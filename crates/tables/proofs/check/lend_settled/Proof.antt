@@ -1,0 +1,30 @@
+use mathlib.Core.Path.{_∙_}
+use mathlib.Core.Bool.{true}
+use borrow.Author.Needs.{needs}
+use Rattle.bounds.specs.Inner.Table.{UseSettled}
+use mathlib.Core.Path.{subst}
+use Rattle.tables.proofs.check.lend_settled.Statement.{statement}
+use Rattle.tables.proofs.check.lend_settled.Tie as tie
+
+kind-at-requires : tie.Need-kind-at-requires
+kind-at-requires c κs = search needs
+
+left-part-requires : tie.Need-left-part-requires
+left-part-requires c κs = search needs
+
+use-settled-requires : tie.Need-use-settled-requires
+use-settled-requires c κs = search needs
+
+returns : tie.Need-returns
+returns c =
+    let s = c .before .before .before .before .before in
+    λ q k.
+    subst (λ d. UseSettled (s .args .card .now) (s .args .names .now) (s .args .table .now) d true) (c .before .left-part .ensures .0)
+    (c .use-settled .ensures q)
+
+returns-2 : tie.Need-returns-2
+returns-2 c = λ q k. absurd (c .if1 .left (c .before .kind-at .ensures ∙ k))
+
+pub lend-settled-spec : {M : Type 1} → statement M
+lend-settled-spec =
+    tie.close (tie.spec kind-at-requires left-part-requires use-settled-requires returns returns-2)

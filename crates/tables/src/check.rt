@@ -1,0 +1,276 @@
+// Whether a table is settled. Only this is relied on; how the table came about is not.
+use bounds::nodes::kind_at;
+use bounds::nodes::left_part;
+use bounds::nodes::line_at;
+use bounds::nodes::node_count;
+use bounds::nodes::rule_at;
+use bounds::table::class;
+use bounds::table::classes;
+use bounds::table::head;
+use bounds::table::high;
+use bounds::table::least;
+use bounds::table::low;
+use bounds::table::of_head;
+use bounds::table::row;
+use card::format::byte;
+use node_bounds::head_step;
+use node_bounds::high_use;
+use node_bounds::least_step;
+use node_bounds::least_use;
+use node_bounds::low_use;
+use node_bounds::node_fits;
+ghost use mathlib.Core.Path.{_≡_};
+ghost use mathlib.Core.Bool.{true, false, _&&_};
+ghost use Prim.Native.Nat.{ℕ, _<_, _≤_};
+ghost use lib.ListN.{length};
+ghost use lib.Dec.{ltb};
+ghost use Rattle.card.specs.Format.{nodeCount, ruleCount, lineCount, kindAt, leftAt, ruleNode, lineNode};
+ghost use Rattle.lines.specs.Inner.Set.{bitAt};
+ghost use Rattle.card.specs.Fault.{Sound};
+ghost use Rattle.bounds.specs.Inner.Table.{NameCells, Held, Node, headAt, inClass, classes as classesOf, UseFits};
+ghost use Rattle.bounds.specs.Inner.Table.{NodeSettled, UseSettled, Masked};
+ghost use Rattle.bounds.specs.Inner.Table.{Settled};
+
+fn node_settled(card: &[u8], names: &[u16; 1577], table: &[u8; 66177], i: usize) -> bool
+    requires { ⌜ Held (now card) (now names) (now table) ⌝ }
+    requires { ⌜ Node (now card) i ⌝ }
+    ensures { λ r. ⌜ (r ≡ true → NodeSettled (now (card .entry)) (now (names .entry)) (now (table .entry)) i) ⌝ }
+{
+    if head(names, i) != head_step(card, names, i) {
+        return false;
+    }
+    if least_step(card, names, table, i) < least(table, i) {
+        return false;
+    }
+    let n = classes(names);
+    let mut c = 0;
+    while c < n {
+        if !node_fits(card, names, table, i, c) {
+            return false;
+        }
+        c += 1;
+    }
+    true
+}
+
+fn nodes_settled(card: &[u8], names: &[u16; 1577], table: &[u8; 66177]) -> bool
+    requires { ⌜ Held (now card) (now names) (now table) ⌝ }
+    ensures { λ r. ⌜ (r ≡ true → (i : ℕ) → i < nodeCount (now (card .entry))
+        → NodeSettled (now (card .entry)) (now (names .entry)) (now (table .entry)) i) ⌝ }
+{
+    let n = node_count(card);
+    let mut i = 0;
+    while i < n {
+        if !node_settled(card, names, table, i) {
+            return false;
+        }
+        i += 1;
+    }
+    true
+}
+
+// Class c at a use of the clause at node i.
+fn use_fits(
+    card: &[u8],
+    names: &[u16; 1577],
+    table: &[u8; 66177],
+    i: usize,
+    linear: bool,
+    c: usize,
+) -> bool
+    requires { ⌜ Held (now card) (now names) (now table) ⌝ }
+    requires { ⌜ (Node (now card) i × (c < 64)) × (headAt (now names) i < 1000) ⌝ }
+    ensures { λ r. ⌜ (r ≡ true → UseFits (now (card .entry)) (now (names .entry)) (now (table .entry)) i linear c) ⌝ }
+{
+    let r = row(names, head(names, i));
+    if low_use(card, names, table, i, linear, c) < low(table, r, c) {
+        return false;
+    }
+    let h = high(table, r, c);
+    if h == 255 {
+        return true;
+    }
+    if h < high_use(card, names, table, i, linear, c) {
+        return false;
+    }
+    true
+}
+
+fn use_settled(
+    card: &[u8],
+    names: &[u16; 1577],
+    table: &[u8; 66177],
+    i: usize,
+    linear: bool,
+) -> bool
+    requires { ⌜ Held (now card) (now names) (now table) ⌝ }
+    requires { ⌜ Node (now card) i ⌝ }
+    ensures { λ r. ⌜ (r ≡ true → UseSettled (now (card .entry)) (now (names .entry)) (now (table .entry)) i linear) ⌝ }
+{
+    let h = head(names, i);
+    if 1000 <= h {
+        return true;
+    }
+    if least_use(card, names, table, i) < least(table, row(names, h)) {
+        return false;
+    }
+    let n = classes(names);
+    let mut c = 0;
+    while c < n {
+        if !use_fits(card, names, table, i, linear, c) {
+            return false;
+        }
+        c += 1;
+    }
+    true
+}
+
+fn rules_settled(card: &[u8], names: &[u16; 1577], table: &[u8; 66177]) -> bool
+    requires { ⌜ Held (now card) (now names) (now table) ⌝ }
+    ensures { λ r. ⌜ (r ≡ true → (k : ℕ) → k < ruleCount (now (card .entry))
+        → UseSettled (now (card .entry)) (now (names .entry)) (now (table .entry)) (ruleNode
+        (now (card .entry)) k) false) ⌝ }
+{
+    let n = byte(card, 3);
+    let mut i = 0;
+    while i < n {
+        if !use_settled(card, names, table, rule_at(card, i), false) {
+            return false;
+        }
+        i += 1;
+    }
+    true
+}
+
+fn lines_settled(card: &[u8], names: &[u16; 1577], table: &[u8; 66177]) -> bool
+    requires { ⌜ Held (now card) (now names) (now table) ⌝ }
+    ensures { λ r. ⌜ (r ≡ true → (k : ℕ) → k < lineCount (now (card .entry))
+        → UseSettled (now (card .entry)) (now (names .entry)) (now (table .entry)) (lineNode
+        (now (card .entry)) k) true) ⌝ }
+{
+    let n = byte(card, 4);
+    let mut i = 0;
+    while i < n {
+        if !use_settled(card, names, table, line_at(card, i), true) {
+            return false;
+        }
+        i += 1;
+    }
+    true
+}
+
+// Node i, if it is a lend.
+fn lend_settled(card: &[u8], names: &[u16; 1577], table: &[u8; 66177], i: usize) -> bool
+    requires { ⌜ Held (now card) (now names) (now table) ⌝ }
+    requires { ⌜ Node (now card) i ⌝ }
+    ensures { λ r. ⌜ (r ≡ true → kindAt (now (card .entry)) i ≡ 6
+        → UseSettled (now (card .entry)) (now (names .entry)) (now (table .entry)) (leftAt
+        (now (card .entry)) i) true) ⌝ }
+{
+    if kind_at(card, i) == 6 {
+        return use_settled(card, names, table, left_part(card, i), true);
+    }
+    true
+}
+
+fn lends_settled(card: &[u8], names: &[u16; 1577], table: &[u8; 66177]) -> bool
+    requires { ⌜ Held (now card) (now names) (now table) ⌝ }
+    ensures { λ r. ⌜ (r ≡ true → (i : ℕ) → i < nodeCount (now (card .entry)) → kindAt (now (card .entry)) i ≡ 6
+        → UseSettled (now (card .entry)) (now (names .entry)) (now (table .entry)) (leftAt
+        (now (card .entry)) i) true) ⌝ }
+{
+    let n = node_count(card);
+    let mut i = 0;
+    while i < n {
+        if !lend_settled(card, names, table, i) {
+            return false;
+        }
+        i += 1;
+    }
+    true
+}
+
+// Whether line i, if there is one, is of class c.
+fn of_class(card: &[u8], names: &[u16; 1577], c: usize, i: usize) -> bool
+    requires { ⌜ Sound (now card) ⌝ }
+    requires { ⌜ (c < 64) × NameCells (now names) ⌝ }
+    ensures { λ r. ⌜ r ≡ (let bs = now (card .entry) in
+        ltb i (lineCount bs) && inClass (now (names .entry)) (lineNode bs i) c) ⌝ }
+{
+    if byte(card, 4) <= i {
+        return false;
+    }
+    of_head(class(names, c), head(names, line_at(card, i)))
+}
+
+fn same(a: bool, b: bool) -> bool
+    ensures { λ r. ⌜ (r ≡ true → a ≡ b) ⌝ }
+{
+    if a { b } else { !b }
+}
+
+// Bit i of a word.
+fn lit(word: u64, i: usize) -> bool
+    requires { ⌜ i < 64 ⌝ }
+    ensures { λ r. ⌜ r ≡ bitAt word i ⌝ }
+{
+    (word >> i) & 1 == 1
+}
+
+// The word of class c.
+fn masked(card: &[u8], names: &[u16; 1577], masks: &[u64; 64], c: usize) -> bool
+    requires { ⌜ Sound (now card) ⌝ }
+    requires { ⌜ (c < 64) × (NameCells (now names) × (length (now masks) ≡ 64)) ⌝ }
+    ensures { λ r. ⌜ (r ≡ true → Masked (now (card .entry)) (now (names .entry)) (now (masks .entry)) c) ⌝ }
+{
+    let mask = masks[c];
+    let mut i: usize = 0;
+    while i < 64 {
+        if !same(lit(mask, i), of_class(card, names, c, i)) {
+            return false;
+        }
+        i += 1;
+    }
+    true
+}
+
+fn masks_settled(card: &[u8], names: &[u16; 1577], masks: &[u64; 64]) -> bool
+    requires { ⌜ Sound (now card) ⌝ }
+    requires { ⌜ NameCells (now names) × (length (now masks) ≡ 64) ⌝ }
+    ensures { λ r. ⌜ (r ≡ true → (c : ℕ) → c < classesOf (now (names .entry))
+        → Masked (now (card .entry)) (now (names .entry)) (now (masks .entry)) c) ⌝ }
+{
+    let n = classes(names);
+    let mut c = 0;
+    while c < n {
+        if !masked(card, names, masks, c) {
+            return false;
+        }
+        c += 1;
+    }
+    true
+}
+
+pub fn settled(card: &[u8], names: &[u16; 1577], table: &[u8; 66177], masks: &[u64; 64]) -> bool
+    requires { ⌜ Held (now card) (now names) (now table) ⌝ }
+    requires { ⌜ length (now masks) ≡ 64 ⌝ }
+    ensures { λ r. ⌜ (r ≡ true → Settled (now (card .entry)) (now (names .entry)) (now (table .entry))
+        (now (masks .entry))) ⌝ }
+{
+    if classes(names) == 0 {
+        return false;
+    }
+    if !nodes_settled(card, names, table) {
+        return false;
+    }
+    if !rules_settled(card, names, table) {
+        return false;
+    }
+    if !lines_settled(card, names, table) {
+        return false;
+    }
+    if !lends_settled(card, names, table) {
+        return false;
+    }
+    masks_settled(card, names, masks)
+}

@@ -1,0 +1,26 @@
+// The table of bounds of a card: filled in, and checked before it is used. Only the check is relied on.
+mod check;
+mod fill;
+
+ghost use mathlib.Core.Path.{_≡_};
+ghost use mathlib.Core.Bool.{true};
+ghost use lib.ListN.{length};
+ghost use Rattle.bounds.specs.Inner.Table.{Held, Settled};
+
+// Fills the table of the card in. Whether it is settled, and so may be used.
+pub fn prepare(
+    card: &[u8],
+    names: &mut [u16; 1577],
+    table: &mut [u8; 66177],
+    masks: &mut [u64; 64],
+) -> bool
+    requires { ⌜ Held (now card) (now names) (now table) ⌝ }
+    requires { ⌜ length (now masks) ≡ 64 ⌝ }
+    ensures { λ r. ⌜ (r ≡ true → Settled (now (card .entry)) (now (names .exit)) (now (table .exit))
+        (now (masks .exit))) ⌝ }
+    ensures { λ _. ⌜ Held (now (card .entry)) (now (names .exit)) (now (table .exit))
+        × (length (now (masks .exit)) ≡ 64) ⌝ }
+{
+    fill::build(card, names, table, masks);
+    check::settled(card, names, table, masks)
+}
