@@ -17,7 +17,7 @@ use std::time::Duration;
 /// What counting may spend on a card.
 const BUDGET: usize = 200_000;
 /// How long the planner may take for one.
-const LIMIT: Duration = Duration::from_millis(50);
+const LIMIT: Duration = Duration::from_millis(20);
 
 /// Cards of one kind from a fixed seed.
 struct Kind {
