@@ -15,8 +15,9 @@
  *     are only read, may overlap or be the same.
  *   - Nothing else writes these bytes during a call, nor reads the sheet's during kit_plan.
  *
- * Any lengths and any bytes are allowed. A call keeps nothing, takes no memory but the stack (under 512 KB at
- * the deepest card tried), and may run in several threads at once, each with a sheet buffer of its own.
+ * Any lengths and any bytes are allowed. A call keeps nothing and takes no memory but the stack: on the deepest
+ * cards tried 461 KB for kit_plan and 51 KB for kit_read. It may run in several threads at once, each with a sheet
+ * buffer of its own.
  */
 #ifndef KIT_PLANNER_H
 #define KIT_PLANNER_H
