@@ -19,7 +19,7 @@ use Rattle.card.specs.Fault.{Sound, goalPart, clausePart, heightAt}
 use Rattle.card.specs.Decode.{goalAt, clauseOf}
 use Rattle.card.proofs.CardChecked.{sound-front}
 use Rattle.card.proofs.SoundNodes.{goal-lower, goal-kind, goal-above, clause-above, height-pos, height-parts, either-parts, lend-parts}
-use Rattle.card.proofs.SoundNodes.{sound-either, sound-lend, parts-below}
+use Rattle.card.proofs.SoundNodes.{sound-either, sound-lend}
 use Rattle.lines.specs.Inner.Set.{addS}
 use Rattle.scope.specs.Inner.Sets.{items}
 use Rattle.scope.specs.Inner.Tables.{Kept}
@@ -182,11 +182,6 @@ module _ {bs : List ℕ} (sd : Sound bs) {goal n : ℕ} {b : Branch} (g : GoalRe
   heights = height-parts sd goal goal-low (omega (arith, g .kind))
 
   -- a part put on an agenda of its own
-  pub part-low : (leftAt bs goal < 512) × (rightAt bs goal < 512)
-  part-low =
-      let p = parts-below sd goal goal-low (omega (arith, g .kind)) in
-      let f = sound-front bs sd .few in (omega (arith, p .0, goal-low), omega (arith, p .1, goal-low))
-
   module _ (codes : List ℕ) (room : length codes ≡ 104) where
     part-laid : (node count : ℕ) → goalPart bs (nodeCount bs) node ≡ true → heightAt bs node < heightAt bs goal → count ≤ b .count + 1
         → Laid bs (set codes 0 (node * 32 + n)) 1 count

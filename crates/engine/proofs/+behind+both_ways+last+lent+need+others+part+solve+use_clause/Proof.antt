@@ -28,7 +28,7 @@ use Rattle.engine.proofs.NamesTell.{round-call, round-next, round-found
 use Rattle.engine.proofs.RaisesEnd.{leftOver}
 use Rattle.engine.proofs.TurnsRaise.{turns-start, ready-lead, ready-own, fresh-lead, fresh-own}
 use Rattle.engine.proofs.PartsTell.{goal-next, agenda-same, agenda-last, alone-next, searched-as, searched-at, goal-own, goal-lead}
-use Rattle.engine.proofs.PartsTell.{own-unsolved, own-solved, goal-low, goal-six, part-low, left-asks, either-goal, one-task}
+use Rattle.engine.proofs.PartsTell.{own-unsolved, own-solved, goal-low, goal-six, left-asks, either-goal, one-task}
 use Rattle.engine.proofs.PartsTell.{searched-past, lent-clause, lent-count, lent-asks, lent-branch, lent-unsolved, lent-solved}
 use Rattle.engine.proofs.BehindTells.{Behind, behind-unsolved, behind-nodes-kept, behind-rest-asks, rest-told, behind-solved}
 use Rattle.engine.proofs.BehindTells.{behind-tired, behind-nosteps, behind-raise-asks, behind-falls, behind-again}

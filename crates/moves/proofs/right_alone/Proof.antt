@@ -1,5 +1,5 @@
 use native.Mathlib.Omega.{arith}
-use mathlib.Core.Path.{_≡_, _∙_, ap}
+use mathlib.Core.Path.{_∙_, ap}
 use Prim.Native.Nat.{_+_, _*_}
 use lib.ListN.{set}
 use Rattle.card.proofs.SoundNodes.{node-here}
