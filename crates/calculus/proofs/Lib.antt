@@ -7,4 +7,5 @@ pub mod EnumerationExact
 pub mod TraceExact
 pub mod ListsNameWays
 pub mod RenamingKeeps
+pub mod JobsBeside
 pub mod StepsBounded

@@ -115,7 +115,7 @@ share : (ℕ → ℕ) → Items → Items → Items
 share g J A k = J k && A (g k)
 
 module _ {f g : ℕ → ℕ} {I J : Items} (m : Image f g I J) where
-  image-back : (k : ℕ) → J k ≡ true → I (g k) ≡ true
+  pub image-back : (k : ℕ) → J k ≡ true → I (g k) ≡ true
   image-back k h = sym (m .taken (g k)) ∙ ap J (m .sole k h) ∙ h
 
   image-empty : Empty I → Empty J
@@ -228,7 +228,7 @@ renaming-lend {es} {fs} {f} r D =
 -- Derivations go over
 
 -- two parts go over; a use does, once the residual of its entry has
-renamed-⊗ : {fs : Scope} {I J K : Items} {G H : Goal} {k l m : List ℕ} {n o : ℕ} → Splits I J K
+pub renamed-⊗ : {fs : Scope} {I J K : Items} {G H : Goal} {k l m : List ℕ} {n o : ℕ} → Splits I J K
     → Renamed fs J G l n → Renamed fs K H m o → k ≡ l ++ m → Renamed fs I (tensor G H) k (max n o)
 unfolding steps nesting
 renamed-⊗ s x y q =
@@ -331,7 +331,7 @@ module _ {j k : Job} {f g : ℕ → ℕ} {I J : Items} (r : JobRenaming j k f g)
       record { kept = λ i h. ap (k .strict ∪ k .lax) (sym (m .sole i h)) ∙ r .lines-to (g i) (w .kept (g i) (image-back m i h)) }
 
 -- a renamed derivation from a set between the must lines and all lines
-listed-by : {k : Job} {J : Items} {l : List ℕ} {n : ℕ} → Within (k .strict) J → Within J (k .strict ∪ k .lax)
+pub listed-by : {k : Job} {J : Items} {l : List ℕ} {n : ℕ} → Within (k .strict) J → Within J (k .strict ∪ k .lax)
     → Renamed (k .scope) J (k .goal) l n → n ≤ k .depth → length l ≤ k .length-limit → Listed k l
 listed-by {J} s w z h c =
     record {

@@ -1,8 +1,10 @@
 -- Laws of checks taken apart one after the other, of the whole check, and of a sound card.
-use Prim.Native.Nat.{ℕ, _+_, _<_}
+use Prim.Native.Nat.{ℕ, _+_, _<_, _≤_}
+use native.Mathlib.Omega.{arith}
 use native.Mathlib.Numerals.{add-one}
 use mathlib.Core.Path.{_≡_, sym, _∙_, ap, subst}
 use mathlib.Core.List.{List}
+use lib.ListN.{length}
 use Rattle.card.specs.declared.Checked.{Checked}
 use Rattle.card.specs.declared.Checked.the-variants.{Sound as SoundCard, Refused}
 use Rattle.card.specs.declared.Refusal.{Refusal}
@@ -90,3 +92,7 @@ module _ (bs : List ℕ) where
 
     pub sound-line : (i : ℕ) → i < lineCount bs → lineFault bs i ≡ sound
     sound-line = first-each (lineCount bs) (lineFault bs) (sound-right (firstOf (ruleCount bs) (ruleFault bs)) lines-left from-4)
+
+-- the front of a sound card stands on it
+pub front-here : {bs : List ℕ} → Sound bs → 11 ≤ length bs
+front-here {bs} s = omega (arith, sound-front bs s .whole)

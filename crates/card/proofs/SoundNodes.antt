@@ -84,7 +84,7 @@ module _ (bs : List ℕ) (i : ℕ) where
   height-pos = omega arith
 
   -- the height of a well built node with two parts
-  height-of-parts : wellBuilt bs i ≡ true → 3 < kindAt bs i
+  pub height-of-parts : wellBuilt bs i ≡ true → 3 < kindAt bs i
       → heightAt bs i ≡ max (heightAt bs (leftAt bs i)) (heightAt bs (rightAt bs i)) + 1
   unfolding heightAt
   height-of-parts e k =

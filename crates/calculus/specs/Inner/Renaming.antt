@@ -1,11 +1,11 @@
 -- Maps of entries: from one scope to another, from one job to another, and the swap of two lines.
 use Prim.Native.Nat.{ℕ, _+_, _≤_, _<_}
 use mathlib.Core.Path.{_≡_}
-use mathlib.Core.Logic.{ite}
+use mathlib.Core.Logic.{_⊎_, ite}
 use mathlib.Core.Bool.{true}
 use mathlib.Core.List.{List, [], _∷_, _++_}
 use native.Mathlib.Decide.{ℕ-discrete}
-use Rattle.calculus.specs.Formula.{Goal}
+use Rattle.calculus.specs.Formula.{Goal, tensor}
 use Rattle.calculus.specs.Items.{Items, _∪_}
 use Rattle.calculus.specs.Derivation.{Scope, size, clauseAt, linearAt, Derives, res-1, res-⊤, res-⊗, res-&, res-⊸, res-atm-int, res-atm-lin}
 use Rattle.calculus.specs.Steps.{steps, nesting}
@@ -51,6 +51,20 @@ pub record JobRenaming (j k : Job) (f g : ℕ → ℕ) : Type 0 where
   pub same-goal : j .goal ≡ k .goal
   pub no-shallower : j .depth ≤ k .depth
   pub no-shorter : j .length-limit ≤ k .length-limit
+
+-- Two jobs stand side by side in k, the one along f, the other along h: their entries go over, each must line of k is one of theirs, their
+-- lines are lines of k and apart, the goal is ⊗ of the two and no nesting limit is lower.
+pub record Beside (i j k : Job) (f g h e : ℕ → ℕ) : Type 0 where
+  pub first : Renaming (i .scope) (k .scope) f g
+  pub second : Renaming (j .scope) (k .scope) h e
+  pub strict-from : (x : ℕ) → k .strict x ≡ true
+      → ((f (g x) ≡ x) × (i .strict (g x) ≡ true)) ⊎ ((h (e x) ≡ x) × (j .strict (e x) ≡ true))
+  pub first-lines : (x : ℕ) → (i .strict ∪ i .lax) x ≡ true → (k .strict ∪ k .lax) (f x) ≡ true
+  pub second-lines : (x : ℕ) → (j .strict ∪ j .lax) x ≡ true → (k .strict ∪ k .lax) (h x) ≡ true
+  pub apart : (x y : ℕ) → (i .strict ∪ i .lax) x ≡ true → (j .strict ∪ j .lax) y ≡ true → f x ≡ h y → ⊥
+  pub both-goals : tensor (i .goal) (j .goal) ≡ k .goal
+  pub first-shallow : i .depth ≤ k .depth
+  pub second-shallow : j .depth ≤ k .depth
 
 -- x for y, y for x, any other number for itself
 unfoldable pub swap : ℕ → ℕ → ℕ → ℕ

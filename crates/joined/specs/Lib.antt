@@ -1,0 +1,4 @@
+-- What a reader must believe of the joined card; apart from it, Inner.
+pub mod Joined
+pub mod JoinedJob
+pub mod Inner
