@@ -54,7 +54,7 @@ pub enum Built {
     Faulty,
 }
 
-fn greater(a: usize, b: usize) -> usize
+pub fn greater(a: usize, b: usize) -> usize
     ensures { λ r. ⌜ r ≡ max a b ⌝ }
 {
     if a < b { b } else { a }
@@ -76,7 +76,7 @@ fn part_height(field: Field, value: usize, heights: &[u8; 512]) -> usize
 }
 
 // The height of a well built node, from the heights of those before it.
-fn height(card: &[u8], i: usize, heights: &[u8; 512]) -> usize
+pub fn height(card: &[u8], i: usize, heights: &[u8; 512]) -> usize
     requires { ⌜ Tabled (now card) i (now heights) ⌝ }
     requires { ⌜ wellBuilt (now card) i ≡ true ⌝ }
     ensures { λ r. ⌜ r ≡ heightAt (now (card .entry)) i ⌝ }

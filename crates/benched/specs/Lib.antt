@@ -1,0 +1,2 @@
+-- What a reader must believe of the checks of two cards.
+pub mod Benched
