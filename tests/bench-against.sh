@@ -23,8 +23,9 @@ build() { (cd "$1" && rt staticlib planner_c) >"$scratch/log" 2>&1 || { tail -n 
 # renamed WORD LIBRARY: the library with its calls renamed by the word, so that two can be linked into one program. Every function begins
 # a page, so that where the linker lays them favours neither.
 renamed() {
-    objcopy --redefine-sym "kit_plan=$1_kit_plan" --redefine-sym "kit_read=$1_kit_read" --set-section-alignment '.text.*=4096' \
-        "$2" "$pair/$1.a"
+    local call names=()
+    for call in kit_plan kit_read kit_join kit_source; do names+=(--redefine-sym "$call=$1_$call"); done
+    objcopy "${names[@]}" --set-section-alignment '.text.*=4096' "$2" "$pair/$1.a"
 }
 
 if [[ ! -f $before ]]; then

@@ -1,6 +1,6 @@
-/* The calls of kit_planner.h as a C program meets them: the sample card planned and read, and refusals by
- * number, place and index. It is C99 and C++11 alike; tests/calls.sh compiles it as both. It ends at the first
- * check that fails. */
+/* The calls of kit_planner.h as a C program meets them: the sample card planned and read, two cards joined, and
+ * refusals by number, card, place and index. It is C99 and C++11 alike; tests/calls.sh compiles it as both. It
+ * ends at the first check that fails. */
 #include "kit_planner.h"
 
 #include <stdio.h>
@@ -16,8 +16,12 @@
 /* Declared once more, so that the compiler refuses any other types in the header. */
 uint32_t kit_plan(const uint8_t *card, size_t card_len, uint8_t *sheet, size_t sheet_len);
 uint32_t kit_read(const uint8_t *card, size_t card_len, const uint8_t *sheet, size_t sheet_len);
+uint32_t kit_join(const uint8_t *first, size_t first_len, const uint8_t *second, size_t second_len,
+                  uint8_t *joined, size_t joined_len);
+uint32_t kit_source(const uint8_t *first, size_t first_len, const uint8_t *second, size_t second_len, uint16_t i);
 
 enum { CARD, NODE, RULE, LINE, SHEET, STEPS, MARK };
+enum { NEITHER, FIRST, SECOND };
 
 /* The sample card: P = 0, T = 3, N = 4, s = 8. */
 static const uint8_t sample[40] = {
@@ -40,6 +44,28 @@ static const uint8_t bad_rule[25] = {
 static const uint8_t holds_sheet[21] = {
     0x00, 0x15, 0x01, 0x00, 0x00, 0x00, 0x02, 0x00, 0x01, 0x00, 0x05,
     0x01, 0x00, 0x00, 0x00, 0x00, 0x03, 0x00, 0x00, 0x00, 0x00
+};
+
+/* Name 2 must be used, and is the goal: P = 0, T = 1, N = 1, d = 16, s = 250. */
+static const uint8_t small[19] = {
+    0x00, 0x13, 0x01, 0x00, 0x01, 0x00, 0x01, 0x00, 0x00, 0x10, 0xFA,
+    0x01, 0x00, 0x02, 0x00, 0x00, /* node 0: name 2, the goal */
+    0x00, 0x00, 0x01 /* must 0 */
+};
+
+/* small, then sample: nodes 1 to 4 are the sample's, d the greater, s the sum but no more than 255. */
+static const uint8_t joined_card[53] = {
+    0x00, 0x35, 0x01, 0x00, 0x04, 0x00, 0x06, 0x00, 0x05, 0x10, 0xFF, /* front */
+    0x01, 0x00, 0x02, 0x00, 0x00, /* node 0: name 2 */
+    0x01, 0x00, 0x0A, 0x00, 0x00, /* node 1: name 10 */
+    0x01, 0x00, 0x14, 0x00, 0x00, /* node 2: name 20 */
+    0x07, 0x00, 0x01, 0x00, 0x02, /* node 3: 10 gives 20 */
+    0x01, 0x00, 0x1E, 0x00, 0x00, /* node 4: name 30 */
+    0x04, 0x00, 0x00, 0x00, 0x02, /* node 5: 2 both 20, the goal */
+    0x00, 0x00, 0x01, 0x00, 0x01, 0x01, 0x00, 0x03, 0x01, 0x00, 0x04, 0x00 /* must 0, must 1, must 3, may 4 */
+};
+static const uint8_t joined_sheet[12] = {
+    0x00, 0x0C, 0x01, 0x03, 0x04, 0x00, 0x02, 0x01, 0x01, 0x01, 0x01, 0x00
 };
 
 /* A byte of the sample card or sheet put to another value, and the refusal that follows. */
@@ -69,10 +95,15 @@ static void check(int holds, const char *what) {
     passed++;
 }
 
-static void told(uint32_t answer, unsigned number, unsigned place, unsigned index) {
+static void told_of(uint32_t answer, unsigned number, unsigned card, unsigned place, unsigned index) {
     check(KIT_NUMBER(answer) == number, "number");
+    check(KIT_CARD(answer) == card, "card");
     check(KIT_PLACE(answer) == place, "place");
     check(KIT_INDEX(answer) == index, "index");
+}
+
+static void told(uint32_t answer, unsigned number, unsigned place, unsigned index) {
+    told_of(answer, number, NEITHER, place, index);
 }
 
 static int filled(const uint8_t *bytes, size_t n) {
@@ -145,6 +176,73 @@ static void overlapping(void) {
     told(kit_read(holds_sheet, sizeof holds_sheet, holds_sheet + 9, 5), 0, CARD, 0);
 }
 
+/* Joins small and sample in the first room bytes of a filled buffer, and plans the joined card. */
+static void joined(size_t room) {
+    uint8_t buffer[2891], sheet[324];
+    memset(buffer, 0xEE, sizeof buffer);
+    told(kit_join(small, sizeof small, sample, sizeof sample, buffer, room), 0, CARD, sizeof joined_card);
+    check(memcmp(buffer, joined_card, sizeof joined_card) == 0, "the joined card's bytes");
+    check(filled(buffer + 53, sizeof buffer - 53), "bytes past the joined card keep what they held");
+    told(kit_plan(buffer, 53, sheet, sizeof sheet), 0, CARD, 3);
+    check(memcmp(sheet, joined_sheet, sizeof joined_sheet) == 0, "the joined card's sheet");
+}
+
+/* Joins in the first room bytes of a filled buffer, which stays as it is. */
+static void join_refused(const uint8_t *first, size_t n, const uint8_t *second, size_t m, size_t room,
+                         uint32_t refusal) {
+    uint8_t buffer[2891];
+    memset(buffer, 0xEE, sizeof buffer);
+    check(kit_join(first, n, second, m, buffer, room) == refusal, "the join's refusal");
+    check(filled(buffer, sizeof buffer), "a refused join leaves the buffer alone");
+}
+
+/* Both calls over two cards refuse them alike. */
+static void pair_refused(const uint8_t *first, size_t n, const uint8_t *second, size_t m, uint32_t refusal) {
+    join_refused(first, n, second, m, 2891, refusal);
+    join_refused(first, n, second, m, 0, refusal);
+    check(kit_source(first, n, second, m, 0) == refusal, "the question's refusal");
+}
+
+static void sources(void) {
+    static const uint32_t wanted[4] = {0x00100010, 0x0020001F, 0x00200022, 0x00200025};
+    unsigned i;
+    for (i = 0; i < 4; i++) {
+        const uint32_t answer = kit_source(small, sizeof small, sample, sizeof sample, (uint16_t)i);
+        const uint8_t *card = KIT_CARD(answer) == FIRST ? small : sample;
+        check(answer == wanted[i], "the source of a line");
+        check(card[KIT_INDEX(answer) + 2] == joined_card[43 + 3 * i], "must or may as in the joined card");
+    }
+    told(kit_source(small, sizeof small, sample, sizeof sample, 4), 16, LINE, 4);
+    told(kit_source(small, sizeof small, sample, sizeof sample, 65535), 16, LINE, 65535);
+    told_of(kit_source(sample, sizeof sample, small, sizeof small, 3), 0, SECOND, CARD, 16);
+    told_of(kit_source(sample, sizeof sample, sample, sizeof sample, 3), 0, SECOND, CARD, 31);
+}
+
+/* Each fault in one of the cards is told of that card; in both, of the first. */
+static void pairs_refused(void) {
+    uint8_t card[40], full[2571];
+    size_t i;
+    for (i = 0; i < sizeof card_faults / sizeof card_faults[0]; i++) {
+        const struct fault f = card_faults[i];
+        const uint32_t refusal = (uint32_t)f.number << 24 | (uint32_t)f.place << 16 | f.index;
+        memcpy(card, sample, sizeof card);
+        card[f.at] = f.to;
+        pair_refused(card, sizeof card, small, sizeof small, refusal | 1u << 20);
+        pair_refused(small, sizeof small, card, sizeof card, refusal | 2u << 20);
+        pair_refused(card, sizeof card, sample, 0, refusal | 1u << 20);
+    }
+    told_of(kit_source(sample, 10, sample, 0, 0), 1, FIRST, CARD, 0);
+    told_of(kit_source(small, sizeof small, bad_rule, sizeof bad_rule, 0), 8, SECOND, RULE, 1);
+    pair_refused(small, sizeof small, bad_rule, sizeof bad_rule, 0x08220001);
+    join_refused(small, sizeof small, sample, sizeof sample, 52, 0x0A040000);
+    join_refused(small, sizeof small, sample, sizeof sample, 0, 0x0A040000);
+    memset(full, 0, sizeof full); /* 512 names: no node is left for the new goal */
+    full[0] = 0x0A, full[1] = 0x0B, full[2] = 1, full[5] = 2;
+    for (i = 0; i < 512; i++) full[11 + 5 * i] = 1;
+    pair_refused(full, sizeof full, small, sizeof small, 0x0F000000);
+    pair_refused(small, sizeof small, full, sizeof full, 0x0F000000);
+}
+
 int main(void) {
     planned(16);
     planned(324);
@@ -152,6 +250,10 @@ int main(void) {
     plans_refused();
     sheets_refused();
     overlapping();
+    joined(53);
+    joined(2891);
+    sources();
+    pairs_refused();
     printf("calls.c as %s: %u checks passed\n", LANGUAGE, passed);
     return 0;
 }

@@ -3,8 +3,9 @@ mod cards;
 mod met;
 mod model;
 
-use cards::{any_card, Random};
+use cards::{any_card, Draft, Random};
 use met::Met;
+use model::bench;
 use std::ffi::c_void;
 use std::slice::from_raw_parts_mut;
 
@@ -116,4 +117,43 @@ fn nothing_outside_is_touched() {
     }
     println!("guarded: {met:?}");
     met.enough(420);
+}
+
+/// Any bytes, or more often a sound card.
+fn bench_bytes(r: &mut Random) -> Vec<u8> {
+    if r.once_in(3) {
+        any_bytes(r)
+    } else {
+        Draft::sound(r, 5, 7).bytes()
+    }
+}
+
+#[test]
+fn joins_touch_nothing_outside() {
+    let mut r = Random::new(8);
+    let (mut joins, mut lines) = (0, 0);
+    let (mut firsts, mut seconds, mut buffers) = (Guarded::new(), Guarded::new(), Guarded::new());
+    for _ in 0..6_000 {
+        let (first, second) = (bench_bytes(&mut r), bench_bytes(&mut r));
+        let size = bench::join(&first, &second, ROOM).map_or(r.below(40), |card| card.len());
+        let size = (size + r.pick(&[0, 0, 1, 7])).saturating_sub(r.below(3));
+        let old = r.bytes(size);
+        let first = firsts.lock(&first, r.once_in(2));
+        let second = seconds.lock(&second, r.once_in(2));
+        let buffer = buffers.hold(&old, r.once_in(2));
+        let answer = kit_planner::join(first, second, buffer);
+        let wanted = bench::join(first, second, size);
+        assert_eq!(answer, wanted.as_ref().map(Vec::len).map_err(|&e| e), "{first:02x?}, {second:02x?}");
+        let size = answer.unwrap_or(0);
+        assert_eq!(buffer[..size], wanted.unwrap_or_default()[..]);
+        assert_eq!(buffer[size..], old[size..]);
+        joins += usize::from(answer.is_ok());
+        for i in [0, r.below(20) as u16, r.next() as u16] {
+            let answer = kit_planner::located(first, second, i);
+            assert_eq!(answer, bench::source(first, second, i), "{first:02x?}, {second:02x?}, line {i}");
+            lines += usize::from(answer.is_ok());
+        }
+    }
+    println!("guarded: {joins} joins, {lines} lines");
+    assert!(joins > 1_000 && lines > 1_500);
 }

@@ -18,7 +18,7 @@ use Rattle.reader.specs.declared.Answer.the-variants.{Accepted, Refused as NotA
 use Rattle.reader.specs.Read.{ReadVerdict, accepted, refused as not-accepted, toldRead, ReadDecided, is-accepted}
 use Rattle.reader.specs.Read.{is-refused as is-not-accepted}
 use Rattle.numbers.specs.Inner.Nonzero.{Nonzero}
-use Rattle.numbers.specs.Numbers.{numberIn, placeIn, indexIn, places, placeOf, Plain, saidBy, planIn, readIn}
+use Rattle.numbers.specs.Numbers.{numberIn, cardIn, placeIn, indexIn, places, placeOf, Plain, saidBy, planIn, readIn}
 
 -- a refusal whose place is known, told in the three parts of r
 pub told-at : (r : ℕ) {n m i : ℕ} {p q : Place} → p ≡ q → (numberIn r ≡ n) × (placeIn r ≡ m) × (indexIn r ≡ i) → placeOf m i ≡ whereOf q
@@ -56,45 +56,49 @@ plain-fine r e = record { known = λ z. absurd (z e); bare = λ z. absurd (z e) 
 
 -- what a number says, once its parts are known
 module _ {A : Type 0} (fine : ℕ → A) (refusal : ℕ → Where → A) (r : ℕ) where
-  said-fine : {k : ℕ} → (numberIn r ≡ 0) × (placeIn r ≡ 0) × (indexIn r ≡ k) → saidBy fine refusal r ≡ fine k
+  pub said-fine : {k : ℕ} → (numberIn r ≡ 0) × (placeIn r ≡ 0) × (indexIn r ≡ k) → saidBy fine refusal r ≡ fine k
   unfolding saidBy
   said-fine h = simp (eq-eqb (numberIn r) 0 (h .0), eq-eqb (placeIn r) 0 (h .1)) (ap fine (h .2))
 
-  said-refused : {n : ℕ} {w : Where} → 1 ≤ n → (numberIn r ≡ n) × (placeOf (placeIn r) (indexIn r) ≡ w)
+  pub said-refused : {n : ℕ} {w : Where} → 1 ≤ n → (numberIn r ≡ n) × (placeOf (placeIn r) (indexIn r) ≡ w)
       → saidBy fine refusal r ≡ refusal n w
   unfolding saidBy
   said-refused g h = simp (ne-eqb (numberIn r) 0 (λ z. omega (arith, h .0))) (ap₂ refusal (h .0) (h .1))
 
 -- the parts of a number, packed
-pack : ℕ → ℕ → ℕ → ℕ
+unfoldable pub pack : ℕ → ℕ → ℕ → ℕ
 pack number place index = number * 2 ^ 24 + place * 2 ^ 16 + index
 
-module _ (n p i : ℕ) (h : p < 256) (g : i < 65536) where
-  number-back : numberIn (pack n p i) ≡ n
+module _ (n p i : ℕ) (h : p < 16) (g : i < 65536) where
+  pub number-back : numberIn (pack n p i) ≡ n
   unfolding pack
   number-back = omega arith
 
-  place-back : placeIn (pack n p i) ≡ p
+  pub place-back : placeIn (pack n p i) ≡ p
   unfolding pack
   place-back = omega arith
 
-  index-back : indexIn (pack n p i) ≡ i
+  pub index-back : indexIn (pack n p i) ≡ i
   unfolding pack
   index-back = omega arith
 
-  pack-low : n < 256 → pack n p i < 2 ^ 32
+  pub no-card : cardIn (pack n p i) ≡ 0
+  unfolding pack
+  no-card = omega arith
+
+  pub pack-low : n < 256 → pack n p i < 2 ^ 32
   unfolding pack
   pack-low l = omega arith
 
 -- a place has a number and an index that read as it
-record Numbered (w : Where) : Type 0 where
-  place : ℕ
-  index : ℕ
-  few : place < 256
-  fits : index < 65536
-  reads : placeOf place index ≡ w
+pub record Numbered (w : Where) : Type 0 where
+  pub place : ℕ
+  pub index : ℕ
+  pub few : place < 16
+  pub fits : index < 65536
+  pub reads : placeOf place index ≡ w
 
-numbered : {bs : List ℕ} → Bytes bs → (w : Where) → Placed bs w → Numbered w
+pub numbered : {bs : List ℕ} → Bytes bs → (w : Where) → Placed bs w → Numbered w
 unfolding placeOf places Placed
 numbered b card h = record { place = 0; index = 0; few = omega arith; fits = omega arith; reads = refl }
 numbered b (node i) h = record { place = 1; index = i; few = omega arith; fits = omega (arith, b .byte 5, b .byte 6); reads = refl }
@@ -115,7 +119,7 @@ module _ {A : Type 0} (fine : ℕ → A) (refusal : ℕ → Where → A) where
       let x = numbered b w p in
       let q : ℕ = x .place in
       let i : ℕ = x .index in
-      let few : q < 256 = x .few in
+      let few : q < 16 = x .few in
       let fits : i < 65536 = x .fits in (
         pack n q i,
         pack-low n q i few fits g,

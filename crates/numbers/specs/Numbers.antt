@@ -1,5 +1,6 @@
 -- How the number that a call for C answers is read (include/kit_planner.h). It has 32 bits: the refusal's number in bits 31 to 24 and its
--- place in bits 23 to 16 (both 0 where there is none), the index there, or k, in bits 15 to 0.
+-- place in bits 19 to 16 (both 0 where there is none), the index there, or what the call tells, in bits 15 to 0. Bits 23 to 20 say which
+-- card, where a call has two.
 use Prim.Native.Nat.{ℕ, _/_, _%_, _^_, _<_}
 use mathlib.Core.Path.{_≡_}
 use mathlib.Core.Bool.{cond, _&&_}
@@ -13,8 +14,11 @@ use Rattle.reader.specs.Read.{ReadVerdict, accepted, refused as not-accepted}
 abbrev pub numberIn : ℕ → ℕ
 numberIn r = r / 2 ^ 24
 
+abbrev pub cardIn : ℕ → ℕ
+cardIn r = r / 2 ^ 20 % 2 ^ 4
+
 abbrev pub placeIn : ℕ → ℕ
-placeIn r = r / 2 ^ 16 % 2 ^ 8
+placeIn r = r / 2 ^ 16 % 2 ^ 4
 
 abbrev pub indexIn : ℕ → ℕ
 indexIn r = r % 2 ^ 16

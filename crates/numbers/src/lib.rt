@@ -2,23 +2,27 @@
 use card::Place;
 use card::Refusal;
 ghost use mathlib.Core.Path.{_≡_};
+ghost use Prim.Native.Nat.{_<_};
 ghost use Rattle.card.specs.Verdict.{whereOf};
 ghost use Rattle.planning.specs.Plan.{refused, toldPlan};
 ghost use Rattle.reader.specs.Read.{refused as not-accepted, toldRead};
 ghost use Rattle.numbers.specs.Inner.Nonzero.{Nonzero};
-ghost use Rattle.numbers.specs.Numbers.{numberIn, placeIn, indexIn, placeOf, Plain, planIn, readIn};
+ghost use Rattle.numbers.specs.Numbers.{numberIn, cardIn, placeIn, indexIn, placeOf, Plain, planIn, readIn};
 
-// The three parts of a number.
-fn packed(number: u8, place: u8, index: u16) -> u32
+// The parts of a number that tells no card.
+pub fn packed(number: u8, place: u8, index: u16) -> u32
+    requires { ⌜ place < 16 ⌝ }
     ensures { λ r. ⌜ (numberIn r ≡ number) × (placeIn r ≡ place) × (indexIn r ≡ index) ⌝ }
+    ensures { λ r. ⌜ cardIn r ≡ 0 ⌝ }
 {
     number as u32 * 16777216 + place as u32 * 65536 + index as u32
 }
 
 // A refusal, each place with its number and index.
-fn packed_refusal(refusal: Refusal) -> u32
+pub fn packed_refusal(refusal: Refusal) -> u32
     ensures { λ r. ⌜ (numberIn r ≡ refusal .number) × (placeOf (placeIn r) (indexIn r) ≡ whereOf (refusal .place)) ⌝ }
     ensures { λ r. ⌜ Plain r ⌝ }
+    ensures { λ r. ⌜ cardIn r ≡ 0 ⌝ }
 {
     let n = refusal.number;
     let place = refusal.place;
@@ -38,6 +42,7 @@ pub fn packed_plan(answer: planning::Answer) -> u32
     requires { ⌜ Nonzero refused (toldPlan answer) ⌝ }
     ensures { λ r. ⌜ planIn r ≡ toldPlan answer ⌝ }
     ensures { λ r. ⌜ Plain r ⌝ }
+    ensures { λ r. ⌜ cardIn r ≡ 0 ⌝ }
 {
     match answer {
         planning::Answer::Planned(k) => packed(0, 0, k as u16),
@@ -50,6 +55,7 @@ pub fn packed_read(answer: reader::Answer) -> u32
     requires { ⌜ Nonzero not-accepted (toldRead answer) ⌝ }
     ensures { λ r. ⌜ readIn r ≡ toldRead answer ⌝ }
     ensures { λ r. ⌜ Plain r ⌝ }
+    ensures { λ r. ⌜ cardIn r ≡ 0 ⌝ }
 {
     match answer {
         reader::Answer::Accepted(k) => packed(0, 0, k as u16),

@@ -177,6 +177,27 @@ impl Draft {
         c.s = r.pick(&[0, 1, 2, 3, 4, 5, 6, 7, 8, 9, 10, 12]);
         c
     }
+
+    /// A sound card of just so many rules, lines and nodes, at least 8, and a goal of this height.
+    pub fn sized(r: &mut Random, rules: usize, lines: usize, nodes: usize, height: usize) -> Draft {
+        let mut c = Draft::limits(r.below(17) as u8, r.next() as u8);
+        let mut goal = c.name(r.below(1000));
+        for _ in 1..height {
+            let kind = r.pick(&[4, 5, 6]);
+            goal = if kind < 6 && r.once_in(2) { c.add(kind, goal, 0) } else { c.add(kind, 0, goal) };
+        }
+        c.goal = goal;
+        while c.nodes.len() < nodes {
+            match r.below(4) {
+                0 => drop(c.name(r.below(1000))),
+                1 => drop(c.add(r.pick(&[2, 3]), 0, 0)),
+                _ => c.grow(r),
+            }
+        }
+        c.rules = (0..rules).map(|_| r.pick(&c.clauses)).collect();
+        c.lines = (0..lines).map(|_| (r.pick(&c.clauses), r.below(2) as u8)).collect();
+        c
+    }
 }
 
 fn put_length(bytes: &mut [u8]) {

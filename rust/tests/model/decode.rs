@@ -61,7 +61,7 @@ struct Node {
     height: usize,
 }
 
-fn word(bytes: &[u8], at: usize) -> usize {
+pub fn word(bytes: &[u8], at: usize) -> usize {
     usize::from(bytes[at]) * 256 + usize::from(bytes[at + 1])
 }
 

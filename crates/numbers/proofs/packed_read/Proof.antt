@@ -21,8 +21,8 @@ packed-refusal-requires c κs = search needs
 
 returns : tie.Need-returns
 returns c = (
-  tells-accepted (c .packed .result) _ (c .before .before .answer .given .1) (c .packed .ensures),
-  plain-fine (c .packed .result) (c .packed .ensures .0),
+  tells-accepted (c .packed .result) _ (c .before .before .answer .given .1) (c .packed .ensures .0),
+  (plain-fine (c .packed .result) (c .packed .ensures .0 .0), c .packed .ensures .1),
 )
 
 returns-2 : tie.Need-returns-2

@@ -52,50 +52,50 @@ packed-requires-7 c κs = search needs
 returns : tie.Need-returns
 unfolding whereOf placeOf places indexOf
 returns c = (
-  told-at (c .packed .result) (c .before .enum-told .given .1) (c .packed .ensures) refl,
-  plain-bare (c .packed .result) (c .packed .ensures) (omega arith) refl,
+  told-at (c .packed .result) (c .before .enum-told .given .1) (c .packed .ensures .0) refl,
+  (plain-bare (c .packed .result) (c .packed .ensures .0) (omega arith) refl, c .packed .ensures .1),
 )
 
 returns-2 : tie.Need-returns-2
 unfolding whereOf placeOf places indexOf
 returns-2 c = (
-  told-at (c .packed2 .result) (c .before .before .place .given .1) (c .packed2 .ensures) refl,
-  plain-indexed (c .packed2 .result) (c .packed2 .ensures) (omega arith) refl refl,
+  told-at (c .packed2 .result) (c .before .before .place .given .1) (c .packed2 .ensures .0) refl,
+  (plain-indexed (c .packed2 .result) (c .packed2 .ensures .0) (omega arith) refl refl, c .packed2 .ensures .1),
 )
 
 returns-3 : tie.Need-returns-3
 unfolding whereOf placeOf places indexOf
 returns-3 c = (
-  told-at (c .packed3 .result) (c .before .before .place2 .given .1) (c .packed3 .ensures) refl,
-  plain-indexed (c .packed3 .result) (c .packed3 .ensures) (omega arith) refl refl,
+  told-at (c .packed3 .result) (c .before .before .place2 .given .1) (c .packed3 .ensures .0) refl,
+  (plain-indexed (c .packed3 .result) (c .packed3 .ensures .0) (omega arith) refl refl, c .packed3 .ensures .1),
 )
 
 returns-4 : tie.Need-returns-4
 unfolding whereOf placeOf places indexOf
 returns-4 c = (
-  told-at (c .packed4 .result) (c .before .before .place3 .given .1) (c .packed4 .ensures) refl,
-  plain-indexed (c .packed4 .result) (c .packed4 .ensures) (omega arith) refl refl,
+  told-at (c .packed4 .result) (c .before .before .place3 .given .1) (c .packed4 .ensures .0) refl,
+  (plain-indexed (c .packed4 .result) (c .packed4 .ensures .0) (omega arith) refl refl, c .packed4 .ensures .1),
 )
 
 returns-5 : tie.Need-returns-5
 unfolding whereOf placeOf places indexOf
 returns-5 c = (
-  told-at (c .packed5 .result) (c .before .enum-told2 .given .1) (c .packed5 .ensures) refl,
-  plain-bare (c .packed5 .result) (c .packed5 .ensures) (omega arith) refl,
+  told-at (c .packed5 .result) (c .before .enum-told2 .given .1) (c .packed5 .ensures .0) refl,
+  (plain-bare (c .packed5 .result) (c .packed5 .ensures .0) (omega arith) refl, c .packed5 .ensures .1),
 )
 
 returns-6 : tie.Need-returns-6
 unfolding whereOf placeOf places indexOf
 returns-6 c = (
-  told-at (c .packed6 .result) (c .before .enum-told3 .given .1) (c .packed6 .ensures) refl,
-  plain-bare (c .packed6 .result) (c .packed6 .ensures) (omega arith) refl,
+  told-at (c .packed6 .result) (c .before .enum-told3 .given .1) (c .packed6 .ensures .0) refl,
+  (plain-bare (c .packed6 .result) (c .packed6 .ensures .0) (omega arith) refl, c .packed6 .ensures .1),
 )
 
 returns-7 : tie.Need-returns-7
 unfolding whereOf placeOf places indexOf
 returns-7 c = (
-  told-at (c .packed7 .result) (c .before .before .place4 .given .1) (c .packed7 .ensures) refl,
-  plain-indexed (c .packed7 .result) (c .packed7 .ensures) (omega arith) refl refl,
+  told-at (c .packed7 .result) (c .before .before .place4 .given .1) (c .packed7 .ensures .0) refl,
+  (plain-indexed (c .packed7 .result) (c .packed7 .ensures .0) (omega arith) refl refl, c .packed7 .ensures .1),
 )
 
 pub packed-refusal-spec : {M : Type 1} → statement M

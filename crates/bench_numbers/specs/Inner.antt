@@ -1,0 +1,2 @@
+-- What no public contract mentions: the terms of inner contracts.
+pub mod Nonzero
