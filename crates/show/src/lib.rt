@@ -1,7 +1,10 @@
-// Prints refusals, for the test programs.
+// Prints refusals, sheets and bytes, for the test programs.
 use card::Place;
 use card::Refusal;
+use card::format::byte;
 use libc::STDOUT_FILENO;
+ghost use Prim.Native.Nat.{_+_, _≤_};
+ghost use lib.ListN.{length};
 
 pub fn print_word(text: &[u8]) {
     io::write_all(STDOUT_FILENO, text);
@@ -33,4 +36,45 @@ pub fn print_refusal(refusal: Refusal) {
     io::print_decimal(STDOUT_FILENO, number as u64);
     print_word(b" ");
     print_place(place);
+}
+
+pub fn print_number(n: usize) {
+    print_word(b" ");
+    io::print_decimal(STDOUT_FILENO, n as u64);
+}
+
+pub fn print_numbers(numbers: &[u8]) {
+    let mut i = 0;
+    while i < numbers.len() {
+        print_number(byte(numbers, i));
+        i += 1;
+    }
+}
+
+fn print_byte(n: usize) {
+    print_word(b" ");
+    io::print_hex(STDOUT_FILENO, n as u64, 2);
+}
+
+// Each byte as two hexadecimal digits.
+pub fn print_bytes(bytes: &[u8]) {
+    let mut i = 0;
+    while i < bytes.len() {
+        print_byte(byte(bytes, i));
+        i += 1;
+    }
+}
+
+// A sheet of k steps and t marks; tells where it ends.
+pub fn print_sheet(sheet: &[u8], k: usize, t: usize) -> usize
+    requires { ⌜ 5 + k + t ≤ length (now sheet) ⌝ }
+{
+    let marks = 5 + k;
+    let end = marks + t;
+    print_word(b"plan");
+    print_number(k);
+    print_numbers(&sheet[5..marks]);
+    print_word(b" marks");
+    print_numbers(&sheet[marks..end]);
+    end
 }

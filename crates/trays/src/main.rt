@@ -3,39 +3,11 @@
 // filled with one byte beforehand, and a byte outside the sheet that does not hold it afterwards is told.
 use card::format::byte;
 use card::format::word;
-use libc::STDOUT_FILENO;
 use planner::Answer;
-ghost use Prim.Native.Nat.{_+_, _≤_, _<_};
+ghost use Prim.Native.Nat.{_≤_, _<_};
 ghost use lib.ListN.{length};
 
 const FILL: u8 = 0xA5;
-
-fn print_number(n: usize) {
-    show::print_word(b" ");
-    io::print_decimal(STDOUT_FILENO, n as u64);
-}
-
-fn print_numbers(numbers: &[u8]) {
-    let mut i = 0;
-    while i < numbers.len() {
-        print_number(byte(numbers, i));
-        i += 1;
-    }
-}
-
-// A sheet of k steps and t marks; tells where it ends.
-fn print_sheet(sheet: &[u8], k: usize, t: usize) -> usize
-    requires { ⌜ 5 + k + t ≤ length (now sheet) ⌝ }
-{
-    let marks = 5 + k;
-    let end = marks + t;
-    show::print_word(b"plan");
-    print_number(k);
-    print_numbers(&sheet[5..marks]);
-    show::print_word(b" marks");
-    print_numbers(&sheet[marks..end]);
-    end
-}
 
 // Plans the card into the buffer, prints the outcome, and tells where the sheet ends.
 fn plan_into(card: &[u8], sheet: &mut [u8]) -> usize {
@@ -43,7 +15,7 @@ fn plan_into(card: &[u8], sheet: &mut [u8]) -> usize {
     match answer {
         Answer::Planned(k) => {
             let t = byte(sheet, 4);
-            print_sheet(sheet, k as usize, t)
+            show::print_sheet(sheet, k as usize, t)
         }
         Answer::Refused(refusal) => {
             show::print_refusal(refusal);

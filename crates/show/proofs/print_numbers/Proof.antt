@@ -2,8 +2,8 @@ use Prim.Native.Nat.{_≤_, _-_}
 use lib.ListN.{length}
 use native.Mathlib.Omega.{arith}
 use borrow.Author.Needs.{needs}
-use Rattle.trays.proofs.print_numbers.Statement.{statement}
-use Rattle.trays.proofs.print_numbers.Tie as tie
+use Rattle.show.proofs.print_numbers.Statement.{statement}
+use Rattle.show.proofs.print_numbers.Tie as tie
 
 abbrev Inv-loop : tie.InvT-loop
 Inv-loop numbers i₀ i = i ≤ length numbers
