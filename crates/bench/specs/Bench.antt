@@ -10,8 +10,8 @@ use Rattle.card.specs.Verdict.{Where, card, line, sheet, whereOf, refuse}
 use Rattle.card.specs.Fault.{Placed}
 use Rattle.joined.specs.Joined.{joinedLines, joinedLength, joinedCard}
 use Rattle.benched.specs.Benched.{Owner, BenchVerdict, fine, stopped, neither, first, second, about, _▸_, benchFault, saidOf, ownerOf}
-use Rattle.bench.specs.declared.Joined.{Joined}
-use Rattle.bench.specs.declared.Joined.the-variants.{Length, Refused}
+use Rattle.bench.specs.declared.Answer.{Answer}
+use Rattle.bench.specs.declared.Answer.the-variants.{Joined, Refused}
 use Rattle.bench.specs.declared.Located.{Located}
 use Rattle.bench.specs.declared.Located.the-variants.{InFirst, InSecond, Unheld}
 
@@ -75,8 +75,8 @@ pub data SourceDecided (a b : List ℕ) (i : ℕ) : SourceVerdict → Type 0 whe
   beyond : SourceDecided a b i (unheld neither 16 (line i))
 
 -- 02's card, number and values for each case of the enums
-unfoldable pub toldJoin : Joined → JoinVerdict
-toldJoin (Length n) = joined n
+unfoldable pub toldJoin : Answer → JoinVerdict
+toldJoin (Joined n) = joined n
 toldJoin (Refused r) = refused (ownerOf (r .card)) (r .number) (whereOf (r .place))
 
 unfoldable pub toldSource : Located → SourceVerdict

@@ -19,8 +19,8 @@ ghost use Rattle.benched.specs.Benched.{fine, neither, first as firstCard, abou
 ghost use Rattle.bench.specs.Bench.{Joining, joined, refused, toldJoin, held, unheld, holder, sourceOf, partOf, toldSource};
 
 // Joined with the length, or a refusal.
-pub enum Joined {
-    Length(u16),
+pub enum Answer {
+    Joined(u16),
     Refused(BenchRefusal),
 }
 
@@ -32,17 +32,17 @@ pub enum Located {
 }
 
 // A check's refusal as an answer; where it found nothing, joined with no length.
-fn refused_join(found: Benched) -> Joined
+fn refused_join(found: Benched) -> Answer
     ensures { λ r. ⌜ toldJoin r ≡ saidOf (joined 0) refused (toldBench found) ⌝ }
 {
     match found {
-        Benched::Fine => Joined::Length(0),
-        Benched::Stopped(refusal) => Joined::Refused(refusal),
+        Benched::Fine => Answer::Joined(0),
+        Benched::Stopped(refusal) => Answer::Refused(refusal),
     }
 }
 
 // 10, and the joined card of two sound cards that fit on one.
-fn join_sound(first: &[u8], second: &[u8], joined: &mut [u8]) -> Joined
+fn join_sound(first: &[u8], second: &[u8], joined: &mut [u8]) -> Answer
     requires { ⌜ benchFault (now first) (now second) ≡ fine ⌝ }
     ensures { λ r. ⌜ Joining (now (first .entry)) (now (second .entry)) (now (joined .entry)) (toldJoin r) (now (joined .exit)) ⌝ }
 {
@@ -56,11 +56,11 @@ fn join_sound(first: &[u8], second: &[u8], joined: &mut [u8]) -> Joined
     };
     joining::put_joined(first, second, joined);
     let count = long as u16;
-    Joined::Length(count)
+    Answer::Joined(count)
 }
 
 // Joins two cards: the first of 1 to 9, 15 and 10 that applies, or the joined card at the buffer's start.
-pub fn join(first: &[u8], second: &[u8], joined: &mut [u8]) -> Joined
+pub fn join(first: &[u8], second: &[u8], joined: &mut [u8]) -> Answer
     ensures { λ r. ⌜ Joining (now (first .entry)) (now (second .entry)) (now (joined .entry)) (toldJoin r) (now (joined .exit)) ⌝ }
 {
     let both = bench_check(first, second);

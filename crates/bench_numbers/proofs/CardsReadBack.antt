@@ -11,8 +11,8 @@ use Rattle.numbers.proofs.NumbersReadBack.{said-fine, said-refused, pack, numbe
 use Rattle.numbers.proofs.NumbersReadBack.{numbered}
 use Rattle.benched.specs.declared.BenchRefusal.{BenchRefusal}
 use Rattle.benched.specs.Benched.{Owner, neither, first, second, ownerOf}
-use Rattle.bench.specs.declared.Joined.{Joined}
-use Rattle.bench.specs.declared.Joined.the-variants.{Length, Refused}
+use Rattle.bench.specs.declared.Answer.{Answer}
+use Rattle.bench.specs.declared.Answer.the-variants.{Joined, Refused}
 use Rattle.bench.specs.declared.Located.{Located}
 use Rattle.bench.specs.declared.Located.the-variants.{InFirst, InSecond, Unheld}
 use Rattle.bench.specs.Bench.{JoinVerdict, joined, refused, SourceVerdict, held, unheld, toldJoin, toldSource, Owned, of-first, of-second}
@@ -45,11 +45,11 @@ plain-alike r q e p =
 
 -- an answer that is known, told as the number r
 module _ (r : ℕ) where
-  pub tells-joined : {n : ℕ} (a : Joined) → a ≡ Length n → (numberIn r ≡ 0) × (placeIn r ≡ 0) × (indexIn r ≡ n) → joinIn r ≡ toldJoin a
+  pub tells-joined : {n : ℕ} (a : Answer) → a ≡ Joined n → (numberIn r ≡ 0) × (placeIn r ≡ 0) × (indexIn r ≡ n) → joinIn r ≡ toldJoin a
   unfolding toldJoin joinIn
   tells-joined a e h = said-fine joined (refused (ownerIn r)) r h ∙ ap toldJoin (sym e)
 
-  pub tells-refused : {f : BenchRefusal} (a : Joined) → a ≡ Refused f → Nonzero refused (toldJoin a)
+  pub tells-refused : {f : BenchRefusal} (a : Answer) → a ≡ Refused f → Nonzero refused (toldJoin a)
       → (numberIn r ≡ f .number) × (placeOf (placeIn r) (indexIn r) ≡ whereOf (f .place)) → ownerIn r ≡ ownerOf (f .card)
       → joinIn r ≡ toldJoin a
   unfolding toldJoin joinIn

@@ -1,5 +1,5 @@
 // The answers of the calls over two cards packed into one number (include/kit_planner.h).
-use bench::Joined;
+use bench::Answer;
 use bench::Located;
 use benched::BenchRefusal;
 use benched::Whose;
@@ -51,7 +51,7 @@ fn packed_stop(refusal: BenchRefusal) -> u32
 }
 
 // What joining answers.
-pub fn packed_join(answer: Joined) -> u32
+pub fn packed_join(answer: Answer) -> u32
     requires { ⌜ Nonzero refused (toldJoin answer) ⌝ }
     ensures { λ r. ⌜ joinIn r ≡ toldJoin answer ⌝ }
     ensures { λ r. ⌜ Plain r ⌝ }
@@ -59,8 +59,8 @@ pub fn packed_join(answer: Joined) -> u32
     ensures { λ r. ⌜ Uncarded r ⌝ }
 {
     match answer {
-        Joined::Length(n) => packed(0, 0, n),
-        Joined::Refused(refusal) => packed_stop(refusal),
+        Answer::Joined(n) => packed(0, 0, n),
+        Answer::Refused(refusal) => packed_stop(refusal),
     }
 }
 

@@ -53,5 +53,9 @@ pub fn bench_check(first: &[u8], second: &[u8]) -> Benched
     let Benched::Fine = two else {
         return two;
     };
-    about(Whose::Neither, limits::limits_check(first, second))
+    let fits = about(Whose::Neither, limits::limits_check(first, second));
+    let Benched::Fine = fits else {
+        return fits;
+    };
+    Benched::Fine
 }

@@ -2,7 +2,6 @@
 // the source of every joined line and of one beyond; or the refusals. A record of the input is a label (its length in one byte, then its
 // bytes), the length of the buffer to be lent (two bytes; at most 2,900 are lent), the lengths of both cards (two bytes each), and the
 // cards. The buffer is filled with one byte beforehand.
-use bench::Joined;
 use bench::Located;
 use benched::BenchRefusal;
 use benched::Whose;
@@ -45,12 +44,12 @@ fn join_into(first: &[u8], second: &[u8], joined: &mut [u8]) -> usize
 {
     let answer = bench::join(first, second, joined);
     match answer {
-        Joined::Length(n) => {
+        bench::Answer::Joined(n) => {
             let end = n as usize;
             print_joined(&joined[..end]);
             end
         }
-        Joined::Refused(refusal) => {
+        bench::Answer::Refused(refusal) => {
             print_stop(refusal);
             0
         }

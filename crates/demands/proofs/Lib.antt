@@ -2,4 +2,5 @@
 pub mod WrittenIsRead
 pub mod SamplesComeOut
 pub mod JoinedIsPlanned
+pub mod SamplesJoin
 pub mod Main

@@ -1,7 +1,7 @@
 -- What stands where on the joined card.
 use Prim.Native.Nat.{ℕ, _+_, _*_, _<_}
 use native.Mathlib.Omega.{arith}
-use mathlib.Core.Path.{_≡_, refl, _∙_, ap, ap₂}
+use mathlib.Core.Path.{_≡_, refl, _∙_, ap}
 use mathlib.Core.List.{List, _++_}
 use lib.ListN.{length, length-append}
 use Rattle.card.specs.Format.{byteAt, wordAt, lengthField, version, ruleCount, lineCount, nodeCount, goalNode, depthLimit, stepLimit, nodeStart}
@@ -11,7 +11,7 @@ use Rattle.card.specs.Sheet.{word}
 use Rattle.joined.specs.Joined.{shifted, nodeBytes, movedNode, movedRule, movedLine, movedNodes, movedRules, movedLines, joinedRules}
 use Rattle.joined.specs.Joined.{joinedLines, joinedNodes, joinedLength, joinedDepth, joinedSteps, joinedFront, bothGoals, joinedCard}
 use Rattle.joined.specs.Inner.Copied.{Copied}
-use Rattle.joined.proofs.LaidInTurn.{behind, among, turn-at, word-back, length-node, length-moved-node, length-moved-rule, length-moved-line}
+use Rattle.joined.proofs.LaidInTurn.{behind, among, turn-at, word-read, length-node, length-moved-node, length-moved-rule, length-moved-line}
 use Rattle.joined.proofs.LaidInTurn.{length-moved-nodes, length-moved-rules, length-moved-lines}
 
 module _ (n : ℕ) (bs : List ℕ) where
@@ -24,19 +24,19 @@ module _ (n : ℕ) (bs : List ℕ) where
     unfolding movedNode nodeBytes word
     node-fields h = (
       ap (byteAt c) (omega arith) ∙ h 0 (omega arith),
-      ap₂ (λ x y. x * 256 + y) (h 1 (omega arith)) (ap (byteAt c) (omega arith) ∙ h 2 (omega arith)) ∙ word-back _,
-      ap₂ (λ x y. x * 256 + y) (h 3 (omega arith)) (ap (byteAt c) (omega arith) ∙ h 4 (omega arith)) ∙ word-back _,
+      word-read c (at + 1) _ (h 1 (omega arith)) (ap (byteAt c) (omega arith) ∙ h 2 (omega arith)),
+      word-read c (at + 3) _ (h 3 (omega arith)) (ap (byteAt c) (omega arith) ∙ h 4 (omega arith)),
     )
 
     rule-field : ((j : ℕ) → j < 2 → byteAt c (at + j) ≡ byteAt (movedRule n bs i) j) → wordAt c at ≡ n + ruleNode bs i
     unfolding movedRule word
-    rule-field h = ap₂ (λ x y. x * 256 + y) (ap (byteAt c) (omega arith) ∙ h 0 (omega arith)) (h 1 (omega arith)) ∙ word-back _
+    rule-field h = word-read c at _ (ap (byteAt c) (omega arith) ∙ h 0 (omega arith)) (h 1 (omega arith))
 
     line-fields : ((j : ℕ) → j < 3 → byteAt c (at + j) ≡ byteAt (movedLine n bs i) j)
         → (wordAt c at ≡ n + lineNode bs i) × (byteAt c (at + 2) ≡ lineByte bs i)
     unfolding movedLine word
     line-fields h =
-        (ap₂ (λ x y. x * 256 + y) (ap (byteAt c) (omega arith) ∙ h 0 (omega arith)) (h 1 (omega arith)) ∙ word-back _, h 2 (omega arith))
+        (word-read c at _ (ap (byteAt c) (omega arith) ∙ h 0 (omega arith)) (h 1 (omega arith)), h 2 (omega arith))
 
   -- a card where the bytes of all its nodes, rules and lines stand
   copied-by : (c : List ℕ) (p t : ℕ)
@@ -131,7 +131,7 @@ module _ (a b : List ℕ) where
   -- the front's fields
   pub joined-field : lengthField J ≡ joinedLength a b
   unfolding joinedFront word
-  joined-field = ap₂ (λ x y. x * 256 + y) (in-front 0 (omega arith)) (in-front 1 (omega arith)) ∙ word-back _
+  joined-field = word-read J 0 _ (in-front 0 (omega arith)) (in-front 1 (omega arith))
 
   pub joined-version : version J ≡ 1
   unfolding joinedFront word
@@ -147,11 +147,11 @@ module _ (a b : List ℕ) where
 
   pub joined-node-count : nodeCount J ≡ joinedNodes a b
   unfolding joinedFront word
-  joined-node-count = ap₂ (λ x y. x * 256 + y) (in-front 5 (omega arith)) (in-front 6 (omega arith)) ∙ word-back _
+  joined-node-count = word-read J 5 _ (in-front 5 (omega arith)) (in-front 6 (omega arith))
 
   pub joined-goal-node : goalNode J ≡ n₁ + nodeCount b
   unfolding joinedFront word
-  joined-goal-node = ap₂ (λ x y. x * 256 + y) (in-front 7 (omega arith)) (in-front 8 (omega arith)) ∙ word-back _
+  joined-goal-node = word-read J 7 _ (in-front 7 (omega arith)) (in-front 8 (omega arith))
 
   pub joined-depth : depthLimit J ≡ joinedDepth a b
   unfolding joinedFront word
@@ -227,9 +227,9 @@ module _ (a b : List ℕ) where
   pub last-left : leftAt J (n₁ + nodeCount b) ≡ goalNode a
   unfolding bothGoals nodeBytes word
   last-left =
-      ap₂ (λ x y. x * 256 + y) (last-node 1 (omega arith)) (ap (byteAt J) (omega arith) ∙ last-node 2 (omega arith)) ∙ word-back _
+      word-read J _ _ (last-node 1 (omega arith)) (ap (byteAt J) (omega arith) ∙ last-node 2 (omega arith))
 
   pub last-right : rightAt J (n₁ + nodeCount b) ≡ n₁ + goalNode b
   unfolding bothGoals nodeBytes word
   last-right =
-      ap₂ (λ x y. x * 256 + y) (last-node 3 (omega arith)) (ap (byteAt J) (omega arith) ∙ last-node 4 (omega arith)) ∙ word-back _
+      word-read J _ _ (last-node 3 (omega arith)) (ap (byteAt J) (omega arith) ∙ last-node 4 (omega arith))

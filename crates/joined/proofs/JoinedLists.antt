@@ -147,6 +147,23 @@ module _ (a b : List ℕ) where
           subst (λ (x : ℕ). secondBack (secondEntry a b x) ≡ x) (omega arith)
           (ap secondBack (second-line (e - ruleCount b)) ∙ back-second-line (e - ruleCount b))
 
+  -- a scope goes over into the joined one where its entries do
+  renaming : (bs : List ℕ) (f g : ℕ → ℕ) → ((e : ℕ) → e < ruleCount bs + lineCount bs → f e < ruleCount J + lineCount J)
+      → ((e : ℕ) → e < ruleCount bs + lineCount bs → entryAt (jobOf J .scope) (f e) ≡ entryAt (jobOf bs .scope) e)
+      → ((e : ℕ) → g (f e) ≡ e)
+      → ((k : ℕ) → f (ruleCount bs + lineCount bs + k) ≡ ruleCount J + lineCount J + k)
+      → Renaming (jobOf bs .scope) (jobOf J .scope) f g
+  unfolding clauseAt linearAt
+  renaming bs f g within same undone lent =
+      record {
+        within = λ e h. omega (arith, within e (omega (arith, scope-size bs)), scope-size J);
+        clause = λ e h. ap (λ (x : Entry). x .clause) (same e (omega (arith, scope-size bs)));
+        linear = λ e h. ap (λ (x : Entry). x .linear) (same e (omega (arith, scope-size bs)));
+        fit = fits-alike bs J;
+        undone = undone;
+        beyond = λ k. ap (λ n. f (n + k)) (scope-size bs) ∙ lent k ∙ ap (λ n. n + k) (sym (scope-size J));
+      }
+
   module _ (s : Sound a) (r : Sound b) where
     -- each entry stands under its joined number
     first-entry : (e : ℕ) → e < ruleCount a + lineCount a → entryAt (jobOf J .scope) (firstEntry a b e) ≡ entryAt (jobOf a .scope) e
@@ -173,31 +190,10 @@ module _ (a b : List ℕ) where
         ∙ second-line-same a b s r i h
         ∙ sym (line-at b i h))
 
-    within-all : (f : ℕ → ℕ) (p t : ℕ) → ((e : ℕ) → e < p → f e < ruleCount J + lineCount J)
-        → ((i : ℕ) → i < t → f (p + i) < ruleCount J + lineCount J) → (e : ℕ) → e < p + t → f e < ruleCount J + lineCount J
-    within-all f p t = of-two (λ e. f e < ruleCount J + lineCount J) p t
-
-    -- both cards' scopes go over into the joined one
-    renaming : (bs : List ℕ) (f g : ℕ → ℕ) → ((e : ℕ) → e < ruleCount bs + lineCount bs → f e < ruleCount J + lineCount J)
-        → ((e : ℕ) → e < ruleCount bs + lineCount bs → entryAt (jobOf J .scope) (f e) ≡ entryAt (jobOf bs .scope) e)
-        → ((e : ℕ) → g (f e) ≡ e)
-        → ((k : ℕ) → f (ruleCount bs + lineCount bs + k) ≡ ruleCount J + lineCount J + k)
-        → Renaming (jobOf bs .scope) (jobOf J .scope) f g
-    unfolding clauseAt linearAt
-    renaming bs f g within same undone lent =
-        record {
-          within = λ e h. omega (arith, within e (omega (arith, scope-size bs)), scope-size J);
-          clause = λ e h. ap (λ (x : Entry). x .clause) (same e (omega (arith, scope-size bs)));
-          linear = λ e h. ap (λ (x : Entry). x .linear) (same e (omega (arith, scope-size bs)));
-          fit = fits-alike bs J;
-          undone = undone;
-          beyond = λ k. ap (λ n. f (n + k)) (scope-size bs) ∙ lent k ∙ ap (λ n. n + k) (sym (scope-size J));
-        }
-
     first-renaming : Renaming (jobOf a .scope) (jobOf J .scope) (firstEntry a b) firstBack
     first-renaming =
         renaming a (firstEntry a b) firstBack
-        (within-all (firstEntry a b) (ruleCount a) (lineCount a)
+        (of-two (λ e. firstEntry a b e < ruleCount J + lineCount J) (ruleCount a) (lineCount a)
         (λ e h. omega (arith, first-rule e h, joined-rule-count a b))
         (λ i h. omega (arith, first-line i h, joined-line-count a b)))
         first-entry first-undone first-lent
@@ -205,7 +201,7 @@ module _ (a b : List ℕ) where
     second-renaming : Renaming (jobOf b .scope) (jobOf J .scope) (secondEntry a b) secondBack
     second-renaming =
         renaming b (secondEntry a b) secondBack
-        (within-all (secondEntry a b) (ruleCount b) (lineCount b)
+        (of-two (λ e. secondEntry a b e < ruleCount J + lineCount J) (ruleCount b) (lineCount b)
         (λ e h. omega (arith, second-rule e h, joined-rule-count a b))
         (λ i h. omega (arith, second-line i, joined-line-count a b)))
         second-entry second-undone second-lent

@@ -2,12 +2,12 @@
 use Prim.Native.Nat.{ℕ, zero, suc, _+_, _*_, _<_, _/_, _%_}
 use native.Mathlib.Omega.{arith}
 use native.Mathlib.Nat.{eq-or-lt-of-le, mul-suc, mul-le-mul-left}
-use mathlib.Core.Path.{_≡_, refl, sym, _∙_, ap}
+use mathlib.Core.Path.{_≡_, refl, sym, _∙_, ap, ap₂}
 use mathlib.Core.Logic.{⊎-elim}
 use mathlib.Core.List.{List, _++_}
 use lib.ListN.{length, length-append, List·getD-append}
 use lib.Seq.{getD-append-add}
-use Rattle.card.specs.Format.{byteAt, nodeCount, ruleCount, lineCount}
+use Rattle.card.specs.Format.{byteAt, wordAt, nodeCount, ruleCount, lineCount}
 use Rattle.card.specs.Sheet.{word}
 use Rattle.joined.specs.Joined.{nodeBytes, movedNode, movedRule, movedLine, inTurn, movedNodes, movedRules, movedLines}
 
@@ -39,8 +39,11 @@ module _ (c : ℕ) (f : ℕ → List ℕ) (even : (i : ℕ) → length (f i) ≡
       in-piece l = omega (arith, length-in-turn m, mul-suc c i, mul-le-mul-left {m = suc i} {n = m} c l)
 
 -- a number of two bytes is read back
-pub word-back : (n : ℕ) → n / 256 * 256 + n % 256 ≡ n
+word-back : (n : ℕ) → n / 256 * 256 + n % 256 ≡ n
 word-back n = omega arith
+
+pub word-read : (c : List ℕ) (at n : ℕ) → byteAt c at ≡ n / 256 → byteAt c (at + 1) ≡ n % 256 → wordAt c at ≡ n
+word-read c at n high low = ap₂ (λ x y. x * 256 + y) high low ∙ word-back n
 
 -- the lengths of a number, a node, a rule and a line
 pub length-word : (n : ℕ) → length (word n) ≡ 2

@@ -6,3 +6,4 @@ pub mod CopiedNodes
 pub mod JoinedSound
 pub mod JoinedAsks
 pub mod JoinedLists
+pub mod SampleJoined

@@ -1,5 +1,5 @@
 -- `bench_check` meets its contract: each check that has passed leaves those after it.
-use mathlib.Core.Path.{_≡_, ap, _∙_}
+use mathlib.Core.Path.{_≡_, ap, sym, _∙_}
 use Rattle.card.specs.Fault.{firstFault}
 use Rattle.benched.specs.Benched.{fine, neither, first, second, about, benchFault, ownerOf, toldBench}
 use Rattle.benched.proofs.BenchChecked.{about-sound, stops, passed, onward}
@@ -72,12 +72,27 @@ limits-check-requires c κs = (
 about-requires-3 : tie.Need-about-requires-3
 about-requires-3 c κs = tt
 
-returns-3 : tie.Need-returns-3
+-- what 15 finds, behind what has passed
+all-told : (c : tie.After-about3) → toldBench (c .about3 .result)
+    ≡ benchFault (entry-2 (c .before .before .before .before) .args .first .now) (entry-2 (c .before .before .before .before) .args .second .now)
 unfolding benchFault ownerOf
-returns-3 c =
+all-told c =
     let at-limits = c .before .before in
     onward (first-passed (at-limits .before .before .before .before))
     (onward (second-passed at-limits) (c .about3 .ensures ∙ ap (about neither) (c .before .limits-check .ensures)))
+
+enum-told-5 : tie.Need-enum-told-5
+enum-told-5 c = c .match3 .keys1
+
+enum-told-6 : tie.Need-enum-told-6
+enum-told-6 c = c .match3 .keys2
+
+returns-3 : tie.Need-returns-3
+returns-3 c = all-told (c .before .before)
+
+returns-4 : tie.Need-returns-4
+unfolding toldBench
+returns-4 c = sym (passed (c .enum-told5 .given .1) (all-told (c .before .before)))
 
 pub bench-check-spec : {M : Type 1} → statement M
 bench-check-spec =
@@ -95,4 +110,7 @@ bench-check-spec =
     returns-2
     limits-check-requires
     about-requires-3
-    returns-3)
+    enum-told-5
+    enum-told-6
+    returns-3
+    returns-4)

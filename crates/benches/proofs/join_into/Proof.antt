@@ -5,15 +5,15 @@ use mathlib.Core.List.{List}
 use lib.ListN.{length}
 use lib.Seq.{length-take-le}
 use borrow.Author.Needs.{needs}
-use Rattle.bench.specs.declared.Joined.{Joined}
-use Rattle.bench.specs.declared.Joined.the-variants.{Length}
+use Rattle.bench.specs.declared.Answer.{Answer}
+use Rattle.bench.specs.declared.Answer.the-variants.{Joined}
 use Rattle.bench.specs.Bench.{joined, toldJoin, Joining}
 use Rattle.bench.proofs.BenchDecided.{join-decided, joined-room}
 use Rattle.benches.proofs.join_into.Statement.{statement}
 use Rattle.benches.proofs.join_into.Tie as tie
 
 -- unrefused, the joined card lies within the buffer
-within : (a b old new : List ℕ) (r : Joined) (n : ℕ) → r ≡ Length n → Joining a b old (toldJoin r) new → n ≤ length old
+within : (a b old new : List ℕ) (r : Answer) (n : ℕ) → r ≡ Joined n → Joining a b old (toldJoin r) new → n ≤ length old
 unfolding toldJoin
 within a b old new r n e p = let q : Joining a b old (joined n) new = rw e at p in joined-room a b (join-decided a b q)
 
