@@ -1,4 +1,4 @@
--- The three demands on one page, each proved by citing the theorem that does the work.
+-- The three demands on one page, and two cards on one bench, each proved by citing the theorem that does the work.
 --
 -- The contract of planner::plan says of its answer and of the buffer afterwards that they are a `Planning` of the card and the buffer
 -- before; that of reader::read says of its answer that it is a `Reading` of the card and the sheet. Neither asks anything of its
@@ -10,7 +10,7 @@ use mathlib.Core.Bool.{true}
 use mathlib.Core.List.{List}
 use lib.ListN.{length, take}
 use Rattle.calculus.specs.Steps.{steps, stands}
-use Rattle.calculus.specs.Job.{Derivable}
+use Rattle.calculus.specs.Job.{Derivable, Listed}
 use Rattle.calculus.specs.Ways.{ListsNameWays}
 use Rattle.calculus.proofs.ListsNameWays.{job-lists-name-ways}
 use Rattle.card.specs.Format.{Bytes, ruleCount, lineCount}
@@ -21,7 +21,10 @@ use Rattle.planning.specs.Plan.{PlanVerdict, planned, roomOf, Planning, PlanDec
 use Rattle.planner.proofs.PlannedExactly.{plan-decided, plan-determined, planned-exactly, planned-sheet}
 use Rattle.reader.specs.Read.{ReadVerdict, accepted, Reading, ReadDecided, Holds, AcceptsExactly}
 use Rattle.reader.proofs.AcceptedExactly.{read-decided, read-determined, accepts-exactly, holds-accepted}
+use Rattle.bench.specs.Bench.{JoinVerdict, joined, Joining, JoinDecided, sourceOf, SourceDecided}
+use Rattle.bench.proofs.BenchDecided.{join-decided, join-determined, source-decided}
 use Rattle.demands.proofs.WrittenIsRead as WrittenIsRead
+use Rattle.demands.proofs.JoinedIsPlanned as JoinedIsPlanned
 
 -- Demand 1. "Every card and sheet, however broken, gets a decision: planned, accepted, or refused with its number and place, within all
 -- bounds. A refused call writes nothing." That every call ends within all bounds is part of what is proved of each function.
@@ -74,3 +77,23 @@ written-is-read = WrittenIsRead.written-is-read
 pub steps-fit-a-byte : {bs : List ℕ} → Sound bs → (d : Derivable (jobOf bs)) (e : ℕ) → stands e (steps (d .derivation .tree)) ≡ true
     → e < ruleCount bs + lineCount bs + 103
 steps-fit-a-byte = steps-fit
+
+-- Two cards on one bench (02, #101). The contract of bench::join says of its answer and of the buffer afterwards that they are a `Joining` of
+-- both cards and the buffer before; that of bench::locate says that its answer is `sourceOf` the cards and the index. Neither asks
+-- anything of its arguments.
+module _ {a b old new : List ℕ} {v : JoinVerdict} where
+  pub join-decides : Joining a b old v new → JoinDecided a b old new v
+  join-decides = join-decided a b
+
+pub join-decides-once : {a b old new new′ : List ℕ} {v v′ : JoinVerdict} → Joining a b old v new → Joining a b old v′ new′
+    → (v ≡ v′) × (new ≡ new′)
+join-decides-once {a} {b} = join-determined a b
+
+pub source-decides : (a b : List ℕ) (i : ℕ) → SourceDecided a b i (sourceOf a b i)
+source-decides = source-decided
+
+-- "If both cards have lists within limits that together fit 255 steps, an unrefused join can be planned."
+pub join-is-planned : {a b old new sheet after : List ℕ} {n : ℕ} {l m : List ℕ} {v : PlanVerdict} → Joining a b old (joined n) new
+    → Listed (jobOf a) l → Listed (jobOf b) m → length l + length m ≤ 255 → roomOf (take n new) ≤ length sheet
+    → Planning (take n new) sheet v after → (k : ℕ) × (v ≡ planned k)
+join-is-planned j x y short room p = JoinedIsPlanned.joined-is-planned j x y short room p
