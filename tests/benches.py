@@ -8,11 +8,9 @@ every joined line and of one beyond. Plans and refusals are stated by hand.
 Usage: benches.py            writes crates/benches/stdin and crates/benches/stdout
        benches.py --check    exits 1 if those files are not what this script writes
 """
-import pathlib
-import sys
 from typing import NamedTuple
 
-from cards import card, word
+from cards import card, pack, store, word
 
 ATOM, REST, DONE, BOTH, EITHER, LEND, GIVES = range(1, 8)
 MOST = 2900  # the program lends no more
@@ -26,12 +24,6 @@ class Card(NamedTuple):
     d: int = 4
     s: int = 8
 
-
-def pack(c):
-    body = b"".join(bytes([kind]) + word(left) + word(right) for kind, left, right in c.nodes)
-    body += b"".join(word(r) for r in c.rules) + b"".join(word(l) + bytes([m]) for l, m in c.lines)
-    front = bytes([1, len(c.rules), len(c.lines)]) + word(len(c.nodes)) + word(c.goal) + bytes([c.d, c.s])
-    return word(2 + len(front) + len(body)) + front + body
 
 
 def unpack(data):
@@ -86,12 +78,12 @@ def gives(g, d):
 
 def tower(height, goal=None):
     """A card with a node of each height up to this one, each part shared by both sides; its goal is the last unless told."""
-    return pack(Card([(DONE, 0, 0)] + [(BOTH, i, i) for i in range(height - 1)], height - 1 if goal is None else goal))
+    return pack(*Card([(DONE, 0, 0)] + [(BOTH, i, i) for i in range(height - 1)], height - 1 if goal is None else goal))
 
 
 def of_done(n=1, rules=0, lines=0, **limits):
     """A card with goal done, of so many nodes, rules and may lines; rules and lines are rest, the last node."""
-    return pack(Card([(DONE, 0, 0)] * (n - 1) + [(REST if n > 1 else DONE, 0, 0)], 0, [n - 1] * rules, [(n - 1, 0)] * lines, **limits))
+    return pack(*Card([(DONE, 0, 0)] * (n - 1) + [(REST if n > 1 else DONE, 0, 0)], 0, [n - 1] * rules, [(n - 1, 0)] * lines, **limits))
 
 
 NOTHING, ELEVEN = planned([], []), "refused 11 card"
@@ -99,10 +91,10 @@ SAMPLE = bytes.fromhex("0028010003000400010408 01000A0000 0100140000 0700000001 
 RULE = card("b", [gives("a", "b")], [("a", 1)], 2, 3)
 MUST, MAY, WANT = (card(goal, [], lines, 4, 8) for goal, lines in [(("done",), [("a", 1)]), (("done",), [("a", 0)]), ("a", [])])
 # every kind, each part shared, names that are node numbers too
-KINDS = pack(Card([(ATOM, 0, 0), (ATOM, 999, 0), (REST, 0, 0), (DONE, 0, 0), (GIVES, 0, 1), (EITHER, 1, 1), (LEND, 4, 5), (BOTH, 6, 3)],
+KINDS = pack(*Card([(ATOM, 0, 0), (ATOM, 999, 0), (REST, 0, 0), (DONE, 0, 0), (GIVES, 0, 1), (EITHER, 1, 1), (LEND, 4, 5), (BOTH, 6, 3)],
     7, [2], [(0, 1), (0, 0), (2, 0)]))
-TWO = pack(Card([(ATOM, 3, 0), (ATOM, 4, 0)], 0, [], [(0, 1), (1, 0)]))
-COVERED = pack(Card([(REST, 0, 0)], 0, [], [(0, 1)] * 40))
+TWO = pack(*Card([(ATOM, 3, 0), (ATOM, 4, 0)], 0, [], [(0, 1), (1, 0)]))
+COVERED = pack(*Card([(REST, 0, 0)], 0, [], [(0, 1)] * 40))
 LARGEST = of_done(256, 32, 32, s=200), of_done(255, 32, 32, s=100)
 
 # label, both cards, the joined card's plan; the buffer is exactly as long as the joined card
@@ -185,7 +177,7 @@ def records():
     """The label, the buffer's length, both cards, and the lines that are printed below the label."""
     rooms = [(*pair[:3], 0, pair[3]) for pair in JOINED] + ROOMS
     for label, first, second, more, plan in rooms:
-        data = pack(joined(unpack(first), unpack(second)))
+        data = pack(*joined(unpack(first), unpack(second)))
         room = len(data) + more
         if more < 0:
             lines = ["refused 10 sheet, neither card", f"kept {room}"]
@@ -202,12 +194,7 @@ def main():
         text = label.encode()
         pairs += bytes([len(text)]) + text + word(room) + word(len(first)) + word(len(second)) + first + second
         found += "\n  ".join([label, *lines]).encode() + b"\n"
-    folder = pathlib.Path(__file__).resolve().parent.parent / "crates" / "benches"
-    files = [(folder / "stdin", pairs), (folder / "stdout", found)]
-    if "--check" in sys.argv:
-        sys.exit(0 if all(path.read_bytes() == text for path, text in files) else 1)
-    for path, text in files:
-        path.write_bytes(text)
+    store("benches", pairs, found)
 
 
 main()

@@ -1,4 +1,6 @@
-"""Cards by their bytes, from formulas as nested tuples (tests/trays.py says which)."""
+"""Cards by their bytes, from formulas as nested tuples (tests/trays.py says which), and the files of a test program."""
+import pathlib
+import sys
 
 KINDS = {"rest": 2, "done": 3, "both": 4, "either": 5, "lend": 6, "gives": 7}
 
@@ -11,6 +13,14 @@ def name(text):
     return ord(text) - ord("a") + 1
 
 
+def pack(nodes, goal, rules, lines, d, s):
+    """The card of these nodes (kind, left, right), rules (a node) and lines (a node, must/may byte)."""
+    body = b"".join(bytes([kind]) + word(left) + word(right) for kind, left, right in nodes)
+    body += b"".join(word(r) for r in rules) + b"".join(word(l) + bytes([m]) for l, m in lines)
+    front = bytes([1, len(rules), len(lines)]) + word(len(nodes)) + word(goal) + bytes([d, s])
+    return word(2 + len(front) + len(body)) + front + body
+
+
 def card(goal, rules, lines, d, s):
     """The card with each formula once, parts before what holds them."""
     nodes, places = [], {}
@@ -18,15 +28,22 @@ def card(goal, rules, lines, d, s):
     def place(f):
         if f not in places:
             if isinstance(f, str):
-                node = bytes([1]) + word(name(f)) + word(0)
+                node = (1, name(f), 0)
             else:
-                parts = [place(p) for p in f[1:]] or [0, 0]
-                node = bytes([KINDS[f[0]]]) + word(parts[0]) + word(parts[1])
+                node = (KINDS[f[0]], *([place(p) for p in f[1:]] or [0, 0]))
             places[f] = len(nodes)
             nodes.append(node)
         return places[f]
 
     roots = place(goal), [place(f) for f in rules], [(place(f), m) for f, m in lines]
-    body = b"".join(nodes) + b"".join(word(r) for r in roots[1]) + b"".join(word(l) + bytes([m]) for l, m in roots[2])
-    front = bytes([1, len(rules), len(lines)]) + word(len(nodes)) + word(roots[0]) + bytes([d, s])
-    return word(2 + len(front) + len(body)) + front + body
+    return pack(nodes, *roots, d, s)
+
+
+def store(program, given, wanted):
+    """Writes the program's input and what it must print; with --check, exits 1 if its files are not these."""
+    folder = pathlib.Path(__file__).resolve().parent.parent / "crates" / program
+    files = [(folder / "stdin", given), (folder / "stdout", wanted)]
+    if "--check" in sys.argv:
+        sys.exit(0 if all(path.read_bytes() == text for path, text in files) else 1)
+    for path, text in files:
+        path.write_bytes(text)

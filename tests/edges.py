@@ -4,10 +4,7 @@
 Usage: edges.py            writes crates/edges/stdin and crates/edges/stdout
        edges.py --check    exits 1 if those files are not what this script writes
 """
-import pathlib
-import sys
-
-from cards import word
+from cards import store, word
 
 ATOM, TOP, ONE, TENSOR, WITH, LOLLI_GOAL, LOLLI_CLAUSE = range(1, 8)
 
@@ -132,12 +129,7 @@ def main():
         text = label.encode()
         cards += bytes([len(text)]) + text + word(len(data)) + data
         found += f"{label}: {verdict if verdict == 'sound' else 'refused ' + verdict}\n".encode()
-    folder = pathlib.Path(__file__).resolve().parent.parent / "crates" / "edges"
-    files = [(folder / "stdin", cards), (folder / "stdout", found)]
-    if "--check" in sys.argv:
-        sys.exit(0 if all(path.read_bytes() == text for path, text in files) else 1)
-    for path, text in files:
-        path.write_bytes(text)
+    store("edges", cards, found)
 
 
 main()

@@ -11,7 +11,7 @@ import pathlib
 import re
 import sys
 
-from cards import card, word
+from cards import card, store, word
 
 ROOT = pathlib.Path(__file__).resolve().parent.parent
 
@@ -141,13 +141,7 @@ def main():
         text = label.encode()
         cards += bytes([len(text)]) + text + word(room) + word(len(data)) + data
         found += f"{label}: {outcome}\n".encode()
-    folder = ROOT / "crates" / "trays"
-    files = [(folder / "stdin", cards), (folder / "stdout", found)]
-    if "--check" in sys.argv:
-        sys.exit(0 if all(path.read_bytes() == text for path, text in files) else 1)
-    folder.mkdir(exist_ok=True)
-    for path, text in files:
-        path.write_bytes(text)
+    store("trays", cards, found)
 
 
 main()

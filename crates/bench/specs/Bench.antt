@@ -44,8 +44,11 @@ pub data JoinDecided (a b old new : List ℕ) : JoinVerdict → Type 0 where
   too-short : new ≡ old → JoinDecided a b old new (refused neither 10 sheet)
 
 -- "asking, 16, place line i, for an index not below the joined T"
+abbrev pub lineFault : List ℕ → List ℕ → ℕ → BenchVerdict
+lineFault a b i = about neither (refuse (leb (joinedLines a b) i) 16 (line i))
+
 unfoldable pub sourceFault : List ℕ → List ℕ → ℕ → BenchVerdict
-sourceFault a b i = benchFault a b ▸ about neither (refuse (leb (joinedLines a b) i) 16 (line i))
+sourceFault a b i = benchFault a b ▸ lineFault a b i
 
 -- Which card holds a joined line, and where its three bytes begin there; or a refusal.
 pub data SourceVerdict : Type 0 where
@@ -66,6 +69,10 @@ partOf a b (held first at) = take 3 (drop at a)
 partOf a b (held second at) = take 3 (drop at b)
 partOf a b (held neither at) = []
 partOf a b (unheld o n w) = []
+
+-- what is handed back of joined line i
+abbrev pub sourcePart : List ℕ → List ℕ → ℕ → List ℕ
+sourcePart a b i = partOf a b (sourceOf a b i)
 
 -- Demand 1. A decision: three bytes of one of the cards, of which none is longer than 2,891 bytes; or refused.
 pub data SourceDecided (a b : List ℕ) (i : ℕ) : SourceVerdict → Type 0 where

@@ -10,13 +10,10 @@ use card::format::word;
 use card::refuse;
 ghost use mathlib.Core.Path.{_≡_};
 ghost use Prim.Native.Nat.{_≤_};
-ghost use lib.Dec.{leb};
 ghost use Rattle.card.specs.Format.{lineStart};
-ghost use Rattle.card.specs.Verdict.{refuse, line as lineAt};
 ghost use Rattle.card.specs.Fault.{Sound};
-ghost use Rattle.joined.specs.Joined.{joinedLines};
-ghost use Rattle.benched.specs.Benched.{fine, neither, first as firstCard, about, benchFault, saidOf, toldBench};
-ghost use Rattle.bench.specs.Bench.{Joining, joined, refused, toldJoin, held, unheld, holder, sourceOf, partOf, toldSource};
+ghost use Rattle.benched.specs.Benched.{fine, first as firstCard, benchFault, saidOf, toldBench};
+ghost use Rattle.bench.specs.Bench.{Joining, joined, refused, toldJoin, held, unheld, lineFault, holder, sourceOf, sourcePart, toldSource};
 
 // Joined with the length, or a refusal.
 pub enum Answer {
@@ -44,7 +41,8 @@ fn refused_join(found: Benched) -> Answer
 // 10, and the joined card of two sound cards that fit on one.
 fn join_sound(first: &[u8], second: &[u8], joined: &mut [u8]) -> Answer
     requires { ⌜ benchFault (now first) (now second) ≡ fine ⌝ }
-    ensures { λ r. ⌜ Joining (now (first .entry)) (now (second .entry)) (now (joined .entry)) (toldJoin r) (now (joined .exit)) ⌝ }
+    ensures { λ r. ⌜ Joining (now (first .entry)) (now (second .entry)) (now (joined .entry))
+        (toldJoin r) (now (joined .exit)) ⌝ }
 {
     let long = fields::joined_length(first, second);
     let room = about(
@@ -61,7 +59,8 @@ fn join_sound(first: &[u8], second: &[u8], joined: &mut [u8]) -> Answer
 
 // Joins two cards: the first of 1 to 9, 15 and 10 that applies, or the joined card at the buffer's start.
 pub fn join(first: &[u8], second: &[u8], joined: &mut [u8]) -> Answer
-    ensures { λ r. ⌜ Joining (now (first .entry)) (now (second .entry)) (now (joined .entry)) (toldJoin r) (now (joined .exit)) ⌝ }
+    ensures { λ r. ⌜ Joining (now (first .entry)) (now (second .entry)) (now (joined .entry))
+        (toldJoin r) (now (joined .exit)) ⌝ }
 {
     let both = bench_check(first, second);
     let Benched::Fine = both else {
@@ -96,7 +95,7 @@ fn locate_sound(first: &[u8], second: &[u8], i: u16) -> Located
     requires { ⌜ Sound (now second) ⌝ }
     ensures { λ r. ⌜ toldSource r
         ≡ saidOf (holder (now (first .entry)) (now (second .entry)) i) unheld
-        (about neither (refuse (leb (joinedLines (now (first .entry)) (now (second .entry))) i) 16 (lineAt i))) ⌝ }
+        (lineFault (now (first .entry)) (now (second .entry)) i) ⌝ }
 {
     let n = i as usize;
     let t = byte(first, 4);
@@ -126,8 +125,7 @@ pub fn locate(first: &[u8], second: &[u8], i: u16) -> Located
 
 // The three bytes of joined line i, as they stand in whichever card holds them; nothing where the question is refused.
 pub fn source<'a>(first: &'a [u8], second: &'a [u8], i: u16) -> &'a [u8]
-    ensures { λ r. ⌜ now r
-        ≡ partOf (now (first .entry)) (now (second .entry)) (sourceOf (now (first .entry)) (now (second .entry)) i) ⌝ }
+    ensures { λ r. ⌜ now r ≡ sourcePart (now (first .entry)) (now (second .entry)) i ⌝ }
 {
     let found = locate(first, second, i);
     match found {

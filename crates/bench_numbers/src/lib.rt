@@ -30,7 +30,8 @@ fn card_number(card: Whose) -> u32
 // A number that tells no card, with this card.
 fn with_card(card: Whose, bare: u32) -> u32
     requires { ⌜ cardIn bare ≡ 0 ⌝ }
-    ensures { λ r. ⌜ (numberIn r ≡ numberIn bare) × (placeIn r ≡ placeIn bare) × (indexIn r ≡ indexIn bare) ⌝ }
+    ensures { λ r. ⌜ (numberIn r ≡ numberIn bare) × (placeIn r ≡ placeIn bare)
+        × (indexIn r ≡ indexIn bare) ⌝ }
     ensures { λ r. ⌜ ownerIn r ≡ ownerOf card ⌝ }
     ensures { λ r. ⌜ Carded r ⌝ }
 {
@@ -39,7 +40,8 @@ fn with_card(card: Whose, bare: u32) -> u32
 
 // A refusal, told with which card.
 fn packed_stop(refusal: BenchRefusal) -> u32
-    ensures { λ r. ⌜ (numberIn r ≡ refusal .number) × (placeOf (placeIn r) (indexIn r) ≡ whereOf (refusal .place)) ⌝ }
+    ensures { λ r. ⌜ (numberIn r ≡ refusal .number)
+        × (placeOf (placeIn r) (indexIn r) ≡ whereOf (refusal .place)) ⌝ }
     ensures { λ r. ⌜ ownerIn r ≡ ownerOf (refusal .card) ⌝ }
     ensures { λ r. ⌜ Carded r ⌝ }
     ensures { λ r. ⌜ Plain r ⌝ }

@@ -47,7 +47,8 @@ pub fn put_both(first: &[u8], second: &[u8], out: &mut [u8], at: usize)
     requires { ⌜ Sound (now first) ⌝ }
     requires { ⌜ Sound (now second) ⌝ }
     requires { ⌜ at + 5 ≤ length (now out) ⌝ }
-    ensures { λ _. ⌜ Written (now (out .entry)) (now (out .exit)) at (bothGoals (now (first .entry)) (now (second .entry))) ⌝ }
+    ensures { λ _. ⌜ Written (now (out .entry)) (now (out .exit)) at
+        (bothGoals (now (first .entry)) (now (second .entry))) ⌝ }
 {
     let a = word(first, 7);
     let b = word(first, 5) + word(second, 7);

@@ -9,7 +9,8 @@ use Rattle.card.specs.Format.{ruleStart, lineStart, kindAt, leftAt, rightAt, ru
 use Rattle.card.specs.Kinds.{kindOf}
 use Rattle.card.specs.Sheet.{word}
 use Rattle.joined.specs.Joined.{shifted, nodeBytes, movedNode, movedRule, movedLine, movedNodes, movedRules, movedLines, joinedRules}
-use Rattle.joined.specs.Joined.{joinedLines, joinedNodes, joinedLength, joinedDepth, joinedSteps, joinedFront, bothGoals, joinedCard}
+use Rattle.joined.specs.Joined.{joinedLines, joinedNodes, joinedLength, joinedDepth, joinedSteps, joinedFront, bothGoals, allNodes, allRules}
+use Rattle.joined.specs.Joined.{allLines, joinedCard}
 use Rattle.joined.specs.Inner.Copied.{Copied}
 use Rattle.joined.proofs.LaidInTurn.{behind, among, turn-at, word-read, length-node, length-moved-node, length-moved-rule, length-moved-line}
 use Rattle.joined.proofs.LaidInTurn.{length-moved-nodes, length-moved-rules, length-moved-lines}
@@ -62,14 +63,14 @@ module _ (a b : List ℕ) where
   n₁ = nodeCount a
 
   -- the parts of the card
-  abbrev pub nodes : List ℕ
-  nodes = movedNodes 0 a ++ movedNodes n₁ b ++ bothGoals a b
+  abbrev nodes : List ℕ
+  nodes = allNodes a b
 
-  abbrev pub rules : List ℕ
-  rules = movedRules 0 a ++ movedRules n₁ b
+  abbrev rules : List ℕ
+  rules = allRules a b
 
-  abbrev pub lines : List ℕ
-  lines = movedLines 0 a ++ movedLines n₁ b
+  abbrev lines : List ℕ
+  lines = allLines a b
 
   pub length-front : length (joinedFront a b) ≡ 11
   unfolding joinedFront word

@@ -70,14 +70,16 @@ module _ (first second : List ℕ) where
   abbrev pub joinedSteps : ℕ
   joinedSteps = min (stepLimit first + stepLimit second) 255
 
-  -- bytes 0 to 10: its goal is the new last node
+  -- bytes 0 to 10: length, version, P and T, N, the goal, which is the new last node, d and s
+  abbrev pub joinedCounts : List ℕ
+  joinedCounts = 1 ∷ joinedRules ∷ joinedLines ∷ []
+
+  abbrev pub joinedLimits : List ℕ
+  joinedLimits = joinedDepth ∷ joinedSteps ∷ []
+
   unfoldable pub joinedFront : List ℕ
   joinedFront =
-      word joinedLength
-      ++ (1 ∷ joinedRules ∷ joinedLines ∷ [])
-      ++ word joinedNodes
-      ++ word (nodeCount first + nodeCount second)
-      ++ (joinedDepth ∷ joinedSteps ∷ [])
+      word joinedLength ++ joinedCounts ++ word joinedNodes ++ word (nodeCount first + nodeCount second) ++ joinedLimits
 
   -- "one new last node, 'both' of the two goals": of the first's, and of the second's shifted
   unfoldable pub bothGoals : List ℕ
@@ -85,13 +87,17 @@ module _ (first second : List ℕ) where
 
   -- "A depot's joined card holds the first card's nodes, rules and lines, each followed by the second's with node numbers shifted, and one
   -- new last node": the first's are shifted by 0, the second's by the first's N.
+  abbrev pub allNodes : List ℕ
+  allNodes = movedNodes 0 first ++ movedNodes (nodeCount first) second ++ bothGoals
+
+  abbrev pub allRules : List ℕ
+  allRules = movedRules 0 first ++ movedRules (nodeCount first) second
+
+  abbrev pub allLines : List ℕ
+  allLines = movedLines 0 first ++ movedLines (nodeCount first) second
+
   unfoldable pub joinedCard : List ℕ
-  joinedCard =
-      let n = nodeCount first in
-      joinedFront
-      ++ (movedNodes 0 first ++ movedNodes n second ++ bothGoals)
-      ++ (movedRules 0 first ++ movedRules n second)
-      ++ (movedLines 0 first ++ movedLines n second)
+  joinedCard = joinedFront ++ allNodes ++ allRules ++ allLines
 
   -- the new goal's height: 1 plus the greater of the parts' heights
   unfoldable pub joinedHeight : ℕ

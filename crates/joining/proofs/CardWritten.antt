@@ -2,24 +2,24 @@
 use Prim.Native.Nat.{ℕ, _+_, _*_, _≤_}
 use native.Mathlib.Omega.{arith}
 use mathlib.Core.Path.{_≡_, refl}
-use mathlib.Core.List.{List, [], _∷_, _++_}
+use mathlib.Core.List.{List, _++_}
 use lib.ListN.{length, drop}
 use Rattle.card.specs.Format.{nodeCount}
 use Rattle.card.specs.Sheet.{word}
-use Rattle.joined.specs.Joined.{joinedRules, joinedLines, joinedNodes, joinedLength, joinedDepth}
-use Rattle.joined.specs.Joined.{joinedSteps, joinedFront, joinedCard}
+use Rattle.joined.specs.Joined.{joinedRules, joinedNodes, joinedLength, joinedCounts, joinedLimits, joinedFront, allNodes, allRules}
+use Rattle.joined.specs.Joined.{allLines, joinedCard}
 use Rattle.joined.specs.Inner.Written.{Written}
 use Rattle.joined.proofs.WrittenInTurn.{written-behind, written-front}
-use Rattle.joined.proofs.JoinedBytes.{nodes, rules, lines, length-front, to-nodes, to-rules, joined-long}
+use Rattle.joined.proofs.JoinedBytes.{length-front, to-nodes, to-rules, joined-long}
 
 module _ (first second : List ℕ) where
   -- the length, the counts, N, the goal and the limits are the front
   pub front-written : {s s₁ s₂ s₃ s₄ s₅ : List ℕ} → 11 ≤ length s
       → Written s s₁ 0 (word (joinedLength first second))
-      → Written s₁ s₂ 2 (1 ∷ joinedRules first second ∷ joinedLines first second ∷ [])
+      → Written s₁ s₂ 2 (joinedCounts first second)
       → Written s₂ s₃ 5 (word (joinedNodes first second))
       → Written s₃ s₄ 7 (word (nodeCount first + nodeCount second))
-      → Written s₄ s₅ 9 (joinedDepth first second ∷ joinedSteps first second ∷ [])
+      → Written s₄ s₅ 9 (joinedLimits first second)
       → Written s s₅ 0 (joinedFront first second)
   unfolding joinedFront word
   front-written h w₁ w₂ w₃ w₄ w₅ =
@@ -31,9 +31,9 @@ module _ (first second : List ℕ) where
   -- the front, the nodes, the rules and the lines are the card
   pub card-written : {s s₁ s₂ s₃ s₄ : List ℕ} → joinedLength first second ≤ length s
       → Written s s₁ 0 (joinedFront first second)
-      → Written s₁ s₂ 11 (nodes first second)
-      → Written s₂ s₃ (11 + 5 * joinedNodes first second) (rules first second)
-      → Written s₃ s₄ (11 + 5 * joinedNodes first second + 2 * joinedRules first second) (lines first second)
+      → Written s₁ s₂ 11 (allNodes first second)
+      → Written s₂ s₃ (11 + 5 * joinedNodes first second) (allRules first second)
+      → Written s₃ s₄ (11 + 5 * joinedNodes first second + 2 * joinedRules first second) (allLines first second)
       → s₄ ≡ joinedCard first second ++ drop (joinedLength first second) s
   unfolding joinedCard
   card-written {s} h w₁ w₂ w₃ w₄ =

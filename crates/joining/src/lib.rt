@@ -10,13 +10,12 @@ use moved::put_nodes;
 use moved::put_rules;
 use moved::put_word;
 ghost use mathlib.Core.Path.{_≡_};
-ghost use mathlib.Core.List.{[], _∷_, _++_};
+ghost use mathlib.Core.List.{_++_};
 ghost use Prim.Native.Nat.{_+_, _*_, _≤_};
 ghost use lib.ListN.{length, drop};
-ghost use Rattle.card.specs.Format.{nodeCount};
 ghost use Rattle.card.specs.Fault.{Sound};
-ghost use Rattle.joined.specs.Joined.{movedNodes, movedRules, movedLines, joinedRules, joinedLines, joinedNodes, joinedLength};
-ghost use Rattle.joined.specs.Joined.{joinedDepth, joinedSteps, joinedFront, bothGoals, joinedCard};
+ghost use Rattle.joined.specs.Joined.{joinedRules, joinedLines, joinedNodes, joinedLength, joinedCounts, joinedLimits, joinedFront};
+ghost use Rattle.joined.specs.Joined.{allNodes, allRules, allLines, joinedCard};
 ghost use Rattle.joined.specs.Inner.Written.{Written};
 
 // Bytes 2 to 4: the version, P and T.
@@ -25,7 +24,7 @@ fn put_counts(first: &[u8], second: &[u8], out: &mut [u8])
     requires { ⌜ Sound (now second) ⌝ }
     requires { ⌜ 11 ≤ length (now out) ⌝ }
     ensures { λ _. ⌜ Written (now (out .entry)) (now (out .exit)) 2
-        (1 ∷ joinedRules (now (first .entry)) (now (second .entry)) ∷ joinedLines (now (first .entry)) (now (second .entry)) ∷ []) ⌝ }
+        (joinedCounts (now (first .entry)) (now (second .entry))) ⌝ }
 {
     let rules = byte(first, 3) + byte(second, 3);
     let lines = byte(first, 4) + byte(second, 4);
@@ -40,7 +39,7 @@ fn put_limits(first: &[u8], second: &[u8], out: &mut [u8])
     requires { ⌜ Sound (now second) ⌝ }
     requires { ⌜ 11 ≤ length (now out) ⌝ }
     ensures { λ _. ⌜ Written (now (out .entry)) (now (out .exit)) 9
-        (joinedDepth (now (first .entry)) (now (second .entry)) ∷ joinedSteps (now (first .entry)) (now (second .entry)) ∷ []) ⌝ }
+        (joinedLimits (now (first .entry)) (now (second .entry))) ⌝ }
 {
     out[9] = depth(first, second);
     out[10] = steps(first, second);
@@ -51,7 +50,8 @@ fn put_front(first: &[u8], second: &[u8], out: &mut [u8])
     requires { ⌜ Sound (now first) ⌝ }
     requires { ⌜ Sound (now second) ⌝ }
     requires { ⌜ 11 ≤ length (now out) ⌝ }
-    ensures { λ _. ⌜ Written (now (out .entry)) (now (out .exit)) 0 (joinedFront (now (first .entry)) (now (second .entry))) ⌝ }
+    ensures { λ _. ⌜ Written (now (out .entry)) (now (out .exit)) 0
+        (joinedFront (now (first .entry)) (now (second .entry))) ⌝ }
 {
     let goal = word(first, 5) + word(second, 5);
     put_word(joined_length(first, second), out, 0);
@@ -67,8 +67,7 @@ fn put_all_nodes(first: &[u8], second: &[u8], out: &mut [u8])
     requires { ⌜ Sound (now second) ⌝ }
     requires { ⌜ 11 + 5 * joinedNodes (now first) (now second) ≤ length (now out) ⌝ }
     ensures { λ _. ⌜ Written (now (out .entry)) (now (out .exit)) 11
-        (movedNodes 0 (now (first .entry)) ++ movedNodes (nodeCount (now (first .entry))) (now (second .entry))
-        ++ bothGoals (now (first .entry)) (now (second .entry))) ⌝ }
+        (allNodes (now (first .entry)) (now (second .entry))) ⌝ }
 {
     let n = word(first, 5);
     let m = word(second, 5);
@@ -83,7 +82,7 @@ fn put_all_rules(first: &[u8], second: &[u8], out: &mut [u8], at: usize)
     requires { ⌜ Sound (now second) ⌝ }
     requires { ⌜ at + 2 * joinedRules (now first) (now second) ≤ length (now out) ⌝ }
     ensures { λ _. ⌜ Written (now (out .entry)) (now (out .exit)) at
-        (movedRules 0 (now (first .entry)) ++ movedRules (nodeCount (now (first .entry))) (now (second .entry))) ⌝ }
+        (allRules (now (first .entry)) (now (second .entry))) ⌝ }
 {
     let n = word(first, 5);
     put_rules(first, 0, out, at);
@@ -96,7 +95,7 @@ fn put_all_lines(first: &[u8], second: &[u8], out: &mut [u8], at: usize)
     requires { ⌜ Sound (now second) ⌝ }
     requires { ⌜ at + 3 * joinedLines (now first) (now second) ≤ length (now out) ⌝ }
     ensures { λ _. ⌜ Written (now (out .entry)) (now (out .exit)) at
-        (movedLines 0 (now (first .entry)) ++ movedLines (nodeCount (now (first .entry))) (now (second .entry))) ⌝ }
+        (allLines (now (first .entry)) (now (second .entry))) ⌝ }
 {
     let n = word(first, 5);
     put_lines(first, 0, out, at);

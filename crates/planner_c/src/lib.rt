@@ -32,7 +32,8 @@ pub extern "C" fn kit_read(card: &[u8], sheet: &[u8]) -> u32
 // Joins two cards into the lent buffer: bench::join, its answer as a number that reads as the outcome.
 #[no_mangle]
 pub extern "C" fn kit_join(first: &[u8], second: &[u8], joined: &mut [u8]) -> u32
-    ensures { λ r. ⌜ Joining (now (first .entry)) (now (second .entry)) (now (joined .entry)) (joinIn r) (now (joined .exit)) ⌝ }
+    ensures { λ r. ⌜ Joining (now (first .entry)) (now (second .entry)) (now (joined .entry))
+        (joinIn r) (now (joined .exit)) ⌝ }
     ensures { λ r. ⌜ Plain r ⌝ }
     ensures { λ r. ⌜ Carded r ⌝ }
     ensures { λ r. ⌜ Uncarded r ⌝ }
