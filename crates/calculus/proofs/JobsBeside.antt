@@ -11,7 +11,7 @@ use Rattle.calculus.specs.Items.{Items, _∪_, Splits, Within}
 use Rattle.calculus.specs.Steps.{nesting}
 use Rattle.calculus.specs.Job.{Job, Listed}
 use Rattle.calculus.specs.Inner.Renaming.{Image, Renamed, over, Beside}
-use Rattle.calculus.proofs.SetLaws.{∪-cases}
+use Rattle.calculus.proofs.SetLaws.{or-right, ∪-cases}
 use Rattle.calculus.proofs.RenamingKeeps.{pushed, image-pushed, image-back, rename, renamed-⊗, listed-by, over-steps}
 
 -- items of the one or the other
@@ -21,11 +21,7 @@ in-left I J x h = ap (λ (b : Bool). b || J x) h
 
 in-right : (I J : Items) (x : ℕ) → J x ≡ true → (I ∪ J) x ≡ true
 unfolding _∪_
-in-right I J x h = go (I x)
-  where
-    go : (b : Bool) → (b || J x) ≡ true
-    go true = refl
-    go false = h
+in-right I J x h = or-right (I x) (J x) h
 
 -- two sets with no item in common are the shares of their union
 apart-splits : (I J : Items) → ((x : ℕ) → I x ≡ true → J x ≡ true → ⊥) → Splits (I ∪ J) I J

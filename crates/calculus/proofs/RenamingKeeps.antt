@@ -17,6 +17,7 @@ use Rattle.calculus.specs.Derivation.{res-⊗, res-&, res-⊸, res-atm-i
 use Rattle.calculus.specs.Steps.{steps, nesting}
 use Rattle.calculus.specs.Job.{Job, Derivation, Limited, Listed}
 use Rattle.calculus.specs.Inner.Renaming.{Renaming, Image, over, Renamed, JobRenaming, swap}
+use Rattle.calculus.proofs.SetLaws.{or-right}
 use Rattle.calculus.proofs.SummaryExact.{lend-size}
 
 -- An entry that is used
@@ -68,10 +69,6 @@ not-true false h = refl
 and-left : (a b : Bool) → (a && b) ≡ true → a ≡ true
 and-left true b h = refl
 and-left false b h = h
-
-or-right : (a b : Bool) → b ≡ true → (a || b) ≡ true
-or-right true b h = refl
-or-right false b h = h
 
 absorbed : (a b : Bool) → (b ≡ true → a ≡ true) → (a && b) ≡ b
 absorbed true b h = refl

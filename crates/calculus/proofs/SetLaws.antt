@@ -188,6 +188,15 @@ pub ∪-joins : (U W : Items) → Joins (U ∪ W) U W
 unfolding _∪_
 ∪-joins U W = record { joined = λ i. refl }
 
+-- of two tests one holds, or neither does
+pub or-right : (a b : Bool) → b ≡ true → (a || b) ≡ true
+or-right true b h = refl
+or-right false b h = h
+
+pub or-false : (a b : Bool) → (a || b) ≡ false → (a ≡ false) × (b ≡ false)
+or-false true b h = absurd (false≢true (sym h))
+or-false false b h = (refl, h)
+
 pub ∪-cases : (I J : Items) (i : ℕ) → (I ∪ J) i ≡ true → (I i ≡ true) ⊎ (J i ≡ true)
 unfolding _∪_
 ∪-cases I J i = at (I i)

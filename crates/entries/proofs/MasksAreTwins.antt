@@ -24,7 +24,8 @@ use Rattle.lines.proofs.MemberLaws.{member-empty, member-add}
 use Rattle.entries.specs.Inner.Twins.{waits, every, isLine, met, eligible}
 use Rattle.entries.specs.Inner.Masks.{maskSet, withLine, passing, hasNode, mustNode, wider, Waiting, within, readyBy}
 use Rattle.entries.specs.Inner.Masks.{Seen, seenPast}
-use Rattle.entries.proofs.TestLaws.{and-true, or-right, same-test, stands-append, every-at, every-all}
+use Rattle.calculus.proofs.SetLaws.{or-right}
+use Rattle.entries.proofs.TestLaws.{and-true, same-test, stands-append, every-at, every-all}
 
 -- The lines of a mask
 

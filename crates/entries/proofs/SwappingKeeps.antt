@@ -18,7 +18,8 @@ use Rattle.calculus.specs.Inner.Renaming.{Renaming, Image, over, swap}
 use Rattle.calculus.proofs.SummaryExact.{lend-size}
 use Rattle.calculus.proofs.RenamingKeeps.{entry-before, rename, over-steps, over-length, pushed, image-pushed}
 use Rattle.calculus.proofs.RenamingKeeps.{swap-other, swap-cases, swap-swap, swap-keeps, swap-within}
-use Rattle.entries.proofs.TestLaws.{and-true, or-true, or-right, stands-append}
+use Rattle.calculus.proofs.SetLaws.{or-right}
+use Rattle.entries.proofs.TestLaws.{and-true, or-true, stands-append}
 
 -- Lines in a list are items
 

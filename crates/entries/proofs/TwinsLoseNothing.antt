@@ -22,7 +22,8 @@ use Rattle.card.specs.Decode.{clauseOf, lineEntry, linesWith, jobOf}
 use Rattle.card.proofs.NodesDecoded.{scope-size, line-at}
 use Rattle.agenda.specs.Inner.Order.{Chosen, none, step}
 use Rattle.entries.specs.Inner.Twins.{waits, every, isLine, met, eligible}
-use Rattle.entries.proofs.TestLaws.{either, and-true, or-true, or-false, or-right, stands-append, every-at, every-all, every-fails}
+use Rattle.calculus.proofs.SetLaws.{or-false, or-right}
+use Rattle.entries.proofs.TestLaws.{either, and-true, or-true, stands-append, every-at, every-all, every-fails}
 use Rattle.entries.proofs.SwappingKeeps.{WiderLine, swap-wider}
 
 -- What a line waits for

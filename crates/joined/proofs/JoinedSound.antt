@@ -9,6 +9,7 @@ use mathlib.Core.List.{List}
 use lib.ListN.{length}
 use lib.Dec.{leb, ltb}
 use borrow.Author.Tests.{le-leb, le-ltb, lt-ltb, eq-eqb, ltb-false, not-false}
+use Rattle.calculus.proofs.SetLaws.{or-false}
 use Rattle.card.specs.Format.{ruleCount, lineCount, nodeCount, goalNode, depthLimit, leftAt, rightAt, ruleNode}
 use Rattle.card.specs.Format.{lineNode, lineByte, cardLength}
 use Rattle.card.specs.Verdict.{Verdict, Where, sound, refuse, _▹_, firstOf}
@@ -56,27 +57,23 @@ unfolding firstOf
 run-sound zero f h = refl
 run-sound (suc n) f h = both-sound (firstOf n f) (f n) (run-sound n f (λ i l. h i (omega arith))) (h n (omega arith))
 
-neither : (p q : Bool) → (p || q) ≡ false → (p ≡ false) × (q ≡ false)
-neither true q e = absurd (let z : _≡_ {A = ℕ} 0 1 = cc in omega arith)
-neither false q e = (refl, e)
-
 -- two cards that fit on one
 module _ (a b : List ℕ) (fits : overfull a b ≡ false) where
   parted : (ltb 64 (joinedRules a b) ≡ false) × ((ltb 64 (joinedLines a b) || (ltb 512 (joinedNodes a b) || ltb 8 (joinedHeight a b))) ≡ false)
   unfolding overfull
-  parted = neither (ltb 64 (joinedRules a b)) _ fits
+  parted = or-false (ltb 64 (joinedRules a b)) _ fits
 
   pub few-rules : joinedRules a b ≤ 64
   few-rules = ltb-false 64 (joinedRules a b) (parted .0)
 
   from-lines : (ltb 64 (joinedLines a b) ≡ false) × ((ltb 512 (joinedNodes a b) || ltb 8 (joinedHeight a b)) ≡ false)
-  from-lines = neither (ltb 64 (joinedLines a b)) _ (parted .1)
+  from-lines = or-false (ltb 64 (joinedLines a b)) _ (parted .1)
 
   pub few-lines : joinedLines a b ≤ 64
   few-lines = ltb-false 64 (joinedLines a b) (from-lines .0)
 
   from-nodes : (ltb 512 (joinedNodes a b) ≡ false) × (ltb 8 (joinedHeight a b) ≡ false)
-  from-nodes = neither (ltb 512 (joinedNodes a b)) _ (from-lines .1)
+  from-nodes = or-false (ltb 512 (joinedNodes a b)) _ (from-lines .1)
 
   pub few-nodes : joinedNodes a b ≤ 512
   few-nodes = ltb-false 512 (joinedNodes a b) (from-nodes .0)
