@@ -2,13 +2,14 @@
  *
  * Each answers one number of 32 bits:
  *
- *   bits 31..24   0 where the call did what it is for, else the refusal's number, 1 to 16
+ *   bits 31..24   0 where the call did what it is for, else the refusal's number, 1 to 19
  *   bits 23..20   which card. Beside a refusal of kit_join or kit_source: 1 or 2 where it is the first or the
  *                 second card's own (1 to 9), 0 where it is neither's (10, 15, 16). Where kit_source found the
  *                 line: 1 or 2, the card that holds it. Else 0
- *   bits 19..16   the refusal's place: 0 card, 1 node, 2 rule, 3 line, 4 sheet, 5 steps, 6 mark
- *   bits 15..0    the index of the node, rule, line or mark; or what the call tells: k, the number of steps
- *                 (kit_plan, kit_read), the joined card's length (kit_join), where the line stands in its card
+ *   bits 19..16   the refusal's place: 0 card, 1 node, 2 rule, 3 line, 4 sheet, 5 steps, 6 mark,
+ *                 7 step
+ *   bits 15..0    the index of the node, rule, line, mark or step, from 0; or what the call tells: k, the number
+ *                 of steps (kit_plan, kit_read), the joined card's length (kit_join), where the line stands in its card
  *                 (kit_source); 0 where there is neither
  *
  * What the caller sees to; nothing tests it:
@@ -38,7 +39,9 @@ extern "C" {
  * A sheet buffer of 5 + s + T bytes, s the card's step limit, is enough; 324 bytes are, for any card. */
 uint32_t kit_plan(const uint8_t *card, size_t card_len, uint8_t *sheet, size_t sheet_len);
 
-/* Reads a sheet against its card: accepted with k, or a refusal (1 to 9, 12 to 14). Writes nothing. */
+/* Reads a sheet against its card: accepted with k, or a refusal: the card's own (1 to 9), 12 of the sheet, the first
+ * wrong step (13, 17 or 18, place step; a missing one stands behind the last), 19 where the steps are right one by
+ * one but the items do not divide (place steps), 14 of a mark. Writes nothing. */
 uint32_t kit_read(const uint8_t *card, size_t card_len, const uint8_t *sheet, size_t sheet_len);
 
 /* Joins two cards to one: the nodes, rules and lines of the first, each followed by those of the second, and the

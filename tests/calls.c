@@ -20,7 +20,7 @@ uint32_t kit_join(const uint8_t *first, size_t first_len, const uint8_t *second,
                   uint8_t *joined, size_t joined_len);
 uint32_t kit_source(const uint8_t *first, size_t first_len, const uint8_t *second, size_t second_len, uint16_t i);
 
-enum { CARD, NODE, RULE, LINE, SHEET, STEPS, MARK };
+enum { CARD, NODE, RULE, LINE, SHEET, STEPS, MARK, STEP };
 enum { NEITHER, FIRST, SECOND };
 
 /* The sample card: P = 0, T = 3, N = 4, s = 8. */
@@ -81,8 +81,8 @@ static const struct fault card_faults[] = {
     {21, 8, 6, NODE, 2},   {26, 0, 6, NODE, 3}, {8, 2, 7, CARD, 0},  {36, 2, 9, LINE, 1}
 };
 static const struct fault sheet_faults[] = {
-    {1, 9, 12, SHEET, 0}, {2, 0, 12, SHEET, 0}, {3, 3, 12, SHEET, 0}, {5, 0, 13, STEPS, 0},
-    {7, 2, 14, MARK, 0},  {9, 1, 14, MARK, 2}
+    {1, 9, 12, SHEET, 0}, {2, 0, 12, SHEET, 0}, {3, 3, 12, SHEET, 0}, {5, 0, 13, STEP, 0},
+    {6, 9, 13, STEP, 1},  {7, 2, 14, MARK, 0},  {9, 1, 14, MARK, 2}
 };
 
 static unsigned passed;
@@ -170,6 +170,25 @@ static void sheets_refused(void) {
     }
 }
 
+/* The sample card, or nearly, and sheets with a step too few, one too many, steps nested too deep, and steps that
+ * are right but leave a must line over. */
+static void steps_refused(void) {
+    static const uint8_t few[9] = {0x00, 0x09, 0x01, 0x01, 0x03, 0x01, 0x02, 0x01, 0x00};
+    static const uint8_t many[11] = {0x00, 0x0B, 0x01, 0x03, 0x03, 0x01, 0x00, 0x00, 0x01, 0x01, 0x00};
+    uint8_t card[40];
+    memcpy(card, sample, sizeof card);
+    told(kit_read(card, sizeof card, few, sizeof few), 18, STEP, 1);
+    told(kit_read(card, sizeof card, many, sizeof many), 18, STEP, 2);
+    card[9] = 1;
+    told(kit_read(card, sizeof card, sample_sheet, 10), 17, STEP, 1);
+    told(kit_read(card, sizeof card, few, sizeof few), 18, STEP, 1);
+    card[9] = 0;
+    told(kit_read(card, sizeof card, sample_sheet, 10), 17, STEP, 0);
+    card[9] = 4;
+    card[39] = 1; /* name 30 must be used */
+    told(kit_read(card, sizeof card, sample_sheet, 10), 19, STEPS, 0);
+}
+
 /* kit_read only reads, so card and sheet may overlap or be the same. */
 static void overlapping(void) {
     told(kit_read(sample, sizeof sample, sample, sizeof sample), 12, SHEET, 0);
@@ -249,6 +268,7 @@ int main(void) {
     cards_refused();
     plans_refused();
     sheets_refused();
+    steps_refused();
     overlapping();
     joined(53);
     joined(2891);

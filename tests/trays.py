@@ -11,44 +11,9 @@ import pathlib
 import re
 import sys
 
-from cards import card, store, word
+from cards import DONE, REST, all_of, both, either, gives, lend, store, tray, word
 
 ROOT = pathlib.Path(__file__).resolve().parent.parent
-
-# Formulas as nested tuples: a name is a string; ("rest",), ("done",), ("both", G, H), ("either", G, H), ("lend", D, G), ("gives", G, D).
-REST, DONE = ("rest",), ("done",)
-
-
-def both(g, h):
-    return ("both", g, h)
-
-
-def either(g, h):
-    return ("either", g, h)
-
-
-def lend(d, g):
-    return ("lend", d, g)
-
-
-def gives(g, d):
-    return ("gives", g, d)
-
-
-def all_of(parts):
-    """A balanced "both" of the parts."""
-    if len(parts) == 1:
-        return parts[0]
-    half = (len(parts) + 1) // 2
-    return both(all_of(parts[:half]), all_of(parts[half:]))
-
-
-def tray(goal, rules=(), must=(), may=(), lines=None, d=4, s=8):
-    """The card of a tray; lines, where given, is a list of (formula, must/may byte) in the card's order."""
-    if lines is None:
-        lines = [(f, 1) for f in must] + [(f, 0) for f in may]
-    return card(goal, list(rules), list(lines), d, s)
-
 
 def planned(steps, marks):
     return "plan " + " ".join([str(len(steps))] + [str(e) for e in steps]) + " marks" + "".join(f" {m}" for m in marks)

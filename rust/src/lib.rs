@@ -25,9 +25,11 @@ pub enum Place {
     Sheet,
     Steps,
     Mark(u16),
+    /// Counted from 0. One that is missing stands behind the last.
+    Step(u16),
 }
 
-/// A refusal: its number, 1 to 16, and its place.
+/// A refusal: its number, 1 to 19, and its place.
 #[derive(Clone, Copy, Debug, PartialEq, Eq)]
 pub struct Refusal {
     pub number: u8,
@@ -148,6 +150,7 @@ impl Place {
             4 => Place::Sheet,
             5 => Place::Steps,
             6 => Place::Mark(index),
+            7 => Place::Step(index),
             _ => unreachable!("no place has the number {number}"),
         }
     }
@@ -162,6 +165,7 @@ impl Place {
             Place::Sheet => ("sheet", None),
             Place::Steps => ("steps", None),
             Place::Mark(i) => ("mark", Some(i)),
+            Place::Step(i) => ("step", Some(i)),
         }
     }
 }
@@ -182,10 +186,13 @@ impl Refusal {
             10 => "buffer shorter than 5 + s + T or, joining, than the joined card",
             11 => "no derivation within limits",
             12 => "sheet under 5 bytes, length field not the bytes lent, version not 1, T not the card's, length not 5 + k + T, or k above s",
-            13 => "steps are not the list of a derivation within limits",
+            13 => "the step names no rule, line or lent part in scope that gives the name wanted there",
             14 => "a mark is not the true one",
             15 => "joined P, T or N past its limit, or the new goal's height above 8",
             16 => "line not below the joined T",
+            17 => "the step stands inside more uses than the nesting limit allows",
+            18 => "the step is missing (more is wanted) or one too many (nothing is wanted any more)",
+            19 => "a part is used twice, a must line is neither used nor left to rest, a lent part is left over, or the sides of \"either way\" use different parts",
             _ => "unknown",
         }
     }
@@ -240,6 +247,10 @@ mod tests {
         assert_eq!(unpacked(0x0601_01ff), Err(node));
         let mark = Refusal { number: 14, place: Place::Mark(63) };
         assert_eq!(unpacked(0x0e06_003f), Err(mark));
+        let step = Refusal { number: 18, place: Place::Step(255) };
+        assert_eq!(unpacked(0x1207_00ff), Err(step));
+        let steps = Refusal { number: 19, place: Place::Steps };
+        assert_eq!(unpacked(0x1305_0000), Err(steps));
     }
 
     fn of(card: Option<Which>, number: u8, place: Place) -> BenchRefusal {
@@ -263,7 +274,7 @@ mod tests {
     #[test]
     fn places_have_four_bits() {
         for card in 0..3 {
-            for (number, place) in [(0, Place::Card), (1, Place::Node(7)), (6, Place::Mark(7))] {
+            for (number, place) in [(0, Place::Card), (1, Place::Node(7)), (7, Place::Step(7))] {
                 let answer = 0x0600_0007 | card << 20 | number << 16;
                 assert_eq!(unpacked(answer), Err(Refusal { number: 6, place }));
             }
@@ -276,6 +287,11 @@ mod tests {
         assert_eq!(none.to_string(), "refused 11 at card: no derivation within limits");
         let rule = Refusal { number: 8, place: Place::Rule(3) };
         assert_eq!(rule.to_string(), "refused 8 at rule 3: rule not below N or not a clause");
+        let step = Refusal { number: 17, place: Place::Step(0) };
+        assert_eq!(
+            step.to_string(),
+            "refused 17 at step 0: the step stands inside more uses than the nesting limit allows"
+        );
         let line = of(None, 16, Place::Line(9));
         assert_eq!(line.to_string(), "refused 16 at line 9: line not below the joined T");
         let rule = of(Some(Which::First), 8, Place::Rule(3));

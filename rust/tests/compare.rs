@@ -4,6 +4,7 @@ mod met;
 mod model;
 
 use cards::{any_card, Draft, Random};
+use kit_planner::Place;
 use met::{compare_plan, Met};
 use model::decode;
 
@@ -170,8 +171,76 @@ mod reading {
         }
         println!("sheets drawn: {drawn:?}\nreads: {met:?}");
         drawn.enough(5_000);
-        met.all(&[1, 2, 3, 4, 5, 6, 7, 8, 9, 12, 13, 14]);
+        met.all(&[1, 2, 3, 4, 5, 6, 7, 8, 9, 12, 13, 14, 17, 18, 19]);
         met.enough(6_400);
+    }
+
+    /// One fault in the steps: one of them changed, some cut off, more behind them, two swapped, one twice, one
+    /// left out.
+    fn damage_steps(r: &mut Random, steps: &mut Vec<u8>) {
+        let n = steps.len();
+        match r.below(6) {
+            0 if n > 0 => steps[r.below(n)] = r.below(9) as u8,
+            1 => steps.truncate(r.below(n + 1)),
+            2 => steps.extend((0..1 + r.below(2)).map(|_| r.below(9) as u8)),
+            3 if n > 1 => steps.swap(r.below(n), r.below(n)),
+            4 if n > 0 => steps.insert(r.below(n), steps[r.below(n)]),
+            _ if n > 0 => drop(steps.remove(r.below(n))),
+            _ => steps.push(r.below(9) as u8),
+        }
+    }
+
+    /// Sheets of a sound card whose length, k and marks are those of their steps, but for one mark now and then.
+    #[test]
+    fn damaged_steps_agree() {
+        let mut r = Random::new(8);
+        let (mut drawn, mut met) = (Met::default(), Met::default());
+        for _ in 0..30_000 {
+            let bytes = Draft::sound(&mut r, 3, 4).bytes();
+            let card = decode::card(&bytes).expect("a sound card");
+            let sheet = any_sheet(&mut r, &mut drawn, &bytes);
+            let mut steps = sheet[5..5 + usize::from(sheet[3])].to_vec();
+            for _ in 0..4 {
+                let mut sheet = model::sheet(&card, &steps);
+                if r.once_in(6) {
+                    *sheet.last_mut().expect("five bytes or more") ^= 1;
+                }
+                compare_read(&mut met, &bytes, &sheet);
+                damage_steps(&mut r, &mut steps);
+            }
+        }
+        println!("sheets drawn: {drawn:?}\ndamaged steps: {met:?}");
+        drawn.enough(8_000);
+        met.each(&[12, 13, 14, 17, 18, 19], 1_800);
+        met.enough(12_000);
+    }
+
+    /// The walk wants 256 steps, so the last is missing from a sheet of the most steps that there can be. A missing
+    /// step is told as missing even where it would be nested above d.
+    #[test]
+    fn the_step_behind_255_is_missing() {
+        let mut c = Draft::limits(2, 255);
+        let (a, b) = (c.name(0), c.name(1));
+        c.rule(&[b], a);
+        c.rule(&[], b);
+        c.goal = c.both(&[a; 128]);
+        let whole = [0, 1].repeat(128);
+        let of = |card: &Draft, k: usize| {
+            let bytes = card.bytes();
+            let sheet = model::sheet(&decode::card(&bytes).expect("a sound card"), &whole[..k]);
+            let answer = kit_planner::read(&bytes, &sheet);
+            assert_eq!(answer, model::read(&bytes, &sheet));
+            answer.map_err(|refusal| (refusal.number, refusal.place))
+        };
+        assert_eq!(of(&c, 255), Err((18, Place::Step(255))));
+        assert_eq!(of(&c, 254), Err((18, Place::Step(254))));
+        assert_eq!(of(&c, 0), Err((18, Place::Step(0))));
+        c.d = 1;
+        assert_eq!(of(&c, 255), Err((17, Place::Step(1))));
+        assert_eq!(of(&c, 1), Err((18, Place::Step(1))));
+        c.d = 0;
+        assert_eq!(of(&c, 1), Err((17, Place::Step(0))));
+        assert_eq!(of(&c, 0), Err((18, Place::Step(0))));
     }
 
     /// A goal done with no lines and s = 5, whose bytes 9 to 13 are its sheet.
@@ -211,7 +280,7 @@ mod reading {
         }
         println!("sheets drawn: {drawn:?}\noverlapping reads: {met:?}");
         drawn.enough(1_130);
-        met.all(&[12, 13]);
+        met.all(&[12, 13, 18, 19]);
         met.enough(1_200);
     }
 }

@@ -9,6 +9,8 @@ use card::Refusal;
 use card::format::byte;
 use card::format::word;
 use planner::Answer;
+use show::at_most;
+use show::part_end;
 ghost use Prim.Native.Nat.{_≤_, _<_};
 ghost use lib.ListN.{length};
 
@@ -160,23 +162,6 @@ fn outcome<'a>(first: &'a [u8], second: &'a [u8], size: usize)
 {
     let mut buffer = [FILL; 2900];
     bench_into(first, second, &mut buffer[..size]);
-}
-
-fn at_most(n: usize, most: usize) -> usize
-    ensures { λ r. ⌜ (r ≤ n) × (r ≤ most) ⌝ }
-{
-    if most < n {
-        return most;
-    }
-    n
-}
-
-// Where a record's part of n bytes at `from` ends; the input's end where it would run past that.
-fn part_end(input: &[u8], from: usize, n: usize) -> usize
-    requires { ⌜ from ≤ length (now input) ⌝ }
-    ensures { λ r. ⌜ (from ≤ r) × (r ≤ length (now (input .entry))) ⌝ }
-{
-    from + at_most(n, input.len() - from)
 }
 
 // Runs one record and tells where the next begins.

@@ -5,6 +5,8 @@ pub mod SummaryExact
 pub mod WindowExact
 pub mod EnumerationExact
 pub mod TraceExact
+pub mod WalkExact
+pub mod WalksByHand
 pub mod ListsNameWays
 pub mod RenamingKeeps
 pub mod JobsBeside

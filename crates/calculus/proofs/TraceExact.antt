@@ -11,8 +11,9 @@ use Rattle.calculus.specs.Derivation.{Scope, clauseAt, linearAt, residua
 use Rattle.calculus.specs.Job.{Job, Listed}
 use Rattle.calculus.specs.Inner.Summary.{Same, Sum, sum-1, sum-⊤, sum-⊗, sum-&, sum-⊸, sum-rule, sum-item, Bounded, Agree}
 use Rattle.calculus.specs.Inner.Window.{Counts}
-use Rattle.calculus.specs.Inner.Trace.{Part, goal, meet, Gathered, Says, Apart, Ends, Tensors, Withs, Lends, UsesRule, UsesItem}
-use Rattle.calculus.specs.Inner.Trace.{trace-1, trace-⊤, trace-⊗, trace-&, trace-⊸, trace-rule, trace-item, trace-head, trace-recipe}
+use Rattle.calculus.specs.Wanted.{Part, goal, meet}
+use Rattle.calculus.specs.Inner.Trace.{Gathered, Says, Apart, Ends, Fails, Tensors, Withs, Lends, UsesRule, UsesItem}
+use Rattle.calculus.specs.Inner.Trace.{trace-1, trace-⊤, trace-0, trace-⊗, trace-&, trace-⊸, trace-rule, trace-item, trace-head, trace-recipe}
 use Rattle.calculus.specs.Inner.Trace.{Trace, Agreed, Accounts}
 use Rattle.calculus.proofs.SetLaws.{same-path, split-joins}
 use Rattle.calculus.proofs.WindowExact.{listed}
@@ -39,6 +40,7 @@ part-sum : {n : ℕ} {es : Scope} {p : Part} {w : Gathered} → Trace n es p w �
 unfolding matched residual residualAt
 part-sum (trace-1 e) h = sum-1-at e
 part-sum (trace-⊤ e) h = sum-at (e .no-list) refl (e .slack-is) (sum-⊤ (e .unused))
+part-sum (trace-0 e) h = absurd (false≢true (sym (e .is-dead) ∙ h))
 part-sum (trace-⊗ s x y) h =
     let k = s .alives .0 h in sum-⊗ (s .lists) (splits s (k .2)) (s .slacks) (part-sum x (k .0)) (part-sum y (k .1))
 part-sum (trace-& s x y) h =
@@ -139,7 +141,7 @@ known p p′ j j′ e e′ a q =
     record { lists = p ∙ sym p′; rests = q; items = record { same = λ i. j i ∙ sym (j′ i) }; slacks = e ∙ sym e′; alives = a }
 
 -- what two lists that begin one list are equal to begins one list too
-begun : {k k′ l l′ : List ℕ} (r t : List ℕ) → k ≡ l → k′ ≡ l′ → k ++ r ≡ k′ ++ t → l ++ r ≡ l′ ++ t
+pub begun : {k k′ l l′ : List ℕ} (r t : List ℕ) → k ≡ l → k′ ≡ l′ → k ++ r ≡ k′ ++ t → l ++ r ≡ l′ ++ t
 begun r t p q h = sym (ap (_++ r) p) ∙ h ∙ ap (_++ t) q
 
 -- two walks agree, whatever follows their lists
@@ -149,6 +151,10 @@ Alike w x = (r t : List ℕ) → w .list ++ r ≡ x .list ++ t → Agreed w x r 
 agree-ends : {w x : Gathered} {v : Bool} → Ends w v → Ends x v → Alike w x
 agree-ends e f r t h = known (e .no-list) (f .no-list) (e .unused .vacant) (f .unused .vacant) (e .slack-is) (f .slack-is)
     (e .is-alive ∙ sym (f .is-alive)) (begun r t (e .no-list) (f .no-list) h)
+
+agree-fails : {w x : Gathered} → Fails w → Fails x → Alike w x
+agree-fails e f r t h = known (e .no-list) (f .no-list) (e .unused .vacant) (f .unused .vacant) (e .slack-is) (f .slack-is)
+    (e .is-dead ∙ sym (f .is-dead)) (begun r t (e .no-list) (f .no-list) h)
 
 -- two parts are walked one after the other
 both : {x x′ y y′ : Gathered} {k k′ : List ℕ} → k ≡ x .list ++ y .list → k′ ≡ x′ .list ++ y′ .list → Alike x x′ → Alike y y′
@@ -212,6 +218,7 @@ rule-or-item es r t p q s c h = false≢true (sym p ∙ ap (linearAt es) (head-e
 alike : {n m : ℕ} {es : Scope} {p : Part} {w x : Gathered} → Trace n es p w → Trace m es p x → Alike w x
 alike (trace-1 e) (trace-1 f) = agree-ends e f
 alike (trace-⊤ e) (trace-⊤ f) = agree-ends e f
+alike (trace-0 e) (trace-0 f) = agree-fails e f
 alike (trace-⊗ s x y) (trace-⊗ c x′ y′) = agree-⊗ s c (alike x x′) (alike y y′)
 alike (trace-& s x y) (trace-& c x′ y′) = agree-& s c (alike x x′) (alike y y′)
 alike (trace-⊸ s x) (trace-⊸ c x′) = agree-⊸ s c (alike x x′)

@@ -4,5 +4,7 @@ pub mod Items
 pub mod Derivation
 pub mod Steps
 pub mod Job
+pub mod Walk
+pub mod Wanted
 pub mod Ways
 pub mod Inner

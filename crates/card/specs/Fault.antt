@@ -1,17 +1,17 @@
 -- The refusals 1 to 9 (01, "Refused, and where") and soundness.
-use Prim.Native.Nat.{ℕ, _+_, _<_, max}
+use Prim.Native.Nat.{ℕ, _+_, _≤_, _<_, max}
 use mathlib.Core.Path.{_≡_}
 use mathlib.Core.Bool.{Bool, true, false, not, _&&_}
 use mathlib.Core.Option.{Option, none, some}
 use mathlib.Core.List.{List}
 use lib.ListN.{length, getD}
 use lib.Dec.{leb, ltb, eqb}
-use Rattle.card.specs.Format.{lengthField, version, ruleCount, lineCount, nodeCount, goalNode, depthLimit, kindAt, leftAt, rightAt}
+use Rattle.card.specs.Format.{lengthField, version, ruleCount, lineCount, nodeCount, goalNode, depthLimit, stepLimit, kindAt, leftAt, rightAt}
 use Rattle.card.specs.Format.{ruleNode, lineNode, lineByte, cardLength, grow}
 use Rattle.card.specs.declared.kinds.Field.{Field}
 use Rattle.card.specs.declared.kinds.Field.the-variants.{Unused, Name, GoalPart, ClausePart, Unknown}
 use Rattle.card.specs.Kinds.{kindOf}
-use Rattle.card.specs.Verdict.{Verdict, Where, sound, card, node, rule, line, sheet, steps, mark, refuse, _▹_, firstOf}
+use Rattle.card.specs.Verdict.{Verdict, Where, sound, card, node, rule, line, sheet, steps, mark, step, refuse, _▹_, firstOf}
 
 -- Refusals 1 to 5: the card's front.
 unfoldable pub inRange : List ℕ → Bool
@@ -101,6 +101,7 @@ firstFault bs =
     ▹ firstOf (lineCount bs) (lineFault bs)
 
 -- Demand 1, "refused with its number and place": the index of a place is that of a node, rule or line of the card; a mark's is its line's.
+-- A step's is at most s: a step that is missing stands behind the last.
 unfoldable pub Placed : List ℕ → Where → Type 0
 Placed bs card = Unit {0}
 Placed bs (node i) = i < nodeCount bs
@@ -109,6 +110,7 @@ Placed bs (line i) = i < lineCount bs
 Placed bs sheet = Unit {0}
 Placed bs steps = Unit {0}
 Placed bs (mark i) = i < lineCount bs
+Placed bs (step i) = i ≤ stepLimit bs
 
 -- "A card is sound if it meets none of 1 to 9 below."
 pub record Sound (bs : List ℕ) : Type 0 where

@@ -2,14 +2,14 @@
 use Prim.Native.Nat.{ℕ, zero, suc}
 use mathlib.Core.Bool.{Bool, true, false}
 use Rattle.card.specs.declared.Place.{Place}
-use Rattle.card.specs.declared.Place.the-variants.{Card, Node, Rule, Line, Sheet, Steps, Mark}
+use Rattle.card.specs.declared.Place.the-variants.{Card, Node, Rule, Line, Sheet, Steps, Mark, Step}
 use Rattle.card.specs.declared.Checked.{Checked}
 use Rattle.card.specs.declared.Checked.the-variants.{Sound, Refused}
 
--- "the place names its thing: card, node i, rule i, line i, sheet, steps or mark i"
+-- "the place names its thing: card, node i, rule i, line i, sheet, steps or mark i"; 02, #102: "place step i"
 pub data Where : Type 0 where
   card sheet steps : Where
-  node rule line mark : ℕ → Where
+  node rule line mark step : ℕ → Where
 
 -- What a check finds: nothing, or a number with its place.
 pub data Verdict : Type 0 where
@@ -41,6 +41,7 @@ whereOf (Line i) = line i
 whereOf Sheet = sheet
 whereOf Steps = steps
 whereOf (Mark i) = mark i
+whereOf (Step i) = step i
 
 -- 01's number and place for each case of the enum `Checked`
 unfoldable pub told : Checked → Verdict

@@ -6,7 +6,7 @@ ghost use mathlib.Core.Path.{_≡_};
 ghost use mathlib.Core.Bool.{_&&_, _||_};
 ghost use Rattle.card.specs.Verdict.{told, refuse, whereOf};
 
-// 01: "the place names its thing".
+// 01: "the place names its thing"; 02, #102: "place step i".
 pub enum Place {
     Card,
     Node(u16),
@@ -15,6 +15,7 @@ pub enum Place {
     Sheet,
     Steps,
     Mark(u16),
+    Step(u16),
 }
 
 // 01: "A refusal is a number with a place".

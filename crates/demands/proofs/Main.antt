@@ -1,26 +1,32 @@
--- The three demands on one page, and two cards on one bench, each proved by citing the theorem that does the work.
+-- The three demands on one page, what is wrong in the steps, and two cards on one bench, each proved by citing the theorem that does the work.
 --
 -- The contract of planner::plan says of its answer and of the buffer afterwards that they are a `Planning` of the card and the buffer
 -- before; that of reader::read says of its answer that it is a `Reading` of the card and the sheet. Neither asks anything of its
 -- arguments. So what is said here of every outcome is said of every call.
 use Prim.Native.Nat.{ℕ, _+_, _≤_, _<_}
 use mathlib.Core.Path.{_≡_}
-use mathlib.Core.Logic.{_↔_}
+use mathlib.Core.Logic.{_↔_, _⊎_}
 use mathlib.Core.Bool.{true}
 use mathlib.Core.List.{List}
 use lib.ListN.{length, take}
 use Rattle.calculus.specs.Steps.{steps, stands}
 use Rattle.calculus.specs.Job.{Derivable, Listed}
+use Rattle.calculus.specs.Walk.{ItemsDivide}
 use Rattle.calculus.specs.Ways.{ListsNameWays}
 use Rattle.calculus.proofs.ListsNameWays.{job-lists-name-ways}
-use Rattle.card.specs.Format.{Bytes, ruleCount, lineCount}
+use Rattle.card.specs.Format.{Bytes, ruleCount, lineCount, stepLimit}
+use Rattle.card.specs.Verdict.{sound, step, steps as whole-steps}
 use Rattle.card.specs.Fault.{Sound}
 use Rattle.card.specs.Decode.{jobOf}
 use Rattle.card.proofs.StepsFitAByte.{steps-fit}
 use Rattle.planning.specs.Plan.{PlanVerdict, planned, roomOf, Planning, PlanDecided, Carries}
 use Rattle.planner.proofs.PlannedExactly.{plan-decided, plan-determined, planned-exactly, planned-sheet}
-use Rattle.reader.specs.Read.{ReadVerdict, accepted, Reading, ReadDecided, Holds, AcceptsExactly}
+use Rattle.sheet_front.specs.Front.{stepsOf, sheetFault}
+use Rattle.trace.specs.Steps.{stepsFault}
+use Rattle.trace.proofs.StepsMean.{WrongStep, ExtraStep, none-found}
+use Rattle.reader.specs.Read.{ReadVerdict, accepted, refused, Reading, ReadDecided, Holds, AcceptsExactly}
 use Rattle.reader.proofs.AcceptedExactly.{read-decided, read-determined, accepts-exactly, holds-accepted}
+use Rattle.reader.proofs.StepsRefused.{thirteen-told, seventeen-told, eighteen-told, nineteen-told}
 use Rattle.bench.specs.Bench.{JoinVerdict, joined, Joining, JoinDecided, sourceOf, SourceDecided}
 use Rattle.bench.proofs.BenchDecided.{join-decided, join-determined, source-decided}
 use Rattle.demands.proofs.WrittenIsRead as WrittenIsRead
@@ -77,6 +83,29 @@ written-is-read = WrittenIsRead.written-is-read
 pub steps-fit-a-byte : {bs : List ℕ} → Sound bs → (d : Derivable (jobOf bs)) (e : ℕ) → stands e (steps (d .derivation .tree)) ≡ true
     → e < ruleCount bs + lineCount bs + 103
 steps-fit-a-byte = steps-fit
+
+-- "Say what is wrong in the steps" (02, #102), of a sound card and a sheet that fits it. 13: step i names no entry in scope whose head is
+-- the name wanted. 17: step i is nested above d. 18: step i is the first missing or extra one. In each case the steps before it are the
+-- beginning of a walk, or, where step i is an extra one, all of it.
+module _ {bs sh : List ℕ} (s : Sound bs) (f : sheetFault bs sh ≡ sound) (i : ℕ) where
+  pub thirteen-means : Reading bs sh (refused 13 (step i)) ↔ WrongStep bs (stepsOf sh) 13 i
+  thirteen-means = thirteen-told s f i
+
+  pub seventeen-means : Reading bs sh (refused 17 (step i)) ↔ WrongStep bs (stepsOf sh) 17 i
+  seventeen-means = seventeen-told s f i
+
+  pub eighteen-means : Reading bs sh (refused 18 (step i)) ↔ (WrongStep bs (stepsOf sh) 18 i ⊎ ExtraStep bs (stepsOf sh) i)
+  eighteen-means = eighteen-told s f i
+
+-- 19: "the walk is right but the items don't divide as the rules ask".
+pub nineteen-means : {bs sh : List ℕ} → Sound bs → sheetFault bs sh ≡ sound
+    → Reading bs sh (refused 19 whole-steps) ↔ ((stepsFault bs (stepsOf sh) ≡ sound) × (ItemsDivide (jobOf bs) (stepsOf sh) → ⊥))
+nineteen-means = nineteen-told
+
+-- So steps, no more than s, that have none of the four are the list of a derivation within limits, and the other way round.
+pub listed-if-none : (bs l : List ℕ) → length l ≤ stepLimit bs
+    → ((stepsFault bs l ≡ sound) × ItemsDivide (jobOf bs) l) ↔ Listed (jobOf bs) l
+listed-if-none = none-found
 
 -- Two cards on one bench (02, #101). The contract of bench::join says of its answer and of the buffer afterwards that they are a `Joining` of
 -- both cards and the buffer before; that of bench::locate says that its answer is `sourceOf` the cards and the index. Neither asks

@@ -2,14 +2,14 @@
 use Prim.Native.Nat.{ℕ, _+_, _*_, _^_, _≤_, _<_}
 use native.Mathlib.Omega.{arith}
 use mathlib.Core.Path.{_≡_, refl, sym, ap, ap₂, _∙_}
-use mathlib.Core.Logic.{⊎-elim}
+use mathlib.Core.Logic.{_⊎_, inl, inr}
 use mathlib.Core.List.{List}
 use borrow.Author.Tests.{eq-eqb, ne-eqb}
 use Rattle.card.specs.declared.Place.{Place}
 use Rattle.card.specs.declared.Refusal.{Refusal}
 use Rattle.card.specs.Format.{Bytes}
 use Rattle.card.specs.Fault.{Placed}
-use Rattle.card.specs.Verdict.{Where, card, node, rule, line, sheet, steps, mark, whereOf}
+use Rattle.card.specs.Verdict.{Where, card, node, rule, line, sheet, steps, mark, step, whereOf}
 use Rattle.planning.specs.declared.Answer.{Answer}
 use Rattle.planning.specs.declared.Answer.the-variants.{Planned, Refused}
 use Rattle.planning.specs.Plan.{PlanVerdict, planned, refused, toldPlan, PlanDecided, is-planned, is-refused}
@@ -34,9 +34,10 @@ indexOf (line i) = i
 indexOf sheet = 0
 indexOf steps = 0
 indexOf (mark i) = i
+indexOf (step i) = i
 
 -- a number whose place is in the table and has an index, or has none and tells none
-module _ (r : ℕ) {n m i : ℕ} (h : (numberIn r ≡ n) × (placeIn r ≡ m) × (indexIn r ≡ i)) (l : m < 7) where
+module _ (r : ℕ) {n m i : ℕ} (h : (numberIn r ≡ n) × (placeIn r ≡ m) × (indexIn r ≡ i)) (l : m < 8) where
   plain-at : (placeOf m 0 ≡ placeOf m 1 → i ≡ 0) → Plain r
   unfolding places
   plain-at b = record {
@@ -107,6 +108,7 @@ numbered b (line i) h = record { place = 3; index = i; few = omega arith; fits =
 numbered b sheet h = record { place = 4; index = 0; few = omega arith; fits = omega arith; reads = refl }
 numbered b steps h = record { place = 5; index = 0; few = omega arith; fits = omega arith; reads = refl }
 numbered b (mark i) h = record { place = 6; index = i; few = omega arith; fits = omega (arith, b .byte 4); reads = refl }
+numbered b (step i) h = record { place = 7; index = i; few = omega arith; fits = omega (arith, b .byte 10); reads = refl }
 
 -- an outcome's number has 32 bits and reads as it
 module _ {A : Type 0} (fine : ℕ → A) (refusal : ℕ → Where → A) where
@@ -133,13 +135,26 @@ unfolding planIn
 plan-back b (is-planned {k} h) = fine-back planned refused k (omega (arith, b .byte 10))
 plan-back b (is-refused {n} {w} h p e) = refused-back planned refused b n w p (h .0) (omega (arith, h .1))
 
+-- the reader's numbers are 1 to 19
+abbrev Read : ℕ → Type 0
+Read n = ((1 ≤ n) × (n ≤ 9)) ⊎ (((12 ≤ n) × (n ≤ 14)) ⊎ ((17 ≤ n) × (n ≤ 19)))
+
+read-low : {n : ℕ} → Read n → 1 ≤ n
+read-low (inl h) = h .0
+read-low (inr (inl h)) = omega (arith, h .0)
+read-low (inr (inr h)) = omega (arith, h .0)
+
+read-high : {n : ℕ} → Read n → n < 256
+read-high (inl h) = omega (arith, h .1)
+read-high (inr (inl h)) = omega (arith, h .1)
+read-high (inr (inr h)) = omega (arith, h .1)
+
 -- THEOREM. A reader's decision has a number that reads as it.
 pub read-back : {bs : List ℕ} {v : ReadVerdict} → Bytes bs → ReadDecided bs v → (r : ℕ) × (r < 2 ^ 32) × (readIn r ≡ v)
 unfolding readIn
 read-back b (is-accepted {k} h) = fine-back accepted not-accepted k (omega (arith, b .byte 10))
 read-back b (is-not-accepted {n} {w} h p) =
-    refused-back accepted not-accepted b n w p (⊎-elim (λ q. q .0) (λ q. omega (arith, q .0)) h)
-    (⊎-elim (λ q. omega (arith, q .1)) (λ q. omega (arith, q .1)) h)
+    refused-back accepted not-accepted b n w p (read-low h) (read-high h)
 
 -- a decision's refusal has a number that is not 0
 pub plan-nonzero : {bs old new : List ℕ} {v : PlanVerdict} → PlanDecided bs old new v → Nonzero refused v
@@ -149,8 +164,7 @@ plan-nonzero (is-refused {n} {w} h p e) = record { nonzero = λ m v q. let z : n
 pub read-nonzero : {bs : List ℕ} {v : ReadVerdict} → ReadDecided bs v → Nonzero not-accepted v
 read-nonzero (is-accepted h) = record { nonzero = λ n w e. let z : _≡_ {A = ℕ} 0 1 = cc in absurd (omega arith) }
 read-nonzero (is-not-accepted {n} {w} h p) =
-    let low = ⊎-elim (λ q. q .0) (λ q. omega (arith, q .0)) h in
-    record { nonzero = λ m v q. let z : n ≡ m = cc in omega (arith, low) }
+    record { nonzero = λ m v q. let z : n ≡ m = cc in omega (arith, read-low h) }
 
 -- a planner's answer that is known, told as the number r
 module _ (r : ℕ) (a : Answer) where

@@ -7,7 +7,7 @@ use mathlib.Core.Bool.{cond, _&&_}
 use mathlib.Core.List.{List, [], _∷_}
 use lib.ListN.{length, getD}
 use lib.Dec.{eqb}
-use Rattle.card.specs.Verdict.{Where, card, node, rule, line, sheet, steps, mark}
+use Rattle.card.specs.Verdict.{Where, card, node, rule, line, sheet, steps, mark, step}
 use Rattle.planning.specs.Plan.{PlanVerdict, planned, refused}
 use Rattle.reader.specs.Read.{ReadVerdict, accepted, refused as not-accepted}
 
@@ -25,7 +25,7 @@ indexIn r = r % 2 ^ 16
 
 -- the places by their numbers, from 0, with the index
 unfoldable pub places : ℕ → List Where
-places i = card ∷ node i ∷ rule i ∷ line i ∷ sheet ∷ steps ∷ mark i ∷ []
+places i = card ∷ node i ∷ rule i ∷ line i ∷ sheet ∷ steps ∷ mark i ∷ step i ∷ []
 
 unfoldable pub placeOf : ℕ → ℕ → Where
 placeOf p i = getD (places i) p card

@@ -34,6 +34,7 @@ pub fn packed_refusal(refusal: Refusal) -> u32
         Place::Sheet => packed(n, 4, 0),
         Place::Steps => packed(n, 5, 0),
         Place::Mark(i) => packed(n, 6, i),
+        Place::Step(i) => packed(n, 7, i),
     }
 }
 

@@ -9,8 +9,9 @@ use lib.ListN.{length, getD, drop, length-append, length-drop, take-append-drop}
 use lib.Seq.{take-append-seam, drop-append-seam, drop-drop, ext-getD}
 use borrow.Author.Tests.{eqb-true, not-false}
 use Rattle.calculus.specs.Job.{Listed, First}
-use Rattle.card.specs.Format.{byteAt, Bytes, lineCount, listing}
-use Rattle.card.specs.Verdict.{Verdict, Where, sound, fault, firstOf}
+use Rattle.calculus.specs.Walk.{ItemsDivide}
+use Rattle.card.specs.Format.{byteAt, Bytes, lineCount, stepLimit, listing}
+use Rattle.card.specs.Verdict.{Verdict, Where, sound, firstOf}
 use Rattle.card.specs.Fault.{Placed, Sound}
 use Rattle.card.specs.Decode.{jobOf}
 use Rattle.card.specs.Sheet.{markOf, marksOf, word, sheetOf}
@@ -21,38 +22,56 @@ use Rattle.card.proofs.FaultsInRange.{Tells, tells-refuse, tells-first, fault-i
 use Rattle.sheet_front.specs.Front.{stepCount, stepsOf, marksIn, sheetFault}
 use Rattle.sheet_front.specs.Inner.Fitting.{Fitting}
 use Rattle.marks.specs.Marks.{markFault}
+use Rattle.trace.specs.Steps.{stepsFault}
+use Rattle.trace.proofs.StepsMean.{none-found, steps-placed}
 use Rattle.sheet_front.proofs.SheetFits.{fitting, all-fit, sheet-fits, steps-length}
 use Rattle.marks.proofs.LinesMarked.{mark-right}
-use Rattle.reader.specs.Read.{ReadVerdict, accepted, refused, marksFault, Reading, faulty, misfit, no-list, wrong-mark, accepted-as}
+use Rattle.reader.specs.Read.{ReadVerdict, accepted, refused, marksFault, Reading, faulty, misfit, astray, undivided, wrong-mark}
+use Rattle.reader.specs.Read.{accepted-as}
 use Rattle.reader.specs.Read.{ReadDecided, is-accepted, is-refused, Holds, AcceptsExactly}
+
+-- a list of a derivation within limits has none of 13, 17, 18 and 19
+listed-found : (bs l : List ℕ) → Listed (jobOf bs) l → (stepsFault bs l ≡ sound) × ItemsDivide (jobOf bs) l
+listed-found bs l x = none-found bs l (listed-short bs l x) .1 x
 
 -- "Card, the reader's sheet .. and these rules therefore determine every answer": the cases of an outcome exclude each other.
 pub read-determined : {bs sh : List ℕ} {a b : ReadVerdict} → Reading bs sh a → Reading bs sh b → a ≡ b
 read-determined (faulty p) (faulty q) = same-fault refused p q
-read-determined (faulty p) (misfit s q) = absurd (sound-or-faulty (s .faultless) p)
-read-determined (faulty p) (no-list s f n) = absurd (sound-or-faulty (s .faultless) p)
-read-determined (faulty p) (wrong-mark s f x q) = absurd (sound-or-faulty (s .faultless) p)
-read-determined (faulty p) (accepted-as s f x m) = absurd (sound-or-faulty (s .faultless) p)
+read-determined (faulty p) (misfit t q) = absurd (sound-or-faulty (t .faultless) p)
+read-determined (faulty p) (astray t g q) = absurd (sound-or-faulty (t .faultless) p)
+read-determined (faulty p) (undivided t g q m) = absurd (sound-or-faulty (t .faultless) p)
+read-determined (faulty p) (wrong-mark t g y q) = absurd (sound-or-faulty (t .faultless) p)
+read-determined (faulty p) (accepted-as t g y q) = absurd (sound-or-faulty (t .faultless) p)
 read-determined (misfit s p) (faulty q) = absurd (sound-or-faulty (s .faultless) q)
 read-determined (misfit s p) (misfit t q) = same-fault refused p q
-read-determined (misfit s p) (no-list t f n) = absurd (sound-or-faulty f p)
-read-determined (misfit s p) (wrong-mark t f x q) = absurd (sound-or-faulty f p)
-read-determined (misfit s p) (accepted-as t f x m) = absurd (sound-or-faulty f p)
-read-determined (no-list s f n) (faulty q) = absurd (sound-or-faulty (s .faultless) q)
-read-determined (no-list s f n) (misfit t q) = absurd (sound-or-faulty f q)
-read-determined (no-list s f n) (no-list t g m) = refl
-read-determined (no-list s f n) (wrong-mark t g x q) = absurd (n x)
-read-determined (no-list s f n) (accepted-as t g x m) = absurd (n x)
+read-determined (misfit s p) (astray t g q) = absurd (sound-or-faulty g p)
+read-determined (misfit s p) (undivided t g q m) = absurd (sound-or-faulty g p)
+read-determined (misfit s p) (wrong-mark t g y q) = absurd (sound-or-faulty g p)
+read-determined (misfit s p) (accepted-as t g y q) = absurd (sound-or-faulty g p)
+read-determined (astray s f p) (faulty q) = absurd (sound-or-faulty (s .faultless) q)
+read-determined (astray s f p) (misfit t q) = absurd (sound-or-faulty f q)
+read-determined (astray s f p) (astray t g q) = same-fault refused p q
+read-determined (astray s f p) (undivided t g q m) = absurd (sound-or-faulty q p)
+read-determined {bs} {sh} (astray s f p) (wrong-mark t g y q) = absurd (sound-or-faulty (listed-found bs (stepsOf sh) y .0) p)
+read-determined {bs} {sh} (astray s f p) (accepted-as t g y q) = absurd (sound-or-faulty (listed-found bs (stepsOf sh) y .0) p)
+read-determined (undivided s f p n) (faulty q) = absurd (sound-or-faulty (s .faultless) q)
+read-determined (undivided s f p n) (misfit t q) = absurd (sound-or-faulty f q)
+read-determined (undivided s f p n) (astray t g q) = absurd (sound-or-faulty p q)
+read-determined (undivided s f p n) (undivided t g q m) = refl
+read-determined {bs} {sh} (undivided s f p n) (wrong-mark t g y q) = absurd (n (listed-found bs (stepsOf sh) y .1))
+read-determined {bs} {sh} (undivided s f p n) (accepted-as t g y q) = absurd (n (listed-found bs (stepsOf sh) y .1))
 read-determined (wrong-mark s f x p) (faulty q) = absurd (sound-or-faulty (s .faultless) q)
 read-determined (wrong-mark s f x p) (misfit t q) = absurd (sound-or-faulty f q)
-read-determined (wrong-mark s f x p) (no-list t g n) = absurd (n x)
+read-determined {bs} {sh} (wrong-mark s f x p) (astray t g q) = absurd (sound-or-faulty (listed-found bs (stepsOf sh) x .0) q)
+read-determined {bs} {sh} (wrong-mark s f x p) (undivided t g q m) = absurd (m (listed-found bs (stepsOf sh) x .1))
 read-determined (wrong-mark s f x p) (wrong-mark t g y q) = same-fault refused p q
-read-determined (wrong-mark s f x p) (accepted-as t g y m) = absurd (sound-or-faulty m p)
-read-determined (accepted-as s f x m) (faulty q) = absurd (sound-or-faulty (s .faultless) q)
-read-determined (accepted-as s f x m) (misfit t q) = absurd (sound-or-faulty f q)
-read-determined (accepted-as s f x m) (no-list t g n) = absurd (n x)
-read-determined (accepted-as s f x m) (wrong-mark t g y q) = absurd (sound-or-faulty m q)
-read-determined (accepted-as s f x m) (accepted-as t g y n) = refl
+read-determined (wrong-mark s f x p) (accepted-as t g y q) = absurd (sound-or-faulty q p)
+read-determined (accepted-as s f x p) (faulty q) = absurd (sound-or-faulty (s .faultless) q)
+read-determined (accepted-as s f x p) (misfit t q) = absurd (sound-or-faulty f q)
+read-determined {bs} {sh} (accepted-as s f x p) (astray t g q) = absurd (sound-or-faulty (listed-found bs (stepsOf sh) x .0) q)
+read-determined {bs} {sh} (accepted-as s f x p) (undivided t g q m) = absurd (m (listed-found bs (stepsOf sh) x .1))
+read-determined (accepted-as s f x p) (wrong-mark t g y q) = absurd (sound-or-faulty p q)
+read-determined (accepted-as s f x p) (accepted-as t g y q) = refl
 
 marks-length : (bs l : List ℕ) → length (marksOf bs l) ≡ lineCount bs
 unfolding marksOf
@@ -154,7 +173,8 @@ module _ (bs l : List ℕ) where
 accepted-holds : {bs sh : List ℕ} {a : ReadVerdict} → Bytes sh → Reading bs sh a → (k : ℕ) → a ≡ accepted k → Holds bs sh k
 accepted-holds b (faulty q) k e = let z : _≡_ {A = ℕ} 0 1 = cc in absurd (omega arith)
 accepted-holds b (misfit s q) k e = let z : _≡_ {A = ℕ} 0 1 = cc in absurd (omega arith)
-accepted-holds b (no-list s f n) k e = let z : _≡_ {A = ℕ} 0 1 = cc in absurd (omega arith)
+accepted-holds b (astray s f q) k e = let z : _≡_ {A = ℕ} 0 1 = cc in absurd (omega arith)
+accepted-holds b (undivided s f q n) k e = let z : _≡_ {A = ℕ} 0 1 = cc in absurd (omega arith)
 accepted-holds b (wrong-mark s f x q) k e = let z : _≡_ {A = ℕ} 0 1 = cc in absurd (omega arith)
 accepted-holds {bs} {sh} b (accepted-as s f x m) k e = record {
   card = s;
@@ -176,25 +196,31 @@ accepts-exactly b r = record { exactly = λ k. (accepted-holds b r k, λ h. read
 pub round-trip : (bs l : List ℕ) → Sound bs → First (jobOf bs) l → Reading bs (sheetOf bs l) (accepted (length l))
 round-trip bs l s f = sheet-accepted bs l s (f .listed)
 
--- 12 and 14 tell of the sheet and of a mark that there is.
-abbrev OfSheet : List ℕ → ℕ → Where → Type 0
-OfSheet bs n w = (12 ≤ n) × (n ≤ 14) × Placed bs w
+-- 12 tells of the sheet, and 14 of a mark that there is.
+abbrev Of : List ℕ → ℕ → ℕ → Where → Type 0
+Of bs m n w = (n ≡ m) × Placed bs w
 
-sheet-told : (bs sh : List ℕ) → Tells (OfSheet bs) (sheetFault bs sh)
+sheet-told : (bs sh : List ℕ) → Tells (Of bs 12) (sheetFault bs sh)
 unfolding sheetFault Placed
-sheet-told bs sh = tells-refuse (OfSheet bs) _ (omega arith, omega arith, tt)
+sheet-told bs sh = tells-refuse (Of bs 12) _ (refl, tt)
 
-marks-told : (bs sh : List ℕ) → Tells (OfSheet bs) (marksFault bs sh)
+pub marks-told : (bs sh : List ℕ) → Tells (Of bs 14) (marksFault bs sh)
 unfolding marksFault markFault Placed
-marks-told bs sh = tells-first (OfSheet bs) (lineCount bs) _ (λ i h. tells-refuse (OfSheet bs) _ (omega arith, omega arith, h))
+marks-told bs sh = tells-first (Of bs 14) (lineCount bs) _ (λ i h. tells-refuse (Of bs 14) _ (refl, h))
+
+-- a sheet that fits has no more steps than s
+few-steps : (bs sh : List ℕ) → sheetFault bs sh ≡ sound → length (stepsOf sh) ≤ stepLimit bs
+few-steps bs sh f = let t = fitting bs sh f in omega (arith, steps-length t, t .few)
 
 -- Demand 1. Every card and every sheet get a decision.
 pub read-decided : {bs sh : List ℕ} {a : ReadVerdict} → Reading bs sh a → ReadDecided bs a
 unfolding Placed
 read-decided {bs} (faulty {n} {w} p) = let r = fault-in-range bs p in is-refused {n = n} {w = w} (inl (r .0, r .1)) (r .2)
 read-decided {bs} {sh} (misfit {n} {w} s p) =
-    let r = sheet-told bs sh .told-so p in is-refused {n = n} {w = w} (inr (r .0, r .1)) (r .2)
-read-decided (no-list s f n) = is-refused {n = 13} (inr (omega arith, omega arith)) tt
+    let r = sheet-told bs sh .told-so p in is-refused {n = n} {w = w} (inr (inl (omega (arith, r .0), omega (arith, r .0)))) (r .1)
+read-decided {bs} {sh} (astray {n} {w} s f p) =
+    let r = steps-placed bs (stepsOf sh) (few-steps bs sh f) p in is-refused {n = n} {w = w} (inr (r .0)) (r .1)
+read-decided (undivided s f p n) = is-refused {n = 19} (inr (inr (omega arith, omega arith))) tt
 read-decided {bs} {sh} (wrong-mark {n} {w} s f x p) =
-    let r = marks-told bs sh .told-so p in is-refused {n = n} {w = w} (inr (r .0, r .1)) (r .2)
+    let r = marks-told bs sh .told-so p in is-refused {n = n} {w = w} (inr (inl (omega (arith, r .0), omega (arith, r .0)))) (r .1)
 read-decided {bs} {sh} (accepted-as s f x m) = is-accepted (listed-short bs (stepsOf sh) x)

@@ -10,19 +10,17 @@ use Rattle.card.specs.declared.Checked.{Checked}
 use Rattle.card.specs.declared.Checked.the-variants.{Sound as SoundCard, Refused as RefusedCard}
 use Rattle.card.specs.declared.Refusal.{Refusal}
 use Rattle.card.specs.Format.{lineCount}
-use Rattle.card.specs.Verdict.{sound, firstOf, told, steps}
+use Rattle.card.specs.Verdict.{Verdict, Where, sound, fault, firstOf, told, steps}
 use Rattle.card.specs.Fault.{Sound}
 use Rattle.card.specs.Decode.{jobOf}
-use Rattle.trace.specs.Inner.Listing.{ListedSays}
-use Rattle.trace.specs.declared.Followed.{Followed}
-use Rattle.trace.specs.declared.Followed.the-variants.{Listed as Listed⁺, Unlisted}
+use Rattle.trace.specs.Inner.Listing.{Following, strays, divides-not, follows}
 use Rattle.sheet_front.specs.Front.{stepCount, stepsOf, sheetFault}
 use Rattle.sheet_front.specs.Inner.Fitting.{Fitting}
 use Rattle.marks.specs.Marks.{markFault}
 use Rattle.card.proofs.CardChecked.{passed, stopped}
 use Rattle.sheet_front.proofs.SheetFits.{fitting, steps-length}
 use Rattle.card.specs.Inner.Checks.{answerOf}
-use Rattle.reader.specs.Read.{ReadVerdict, accepted, refused, marksFault, Reading, no-list, wrong-mark, accepted-as}
+use Rattle.reader.specs.Read.{ReadVerdict, accepted, refused, marksFault, Reading, astray, undivided, wrong-mark, accepted-as}
 
 -- A sheet that fits, read with its k.
 pub record Fits (bs sh : List ℕ) (k : ℕ) : Type 0 where
@@ -59,17 +57,29 @@ module _ {bs sh : List ℕ} {k : ℕ} (c : Fits bs sh k) where
       let e = c .count in
       rw lent-marks (simp length-drop (omega arith))
 
-  module _ (f : Followed) (h : ListedSays bs (take k (take (length sh - 5) (drop 5 sh))) f) where
-    pub found-list : f ≡ Listed⁺ → Listed (jobOf bs) (stepsOf sh)
-    unfolding ListedSays
-    found-list e =
-        let l : Listed (jobOf bs) (take k (take (length sh - 5) (drop 5 sh))) = rw e at h in rw lent-steps at l
+  module _ (a : Checked) (h : Following bs (take k (take (length sh - 5) (drop 5 sh))) (told a)) where
+    of-steps : Following bs (stepsOf sh) (told a)
+    of-steps = rw lent-steps at h
 
-    pub found-no-list : f ≡ Unlisted → Reading bs sh (refused 13 steps)
-    unfolding ListedSays
-    found-no-list e =
-        let n : Listed (jobOf bs) (take k (take (length sh - 5) (drop 5 sh))) → ⊥ = rw e at h in
-        no-list (c .card) (c .fits) (rw lent-steps at n)
+    pub found-list : a ≡ SoundCard → Listed (jobOf bs) (stepsOf sh)
+    unfolding told
+    found-list e = listed (of-steps) (ap told e)
+      where
+        listed : {v : Verdict} → Following bs (stepsOf sh) v → v ≡ sound → Listed (jobOf bs) (stepsOf sh)
+        listed (strays q) p = let z : _≡_ {A = ℕ} 0 1 = cc in absurd (omega arith)
+        listed (divides-not q n) p = let z : _≡_ {A = ℕ} 0 1 = cc in absurd (omega arith)
+        listed (follows x) p = x
+
+    pub found-wrong : (r : Refusal) (n : ℕ) {y : ReadVerdict} → a ≡ RefusedCard r → y ≡ answerOf accepted refused (told a) n → Reading bs sh y
+    found-wrong r n e q = stopped (Reading bs sh) accepted refused (told a) a r n e refl q (λ p. wrong of-steps p)
+      where
+        wrong : {v : Verdict} {m : ℕ} {w : Where} → Following bs (stepsOf sh) v → v ≡ fault m w → Reading bs sh (refused m w)
+        wrong (strays q) p = astray (c .card) (c .fits) (q ∙ p)
+        wrong {m} {w} (divides-not q d) p =
+            let x : _≡_ {A = ℕ} 19 m = cc in
+            let y : steps ≡ w = cc in
+            rw (sym x, sym y) (undivided (c .card) (c .fits) q d)
+        wrong (follows x) p = let z : _≡_ {A = ℕ} 0 1 = cc in absurd (omega arith)
 
   module _ (a : Checked)
       (t : told a ≡ firstOf (lineCount bs) (markFault bs (take k (take (length sh - 5) (drop 5 sh)))

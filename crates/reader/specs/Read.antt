@@ -1,10 +1,11 @@
--- What the reader answers (01, "Refused, and where"), in terms of derivations.
+-- What the reader answers (01, "Refused, and where"; 02, #102), in terms of derivations.
 use Prim.Native.Nat.{ℕ, _≤_}
 use mathlib.Core.Path.{_≡_}
 use mathlib.Core.Logic.{_↔_, _⊎_}
 use mathlib.Core.List.{List}
 use lib.ListN.{length}
 use Rattle.calculus.specs.Job.{Listed}
+use Rattle.calculus.specs.Walk.{ItemsDivide}
 use Rattle.card.specs.Format.{lineCount, stepLimit}
 use Rattle.card.specs.Verdict.{Verdict, Where, sound, fault, steps, firstOf, whereOf}
 use Rattle.card.specs.Fault.{firstFault, Placed, Sound}
@@ -12,6 +13,7 @@ use Rattle.card.specs.Decode.{jobOf}
 use Rattle.card.specs.Sheet.{sheetOf}
 use Rattle.sheet_front.specs.Front.{stepsOf, marksIn, sheetFault}
 use Rattle.marks.specs.Marks.{markFault}
+use Rattle.trace.specs.Steps.{stepsFault}
 use Rattle.reader.specs.declared.Answer.{Answer}
 use Rattle.reader.specs.declared.Answer.the-variants.{Accepted, Refused}
 
@@ -36,19 +38,24 @@ pub data Reading (bs sh : List ℕ) : ReadVerdict → Type 0 where
   faulty : {n : ℕ} {w : Where} → firstFault bs ≡ fault n w → Reading bs sh (refused n w)
   -- 12
   misfit : {n : ℕ} {w : Where} → Sound bs → sheetFault bs sh ≡ fault n w → Reading bs sh (refused n w)
-  -- 13, "steps are not the list of a derivation within limits"
-  no-list : Sound bs → sheetFault bs sh ≡ sound → (Listed (jobOf bs) (stepsOf sh) → ⊥) → Reading bs sh (refused 13 steps)
-  -- 14
+  -- 13, 17 and 18, "The earliest step decides"
+  astray : {n : ℕ} {w : Where} → Sound bs → sheetFault bs sh ≡ sound → stepsFault bs (stepsOf sh) ≡ fault n w → Reading bs sh (refused n w)
+  -- "then 19": "the walk is right but the items don't divide as the rules ask, place steps"
+  undivided : Sound bs → sheetFault bs sh ≡ sound → stepsFault bs (stepsOf sh) ≡ sound → (ItemsDivide (jobOf bs) (stepsOf sh) → ⊥)
+      → Reading bs sh (refused 19 steps)
+  -- "then 14": the steps are the list of a derivation within limits
   wrong-mark : {n : ℕ} {w : Where} → Sound bs → sheetFault bs sh ≡ sound → Listed (jobOf bs) (stepsOf sh) → marksFault bs sh ≡ fault n w
       → Reading bs sh (refused n w)
   -- none of these
   accepted-as : Sound bs → sheetFault bs sh ≡ sound → Listed (jobOf bs) (stepsOf sh) → marksFault bs sh ≡ sound
       → Reading bs sh (accepted (length (stepsOf sh)))
 
--- Demand 1. A decision: accepted with k ≤ s; or refused with a number of 1 to 9 or 12 to 14 and a place that there is.
+-- Demand 1. A decision: accepted with k ≤ s; or refused with a number of 1 to 9, 12 to 14 or 17 to 19 and a place that
+-- there is.
 pub data ReadDecided (bs : List ℕ) : ReadVerdict → Type 0 where
   is-accepted : {k : ℕ} → k ≤ stepLimit bs → ReadDecided bs (accepted k)
-  is-refused : {n : ℕ} {w : Where} → ((1 ≤ n) × (n ≤ 9)) ⊎ ((12 ≤ n) × (n ≤ 14)) → Placed bs w → ReadDecided bs (refused n w)
+  is-refused : {n : ℕ} {w : Where} → ((1 ≤ n) × (n ≤ 9)) ⊎ (((12 ≤ n) × (n ≤ 14)) ⊎ ((17 ≤ n) × (n ≤ 19))) → Placed bs w
+      → ReadDecided bs (refused n w)
 
 -- "A sheet holds a list with its true marks if its bytes are these and no others": here the list is that of a derivation within limits
 -- of a sound card, and k is its length.

@@ -1,9 +1,7 @@
-// The reader (01, "Refused, and where"): the checks of a card and a sheet in their order. It writes nothing.
+// The reader (01, "Refused, and where"; 02, #102): the checks of a card and a sheet in their order. It writes nothing.
 use card::Checked;
-use card::Place;
 use card::Refusal;
 use card::format::byte;
-use trace::Followed;
 ghost use mathlib.Core.Path.{_≡_};
 ghost use Rattle.card.specs.Fault.{Sound};
 ghost use Rattle.card.specs.Verdict.{sound, told};
@@ -27,18 +25,16 @@ fn answered(found: Checked, k: u8) -> Answer
     }
 }
 
-// 13 and 14. The steps are read where they stand in the sheet.
+// 13, 17, 18 and 19, then 14. The steps are read where they stand in the sheet.
 fn read_steps(card: &[u8], sheet: &[u8]) -> Answer
     requires { ⌜ Sound (now card) ⌝ }
     requires { ⌜ sheetFault (now card) (now sheet) ≡ sound ⌝ }
     ensures { λ r. ⌜ Reading (now (card .entry)) (now (sheet .entry)) (toldRead r) ⌝ }
 {
     let k = byte(sheet, 3);
-    let Followed::Listed = trace::follows(card, &sheet[5..], k) else {
-        return Answer::Refused(Refusal {
-            number: 13,
-            place: Place::Steps,
-        });
+    let steps = trace::steps_check(card, &sheet[5..], k);
+    let Checked::Sound = steps else {
+        return answered(steps, 0);
     };
     let start = 5 + k;
     let marks = marks::marks_check(card, &sheet[5..], k, &sheet[start..]);
@@ -61,7 +57,7 @@ fn read_sheet(card: &[u8], sheet: &[u8]) -> Answer
     read_steps(card, sheet)
 }
 
-// Reads a sheet against a card: the first of 1 to 9 and 12 to 14 that applies, or how many steps it holds.
+// Reads a sheet against a card: the first that applies of 1 to 9, 12, 13 with 17 and 18, 19 and 14, or how many steps it holds.
 pub fn read(card: &[u8], sheet: &[u8]) -> Answer
     ensures { λ r. ⌜ Reading (now (card .entry)) (now (sheet .entry)) (toldRead r) ⌝ }
     ensures { λ r. ⌜ AcceptsExactly (now (card .entry)) (now (sheet .entry)) (toldRead r) ⌝ }

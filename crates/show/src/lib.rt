@@ -1,4 +1,4 @@
-// Prints refusals, sheets and bytes, for the test programs.
+// What the test programs share: printing refusals, sheets and bytes, and the parts of a record of the input.
 use card::Place;
 use card::Refusal;
 use card::format::byte;
@@ -25,6 +25,7 @@ fn print_place(place: Place) {
         Place::Sheet => print_word(b"sheet"),
         Place::Steps => print_word(b"steps"),
         Place::Mark(i) => print_indexed(b"mark ", i),
+        Place::Step(i) => print_indexed(b"step ", i),
     }
 }
 
@@ -77,4 +78,22 @@ pub fn print_sheet(sheet: &[u8], k: usize, t: usize) -> usize
     print_word(b" marks");
     print_numbers(&sheet[marks..end]);
     end
+}
+
+// The lesser of two.
+pub fn at_most(n: usize, most: usize) -> usize
+    ensures { λ r. ⌜ (r ≤ n) × (r ≤ most) ⌝ }
+{
+    if most < n {
+        return most;
+    }
+    n
+}
+
+// Where a record's part of n bytes at `from` ends; the input's end where it would run past that.
+pub fn part_end(input: &[u8], from: usize, n: usize) -> usize
+    requires { ⌜ from ≤ length (now input) ⌝ }
+    ensures { λ r. ⌜ (from ≤ r) × (r ≤ length (now (input .entry))) ⌝ }
+{
+    from + at_most(n, input.len() - from)
 }

@@ -1,70 +1,29 @@
 -- What a walk tells of a part, from what it tells of the part's own parts.
-use Prim.Native.Nat.{ℕ, zero, suc, _+_, _-_, _≤_, _<_}
+use Prim.Native.Nat.{ℕ, suc, _+_, _-_, _≤_, _<_}
 use native.Mathlib.Omega.{arith}
 use native.Mathlib.Numerals.{add-one}
 use mathlib.Core.Path.{_≡_, refl, sym, _∙_, ap, ap₂, subst}
-use mathlib.Core.Bool.{Bool, true, false, false≢true}
-use mathlib.Core.List.{List, [], _∷_, _++_, append-assoc, nil≢cons, head-eq-of-cons-eq, tail-eq-of-cons-eq}
-use lib.ListN.{length, getD, take, drop, drop-of-length-le}
+use mathlib.Core.Bool.{Bool, true, false}
+use mathlib.Core.List.{List, [], _∷_, _++_, append-assoc}
+use lib.ListN.{length, getD, take, drop, drop-of-length-le, length-drop, length-append}
 use lib.Seq.{drop-cons, getD-take, length-take-le}
-use Rattle.calculus.specs.Formula.{Goal, Clause, atomᴳ, topᴳ, oneᴳ, tensor, with, lolliᴳ, atomᴰ, topᴰ, lolliᴰ, usable}
+use Rattle.calculus.specs.Formula.{Goal, Clause, atomᴳ, lolliᴳ, usable}
 use Rattle.calculus.specs.Derivation.{Scope, size, clauseAt, linearAt, lend}
-use Rattle.calculus.specs.Inner.Trace.{Part, goal, meet, Gathered, Ends, Tensors, Withs, Trace, trace-1, trace-⊤, trace-⊗, trace-&}
-use Rattle.calculus.specs.Inner.Trace.{trace-⊸}
-use Rattle.calculus.specs.Inner.Trace.{trace-rule, trace-item, trace-head, trace-recipe}
-use Rattle.calculus.proofs.TraceExact.{trace-unique}
+use Rattle.calculus.specs.Walk.{goes, stops, _⨾_}
+use Rattle.calculus.specs.Wanted.{Part, goal, meet, Both}
+use Rattle.calculus.specs.Inner.Trace.{partWalk, Gathered, Ends, Tensors, Withs, Trace, trace-⊸, trace-rule, trace-item}
+use Rattle.calculus.proofs.WalkExact.{walk-both, walk-lent, walk-none, walk-unfit, walk-deep, walk-use, along-walk, trace-along}
 use Rattle.lines.specs.Inner.Set.{Words}
+use Rattle.card.specs.declared.Place.{Place}
+use Rattle.card.specs.declared.Refusal.{Refusal}
+use Rattle.card.specs.Verdict.{whereOf, step}
 use Rattle.summary.specs.declared.Branch.{Branch}
 use Rattle.summary.specs.declared.Summary.{Summary}
-use Rattle.summary.specs.Inner.Values.{onB, lentB, deeperB, endedW, tensorW, withW, withoutW, behindW}
-use Rattle.summary.specs.Inner.Walks.{from, gathered, EndsWith, FitsNone}
+use Rattle.summary.specs.Inner.Values.{onB, lentB, deeperB, endedW, tensorW, withW, withoutW, behindW, wrongF}
+use Rattle.summary.specs.Inner.Walks.{from, gathered, EndsWith, StopsWith}
 use Rattle.summary.proofs.SummariesGather.{ended-gathers, tensor-gathers, with-gathers, lend-gathers, item-gathers, rule-gathers}
 
--- The parts of a walk
-
--- a walk of r is one of p and then one of q
-abbrev pub Halves : ℕ → Scope → Part → Part → Part → Type 0
-Halves n es p q r = (g : Gathered) → Trace n es r g
-    → (x y : Gathered) × Trace n es p x × Trace n es q y × (g .list ≡ x .list ++ y .list)
-
-pub halves-⊗ : {n : ℕ} {es : Scope} {G H : Goal} → Halves n es (goal G) (goal H) (goal (tensor G H))
-halves-⊗ g (trace-⊗ {x} {y} s t u) = (x, y, t, u, s .lists)
-
-pub halves-& : {n : ℕ} {es : Scope} {G H : Goal} → Halves n es (goal G) (goal H) (goal (with G H))
-halves-& g (trace-& {x} {y} s t u) = (x, y, t, u, s .lists)
-
-pub halves-recipe : {n a : ℕ} {es : Scope} {G : Goal} {D : Clause} → Halves n es (meet a D) (goal G) (meet a (lolliᴰ G D))
-halves-recipe g (trace-recipe {x} {y} s t u) = (x, y, t, u, s .lists)
-
--- only a clause with a head that fits is walked
-abbrev Fitting : Scope → Part → Type 0
-Fitting es (goal G) = Unit {0}
-Fitting es (meet a D) = usable (es .fits) a D ≡ true
-
-fitting : {n : ℕ} {es : Scope} {p : Part} {g : Gathered} → Trace n es p g → Fitting es p
-unfolding usable
-fitting (trace-1 e) = tt
-fitting (trace-⊤ e) = tt
-fitting (trace-⊗ s x y) = tt
-fitting (trace-& s x y) = tt
-fitting (trace-⊸ s x) = tt
-fitting (trace-rule r s x) = tt
-fitting (trace-item r s x) = tt
-fitting (trace-head f e) = f
-fitting (trace-recipe s x y) = fitting x
-
--- a walk of a name uses an entry for it
-record Uses (n : ℕ) (es : Scope) (a : ℕ) (g : Gathered) : Type 0 where
-  deeper : ℕ
-  deep : n ≡ suc deeper
-  entry : ℕ
-  behind : Gathered
-  lists : g .list ≡ entry ∷ behind .list
-  walked : Trace deeper es (meet a (clauseAt es entry)) behind
-
-uses : {n a : ℕ} {es : Scope} {g : Gathered} → Trace n es (goal (atomᴳ a)) g → Uses n es a g
-uses (trace-rule {n} {e} {x} r s t) = record { deeper = n; deep = refl; entry = e; behind = x; lists = s .lists; walked = t }
-uses (trace-item {n} {e} {x} r s t) = record { deeper = n; deep = refl; entry = e; behind = x; lists = s .lists; walked = t }
+-- The given steps
 
 -- the next of the given steps, if there is one
 pub from-next : (steps : List ℕ) (b : Branch) → b .at < b .given → b .given ≤ length steps
@@ -78,15 +37,9 @@ pub from-none : (steps : List ℕ) (b : Branch) → b .given ≤ b .at → b .gi
 unfolding from
 from-none steps b h k = drop-of-length-le (take (b .given) steps) {i = b .at} (let l = length-take-le (b .given) steps k in omega arith)
 
--- the entry of a walk is the next step
-same-entry : {n a e : ℕ} {es : Scope} {g : Gathered} {ahead rest : List ℕ} (t : List ℕ) (u : Uses n es a g) → ahead ≡ e ∷ rest
-    → g .list ++ t ≡ ahead → (u .entry ≡ e) × (u .behind .list ++ t ≡ rest)
-same-entry t u next h = let q = sym (ap (_++ t) (u .lists)) ∙ h ∙ next in (head-eq-of-cons-eq q, tail-eq-of-cons-eq q)
-
--- a walk of a ⊸ is one of its goal
-lent-inner : {n : ℕ} {es : Scope} {D : Clause} {G : Goal} {g : Gathered} → Trace n es (goal (lolliᴳ D G)) g
-    → (x : Gathered) × Trace n (lend es D) (goal G) x × (g .list ≡ x .list)
-lent-inner (trace-⊸ {x} s c) = (x, c, s .lists)
+ahead : (steps : List ℕ) (b : Branch) (n : ℕ) → b .given ≤ length steps → length (from steps b n) ≡ b .given - n
+unfolding from
+ahead steps b n h = let l = length-take-le (b .given) steps h in omega (arith, length-drop n (take (b .given) steps))
 
 module _ {steps : List ℕ} {b : Branch} {es : Scope} where
   -- No step is taken
@@ -101,27 +54,45 @@ module _ {steps : List ℕ} {b : Branch} {es : Scope} where
     trace = c (gathered (b .rules) (endedW b slack) []) (ended-gathers (b .rules) b slack);
   }
 
+  -- what has ended has gone along its list
+  pub ends-walk : {p : Part} {w : Summary} → b .given ≤ length steps → EndsWith steps b es p w
+      → partWalk (b .depth) p es (b .at) (from steps b (b .at)) ≡ goes (w .at) (from steps b (w .at))
+  unfolding gathered
+  ends-walk {p} {w} g k =
+      ap (partWalk (b .depth) p es (b .at)) (sym (k .along))
+      ∙ along-walk (trace-along (k .trace)) (b .at) (from steps b (w .at))
+      ∙ ap (λ (i : ℕ). goes i (from steps b (w .at))) count
+    where
+      count : b .at + length (k .list) ≡ w .at
+      count =
+          let x = length-append (k .list) (from steps b (w .at)) in
+          let y = ap length (k .along) in
+          let o = k .onward in
+          let u = k .bounded in
+          omega (arith, ahead steps b (w .at) g, ahead steps b (b .at) g)
+
   -- Two parts
 
-  module _ {p q r : Part} (halves : Halves (b .depth) es p q r) where
-    pub first-astray : FitsNone steps b es p → FitsNone steps b es r
-    first-astray f = record { none-fits = λ g t c e. go g t (halves g c) e }
-      where
-        go : (g : Gathered) (t : List ℕ)
-            → (x y : Gathered) × Trace (b .depth) es p x × Trace (b .depth) es q y × (g .list ≡ x .list ++ y .list)
-            → g .list ++ t ≡ from steps b (b .at) → ⊥
-        go g t (x, y, c, d, l) e = f .none-fits x (y .list ++ t) c (sym (append-assoc (x .list) (y .list) t) ∙ sym (ap (_++ t) l) ∙ e)
+  module _ {p q r : Part} (parts : Both r p q) {f : Refusal} where
+    pub first-stops : StopsWith steps b es p f → StopsWith steps b es r f
+    unfolding _⨾_
+    first-stops s = record {
+      index = s .index;
+      place = s .place;
+      walk = walk-both (b .depth) parts es (b .at) (from steps b (b .at)) ∙ ap (λ x. x ⨾ partWalk (b .depth) q es) (s .walk);
+    }
 
-    pub second-astray : {w : Summary} → EndsWith steps b es p w → FitsNone steps (onB b (w .at)) es q → FitsNone steps b es r
-    unfolding from gathered
-    second-astray {w} k f = record { none-fits = λ g t c e. go g t (halves g c) e }
-      where
-        go : (g : Gathered) (t : List ℕ)
-            → (x y : Gathered) × Trace (b .depth) es p x × Trace (b .depth) es q y × (g .list ≡ x .list ++ y .list)
-            → g .list ++ t ≡ from steps b (b .at) → ⊥
-        go g t (x, y, c, d, l) e =
-            let h = sym (append-assoc (x .list) (y .list) t) ∙ sym (ap (_++ t) l) ∙ e ∙ sym (k .along) in
-            f .none-fits y t d (trace-unique (y .list ++ t) (from steps b (w .at)) c (k .trace) h .rests)
+    pub second-stops : {w : Summary} → b .given ≤ length steps → EndsWith steps b es p w → StopsWith steps (onB b (w .at)) es q f
+        → StopsWith steps b es r f
+    unfolding _⨾_ from
+    second-stops g k s = record {
+      index = s .index;
+      place = s .place;
+      walk =
+          walk-both (b .depth) parts es (b .at) (from steps b (b .at))
+          ∙ ap (λ x. x ⨾ partWalk (b .depth) q es) (ends-walk g k)
+          ∙ s .walk;
+    }
 
   module _ {p q r : Part} {w v : Summary} (k : EndsWith steps b es p w) (m : EndsWith steps (onB b (w .at)) es q v) where
     both-end : (u : Summary) → u .at ≡ v .at → Trace (b .depth) es r (gathered (b .rules) u (k .list ++ m .list)) → EndsWith steps b es r u
@@ -163,10 +134,14 @@ module _ {steps : List ℕ} {b : Branch} {es : Scope} where
     trace = trace-⊸ (lend-gathers (b .rules) (b .count) h w (k .list) es q) (k .trace);
   }
 
-  pub lend-astray : {D : Clause} {G : Goal} → FitsNone steps (lentB b) (lend es D) (goal G) → FitsNone steps b es (goal (lolliᴳ D G))
+  pub lend-stops : {D : Clause} {G : Goal} {f : Refusal} → StopsWith steps (lentB b) (lend es D) (goal G) f
+      → StopsWith steps b es (goal (lolliᴳ D G)) f
   unfolding from
-  lend-astray f =
-      record { none-fits = λ g t c e. let x = lent-inner c in f .none-fits (x .0) t (x .1) (sym (ap (_++ t) (x .2)) ∙ e) }
+  lend-stops {D} {G} s = record {
+    index = s .index;
+    place = s .place;
+    walk = walk-lent (b .depth) D G es (b .at) (from steps b (b .at)) ∙ s .walk;
+  }
 
   -- A use
 
@@ -195,26 +170,34 @@ module _ {steps : List ℕ} {b : Branch} {es : Scope} where
         by true r l = trace-item r (item-gathers (b .rules) e (l refl) w (k .list) few) (k .trace)
         by false r l = trace-rule r (rule-gathers (b .rules) e w (k .list)) (k .trace)
 
-    pub use-astray : FitsNone steps (deeperB b) es (meet a (clauseAt es e)) → FitsNone steps b es (goal (atomᴳ a))
+    pub use-stops : usable (es .fits) a (clauseAt es e) ≡ true → {f : Refusal}
+        → StopsWith steps (deeperB b) es (meet a (clauseAt es e)) f → StopsWith steps b es (goal (atomᴳ a)) f
     unfolding from
-    use-astray f = record { none-fits = λ g t c h. go t (uses c) (same-entry t (uses c) next h) }
-      where
-        go : {g : Gathered} (t : List ℕ) (u : Uses (b .depth) es a g) → (u .entry ≡ e) × (u .behind .list ++ t ≡ from steps b (b .at + 1)) → ⊥
-        go t u (p, q) =
-            let d : u .deeper ≡ b .depth - 1 = let o = u .deep in omega arith in
-            let c = subst (λ n. Trace n es (meet a (clauseAt es (u .entry))) (u .behind)) d (u .walked) in
-            f .none-fits (u .behind) t (subst (λ x. Trace (b .depth - 1) es (meet a (clauseAt es x)) (u .behind)) p c) q
+    use-stops u {f} s = record {
+      index = s .index;
+      place = s .place;
+      walk =
+          subst (λ n. partWalk n (goal (atomᴳ a)) es (b .at) (from steps b (b .at)) ≡ stops (f .number) (s .index))
+          (let d = deep in omega arith)
+          (ap (partWalk (suc (b .depth - 1)) (goal (atomᴳ a)) es (b .at)) next
+          ∙ walk-use (b .depth - 1) a es (b .at) e (from steps b (b .at + 1)) u ∙ s .walk);
+    }
 
-    -- an entry that cannot be used for the name
-    pub use-none : usable (es .fits) a (clauseAt es e) ≡ false → FitsNone steps b es (goal (atomᴳ a))
-    use-none n = record { none-fits = λ g t c h. go (uses c) (same-entry t (uses c) next h .0) }
-      where
-        go : {g : Gathered} (u : Uses (b .depth) es a g) → u .entry ≡ e → ⊥
-        go u p = false≢true (sym n ∙ sym (ap (λ x. usable (es .fits) a (clauseAt es x)) p) ∙ fitting (u .walked))
+  -- What is wrong at a name
 
-  -- with no nesting or no step left, no name is walked
-  pub too-deep : {a : ℕ} → b .depth ≡ zero → FitsNone steps b es (goal (atomᴳ a))
-  too-deep z = record { none-fits = λ g t c h. let o = uses c .deep in omega arith }
+  module _ {a : ℕ} {place : Place} (here : whereOf place ≡ step (b .at)) where
+    stops-here : {m : ℕ} → partWalk (b .depth) (goal (atomᴳ a)) es (b .at) (from steps b (b .at)) ≡ stops m (b .at)
+        → StopsWith steps b es (goal (atomᴳ a)) (wrongF m place)
+    stops-here w = record { index = b .at; place = here; walk = w }
 
-  pub no-step : {a : ℕ} → from steps b (b .at) ≡ [] → FitsNone steps b es (goal (atomᴳ a))
-  no-step z = record { none-fits = λ g t c h. nil≢cons (sym z ∙ sym h ∙ ap (_++ t) (uses c .lists)) }
+    pub none-left : from steps b (b .at) ≡ [] → StopsWith steps b es (goal (atomᴳ a)) (wrongF 18 place)
+    none-left z = stops-here (ap (partWalk (b .depth) (goal (atomᴳ a)) es (b .at)) z ∙ walk-none (b .depth) a es (b .at))
+
+    module _ {e : ℕ} (next : from steps b (b .at) ≡ e ∷ from steps b (b .at + 1)) where
+      pub unfit : usable (es .fits) a (clauseAt es e) ≡ false → StopsWith steps b es (goal (atomᴳ a)) (wrongF 13 place)
+      unfit u = stops-here (ap (partWalk (b .depth) (goal (atomᴳ a)) es (b .at)) next
+          ∙ walk-unfit (b .depth) a es (b .at) e (from steps b (b .at + 1)) u)
+
+      pub too-deep : usable (es .fits) a (clauseAt es e) ≡ true → b .depth ≡ 0 → StopsWith steps b es (goal (atomᴳ a)) (wrongF 17 place)
+      too-deep u z = stops-here (ap₂ (λ n l. partWalk n (goal (atomᴳ a)) es (b .at) l) z next
+          ∙ walk-deep a es (b .at) e (from steps b (b .at + 1)) u)

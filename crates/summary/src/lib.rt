@@ -1,4 +1,7 @@
-// Where the reader's walk stands in a list, and what it gathers there: the outer items taken, slack, and whether the items divided.
+// Where the reader's walk stands in a list, what it gathers there (the outer items taken, slack, and whether the items divided), and what
+// is wrong at its next step.
+use card::Place;
+use card::Refusal;
 use card::both;
 use card::either;
 use card::format::byte;
@@ -7,7 +10,8 @@ ghost use mathlib.Core.Path.{_≡_};
 ghost use mathlib.Core.Bool.{true};
 ghost use Prim.Native.Nat.{_≤_, _<_};
 ghost use Rattle.lines.specs.Inner.Set.{Words};
-ghost use Rattle.summary.specs.Inner.Values.{onB, lentB, deeperB, endedW, coverW, tensorW, withW, withoutW, usingW, behindW};
+ghost use Rattle.summary.specs.Inner.Values.{onB, lentB, deeperB, endedW, coverW, tensorW, withW, withoutW, usingW, behindW, wrongF};
+ghost use Rattle.summary.specs.declared.Step.the-variants.{Wrong};
 ghost use Rattle.summary.specs.Inner.Walks.{Ready, Stepping};
 
 // Where a walk stands: P and how many steps are given; its place in the list, how many entries stand in scope, and the nesting left.
@@ -28,16 +32,16 @@ pub struct Summary {
     pub alive: bool,
 }
 
-// What a walk answers.
+// What a walk answers: what it gathered, or its first wrong step.
 pub enum Walked {
     Ended(Summary),
-    Astray,
+    Astray(Refusal),
 }
 
-// The step that serves a need, or that none does.
+// The entry that serves a name, or what is wrong at its step.
 pub enum Step {
     Taken(usize),
-    Nothing,
+    Wrong(Refusal),
 }
 
 impl Branch {
@@ -174,7 +178,15 @@ impl Summary {
     }
 }
 
-// The next step, if it is an entry in scope that can be used for the name.
+// What is wrong at a step.
+fn wrong(number: u8, place: Place) -> Step
+    ensures { λ r. ⌜ r ≡ Wrong (wrongF number place) ⌝ }
+{
+    Step::Wrong(Refusal { number, place })
+}
+
+// The next step: the entry that is used for the name, or 18 (there is none left), 13 (no entry in scope whose head is the name) or 17
+// (nested above d), the first of these that applies.
 pub fn next_step(
     card: &[u8],
     steps: &[u8],
@@ -188,20 +200,23 @@ pub fn next_step(
         b name r ⌝ }
 {
     let at = b.at;
-    if b.depth == 0 {
-        return Step::Nothing;
-    }
-    if b.given <= at {
-        return Step::Nothing;
+    let here = Place::Step(at as u16);
+    let ahead = b.given - at;
+    if ahead == 0 {
+        return wrong(18, here);
     }
     let e = byte(steps, at);
     if b.count <= e {
-        return Step::Nothing;
+        return wrong(13, here);
     }
     let node = nodes[e] as usize;
-    let good = scope::usable(card, node, name);
-    if good {
-        return Step::Taken(e);
+    let unfit = !scope::usable(card, node, name);
+    let deeper = b.depth;
+    if unfit {
+        return wrong(13, here);
     }
-    Step::Nothing
+    if deeper == 0 {
+        return wrong(17, here);
+    }
+    Step::Taken(e)
 }

@@ -3,21 +3,30 @@ use Prim.Native.Nat.{ℕ, _+_, _≤_, _<_}
 use native.Mathlib.Omega.{arith}
 use mathlib.Core.Path.{_≡_, refl, sym, _∙_, ap, subst}
 use mathlib.Core.Logic.{_⊎_, inl, inr}
-use mathlib.Core.Bool.{Bool, true, false, false≢true}
-use mathlib.Core.List.{List, [], _++_, append-nil}
-use lib.ListN.{length, take, drop, length-drop, drop-of-length-le}
+use mathlib.Core.Bool.{Bool, true, false, not, false≢true}
+use mathlib.Core.List.{List, [], _∷_, _++_, append-nil}
+use lib.ListN.{length, getD, take, drop-of-length-le}
 use lib.Seq.{length-take-le}
+use lib.Dec.{eqb}
+use borrow.Author.Tests.{eqb-true, eqb-false, not-true, not-false}
 use Rattle.calculus.specs.Items.{Items, _∪_, Within}
-use Rattle.calculus.specs.Job.{Job, Listed}
-use Rattle.calculus.specs.Inner.Trace.{goal, Says, Trace, Agreed, Accounts}
+use Rattle.calculus.specs.Walk.{goes, jobWalk, ItemsDivide}
+use Rattle.calculus.specs.Wanted.{goal}
+use Rattle.calculus.specs.Inner.Trace.{partWalk, Says, Gathered, Trace, Agreed}
 use Rattle.calculus.proofs.SetLaws.{same-path}
 use Rattle.calculus.proofs.TraceExact.{trace-unique, listed-accounts}
+use Rattle.calculus.proofs.WalkExact.{job-walk, divides-accounts}
 use Rattle.lines.specs.declared.LineSet.{LineSet}
 use Rattle.lines.specs.Inner.Set.{isEmptyS, fullS, cutS, Words}
 use Rattle.card.specs.Format.{nodeCount, ruleCount, lineCount, goalNode, stepLimit}
+use Rattle.card.specs.declared.Refusal.{Refusal}
+use Rattle.card.specs.declared.Checked.{Checked}
+use Rattle.card.specs.declared.Checked.the-variants.{Sound as SoundCard, Refused}
+use Rattle.card.specs.Verdict.{Verdict, sound, fault, step, refuse, whereOf, told, steps as steps-place}
 use Rattle.card.specs.Fault.{Sound}
 use Rattle.card.specs.Decode.{goalAt, linesWith, jobOf}
-use Rattle.card.proofs.CardChecked.{sound-front}
+use Rattle.card.proofs.CardChecked.{sound-front, passed}
+use Rattle.card.proofs.FaultsInOrder.{not-applied}
 use Rattle.card.proofs.NodesDecoded.{lines-bounded}
 use Rattle.card.proofs.SoundNodes.{goal-lower, height-low, sound-root}
 use Rattle.scope.specs.Inner.Sets.{items, strictOf}
@@ -27,10 +36,12 @@ use Rattle.summary.specs.declared.Branch.{Branch}
 use Rattle.summary.specs.declared.Summary.{Summary}
 use Rattle.summary.specs.declared.Walked.{Walked}
 use Rattle.summary.specs.declared.Walked.the-variants.{Ended, Astray}
-use Rattle.summary.specs.Inner.Values.{startB}
-use Rattle.summary.specs.Inner.Walks.{from, gathered, EndsWith, FitsNone, Tells, Ready, GoalReady, GoalWalks}
-use Rattle.trace.specs.Inner.Listing.{Covered}
+use Rattle.summary.specs.Inner.Values.{startB, onB}
+use Rattle.summary.specs.Inner.Walks.{from, gathered, EndsWith, StopsWith, Tells, Ready, GoalReady, GoalWalks}
+use Rattle.trace.specs.Steps.{walkFault, stepsFault}
+use Rattle.trace.specs.Inner.Listing.{Covered, Ending, early, bare, whole, foundBy, Following, strays, divides-not, follows}
 use Rattle.summary.proofs.SummariesGather.{within-says}
+use Rattle.summary.proofs.WalksTell.{from-next, ends-walk}
 
 -- The test of the items
 
@@ -82,6 +93,36 @@ module _ {bs : List ℕ} (s : Sound bs) (w : Summary) where
           must (inl u) = absurd (false≢true (sym v ∙ u))
           must (inr u) = u
 
+-- The tests at the end
+
+module _ {bs : List ℕ} (w : Summary) (k : ℕ) {x : Checked} (tx : told x ≡ refuse (not (eqb (w .at) k)) 18 (step (w .at))) where
+  pub end-early : {f : Refusal} → x ≡ Refused f → Ending bs w k (told x)
+  unfolding told refuse
+  end-early {f} e = by (not (eqb (w .at) k)) refl
+    where
+      by : (late : Bool) → not (eqb (w .at) k) ≡ late → Ending bs w k (told x)
+      by true q =
+          let t : told x ≡ fault 18 (step (w .at)) = tx ∙ ap (λ b. refuse b 18 (step (w .at))) q in
+          rw t (early (eqb-false (w .at) k (not-true (eqb (w .at) k) q)))
+      by false q =
+          let t : fault (f .number) (whereOf (f .place)) ≡ sound = sym (ap told e) ∙ tx ∙ ap (λ b. refuse b 18 (step (w .at))) q in
+          let z : _≡_ {A = ℕ} 0 1 = cc in absurd (omega arith)
+
+  pub end-whole : x ≡ SoundCard → (good : Bool) → Says good (Covered bs w) → (y : Checked) → told y ≡ refuse (not good) 19 steps-place
+      → Ending bs w k (told y)
+  unfolding refuse
+  end-whole e good c y ty = by good refl
+    where
+      at : w .at ≡ k
+      at = eqb-true (w .at) k (not-false (eqb (w .at) k) (not-applied _ _ _ (passed _ x e tx)))
+
+      by : (g : Bool) → good ≡ g → Ending bs w k (told y)
+      by true q =
+          let t : told y ≡ sound = ty ∙ ap (λ b. refuse (not b) 19 steps-place) q in rw t (whole at (c .0 q))
+      by false q =
+          let t : told y ≡ fault 19 steps-place = ty ∙ ap (λ b. refuse (not b) 19 steps-place) q in
+          rw t (bare at (λ h. false≢true (sym q ∙ c .1 h)))
+
 -- The call
 
 module _ {bs steps nodes : List ℕ} {linear : List Bool} {k : ℕ} (s : Sound bs) (long : k ≤ length steps) (few : k ≤ stepLimit bs)
@@ -114,58 +155,66 @@ module _ {bs steps nodes : List ℕ} {linear : List Bool} {k : ℕ} (s : Sound b
   module _ (b : Branch) (eb : b ≡ startB bs k) (node : ℕ) (en : node ≡ goalNode bs) {nodes′ : List ℕ} {linear′ : List Bool} {r : Walked}
       (W : GoalWalks bs steps nodes nodes′ linear linear′ b node r) where
     -- what the walk tells, at the job's goal in its scope
-    told : Tells steps (startB bs k) (jobOf bs .scope) (goal (jobOf bs .goal)) r
+    walk-told : Tells steps (startB bs k) (jobOf bs .scope) (goal (jobOf bs .goal)) r
     unfolding jobOf startB
-    told =
+    walk-told =
         let F : GoalWalks bs steps nodes nodes′ linear linear′ (startB bs k) (goalNode bs) r = rw (eb, en) at W in
         subst (λ es. Tells steps (startB bs k) es (goal (goalAt bs (goalNode bs))) r) scope (F .tells)
 
-    -- a list of the job is walked to its end
-    accounts : Listed (jobOf bs) (take k steps) → Accounts (jobOf bs) (take k steps)
-    accounts = listed-accounts (jobOf bs) (take k steps) (lines-bounded bs) .0
+    -- where the walk of the given steps has come to
+    walk-is : partWalk (jobOf bs .depth) (goal (jobOf bs .goal)) (jobOf bs .scope) 0 (take k steps) ≡ jobWalk (jobOf bs) (take k steps)
+    walk-is = sym (job-walk (jobOf bs) (take k steps))
 
-    whole : (a : Accounts (jobOf bs) (take k steps)) → a .gathered .list ++ [] ≡ from steps (startB bs k) 0
-    unfolding from startB
-    whole a = append-nil (a .gathered .list) ∙ a .list
-
-    pub astray-unlisted : r ≡ Astray → Listed (jobOf bs) (take k steps) → ⊥
-    unfolding Tells startB jobOf
-    astray-unlisted e x =
-        let a = accounts x in
-        let f : FitsNone steps (startB bs k) (jobOf bs .scope) (goal (jobOf bs .goal)) = rw e at told in
-        f .none-fits (a .gathered) [] (a .trace) (whole a)
+    pub stray-found : {f : Refusal} → r ≡ Astray f → Following bs (take k steps) (foundBy r)
+    unfolding Tells startB jobOf from stepsFault walkFault foundBy
+    stray-found {f} e = rw e (
+        let s : StopsWith steps (startB bs k) (jobOf bs .scope) (goal (jobOf bs .goal)) f = rw e at walk-told in
+        strays (ap walkFault (sym walk-is ∙ s .walk) ∙ ap (fault (f .number)) (sym (s .place)))
+        )
 
     module _ (w : Summary) (e : r ≡ Ended w) where
       ended : EndsWith steps (startB bs k) (jobOf bs .scope) (goal (jobOf bs .goal)) w
       unfolding Tells
-      ended = rw e at told
+      ended = rw e at walk-told
 
-      -- the one walk of the list
-      same-walk : (a : Accounts (jobOf bs) (take k steps))
-          → Agreed (a .gathered) (gathered (ruleCount bs) w (ended .list)) [] (from steps (startB bs k) (w .at))
-      unfolding startB jobOf gathered
-      same-walk a = trace-unique [] (from steps (startB bs k) (w .at)) (a .trace) (ended .trace) (whole a ∙ sym (ended .along))
+      -- the steps are walked up to where it ended
+      walked : jobWalk (jobOf bs) (take k steps) ≡ goes (w .at) (from steps (startB bs k) (w .at))
+      unfolding startB jobOf from
+      walked = sym walk-is ∙ ends-walk long ended
 
-      pub past-unlisted : (w .at ≡ k → ⊥) → Listed (jobOf bs) (take k steps) → ⊥
-      unfolding from startB
-      past-unlisted n x =
-          let q = ap length (same-walk (accounts x) .rests) in
-          let l = length-take-le k steps long in
-          let u = ended .bounded in
-          n (omega (arith, length-drop (w .at) (take k steps)))
+      pub end-short : w .at ≤ 255
+      unfolding startB
+      end-short = let u = ended .bounded in omega arith
+
+      -- some walk of the list, at whatever nesting, is this one
+      same-walk : {n : ℕ} (g : Gathered) → Trace n (jobOf bs .scope) (goal (jobOf bs .goal)) g → g .list ≡ take k steps
+          → Agreed g (gathered (ruleCount bs) w (ended .list)) [] (from steps (startB bs k) (w .at))
+      unfolding from startB gathered
+      same-walk g t q =
+          trace-unique [] (from steps (startB bs k) (w .at)) t (ended .trace) (append-nil (g .list) ∙ q ∙ sym (ended .along))
+
+      pub early-found : (w .at ≡ k → ⊥) → Following bs (take k steps) (fault 18 (step (w .at)))
+      unfolding startB stepsFault walkFault from
+      early-found n = strays (ap walkFault (walked ∙ ap (goes (w .at)) next))
+        where
+          under : w .at ≤ k → w .at < k
+          under h = omega arith
+
+          next : from steps (startB bs k) (w .at) ≡ getD steps (w .at) 0 ∷ from steps (startB bs k) (w .at + 1)
+          next = from-next steps (onB (startB bs k) (w .at)) (under (ended .bounded)) long
 
       module _ (at : w .at ≡ k) where
+        none-left : from steps (startB bs k) (w .at) ≡ []
+        unfolding from startB
+        none-left = drop-of-length-le (take k steps) {i = w .at} (let l = length-take-le k steps long in omega arith)
+
         list-is : ended .list ≡ take k steps
         unfolding from startB
-        list-is =
-            sym (append-nil (ended .list))
-            ∙ ap (λ t. ended .list ++ t)
-            (sym (drop-of-length-le (take k steps) {i = w .at} (let l = length-take-le k steps long in omega arith)))
-            ∙ ended .along
+        list-is = sym (append-nil (ended .list)) ∙ ap (λ t. ended .list ++ t) (sym none-left) ∙ ended .along
 
-        pub covered-listed : Covered bs w → Listed (jobOf bs) (take k steps)
+        pub covered-found : Covered bs w → Following bs (take k steps) sound
         unfolding startB gathered jobOf
-        covered-listed c = listed-accounts (jobOf bs) (take k steps) (lines-bounded bs) .1 (record {
+        covered-found c = follows (listed-accounts (jobOf bs) (take k steps) (lines-bounded bs) .1 (record {
           gathered = gathered (ruleCount bs) w (ended .list);
           trace = depth-is;
           list = list-is;
@@ -173,7 +222,7 @@ module _ {bs steps nodes : List ℕ} {linear : List Bool} {k : ℕ} (s : Sound b
           within = c .within;
           all-strict = c .all-strict;
           counted = short-enough;
-        })
+        }))
           where
             depth-is : Trace (jobOf bs .depth) (jobOf bs .scope) (goal (jobOf bs .goal)) (gathered (ruleCount bs) w (ended .list))
             depth-is = ended .trace
@@ -181,18 +230,29 @@ module _ {bs steps nodes : List ℕ} {linear : List Bool} {k : ℕ} (s : Sound b
             short-enough : length (take k steps) ≤ jobOf bs .length-limit
             short-enough = let l = length-take-le k steps long in omega arith
 
-        pub bare-unlisted : (Covered bs w → ⊥) → Listed (jobOf bs) (take k steps) → ⊥
+        -- the items of a derivation with this list are those of the walk
+        divided-covers : ItemsDivide (jobOf bs) (take k steps) → Covered bs w
         unfolding gathered
-        bare-unlisted n x =
-            let a = accounts x in
-            let q = same-walk a in
+        divided-covers d =
+            let a = divides-accounts (jobOf bs) (take k steps) (lines-bounded bs) d in
+            let q = same-walk (a .gathered) (a .trace) (a .list) in
             let used : a .gathered .used ≡ items (ruleCount bs) (w .used) = same-path (q .items) in
-            n (record {
+            record {
               alive = sym (q .alives) ∙ a .alive;
               within = subst (λ I. Within I (jobOf bs .strict ∪ jobOf bs .lax)) used (a .within);
               all-strict = covers (subst (λ I. (a .gathered .slack ≡ true) ⊎ Within (jobOf bs .strict) I) used (a .all-strict)) (q .slacks);
-            })
+            }
           where
             covers : {I J : Items} {v u : Bool} → (v ≡ true) ⊎ Within I J → v ≡ u → (u ≡ true) ⊎ Within I J
             covers (inl h) p = inl (sym p ∙ h)
             covers (inr h) p = inr h
+
+        pub bare-found : (Covered bs w → ⊥) → Following bs (take k steps) (fault 19 steps-place)
+        unfolding stepsFault walkFault
+        bare-found n = divides-not (ap walkFault (walked ∙ ap (goes (w .at)) none-left)) (λ d. n (divided-covers d))
+
+      -- what is found at the end is what is found of the list
+      pub end-found : {v : Verdict} → Ending bs w k v → Following bs (take k steps) v
+      end-found (early n) = early-found n
+      end-found (bare at n) = bare-found at n
+      end-found (whole at c) = covered-found at c

@@ -1,2 +1,3 @@
 -- Theorems about the definitions of specs/ that belong to no one function.
 pub mod FollowsExactly
+pub mod StepsMean

@@ -1,2 +1,3 @@
--- What no public contract mentions stands below Inner; here that is all.
+-- What a reader must believe of the refusals of the steps; apart from it, Inner.
+pub mod Steps
 pub mod Inner

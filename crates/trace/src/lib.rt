@@ -1,6 +1,9 @@
-// Whether a given list is that of a derivation within limits: the walk of the goal, then the tests of its end and of its items.
+// What is wrong with a given list, if anything: the walk of the goal (13, 17, 18), then the tests of its end (18) and of its items (19).
+use card::Checked;
+use card::Place;
 use card::format::byte;
 use card::format::word;
+use card::refuse;
 use lines::LineSet;
 use summary::Branch;
 use summary::Summary;
@@ -9,17 +12,15 @@ ghost use mathlib.Core.Path.{_≡_};
 ghost use Prim.Native.Nat.{_≤_};
 ghost use lib.ListN.{length, take};
 ghost use Rattle.card.specs.Format.{stepLimit};
+ghost use mathlib.Core.Bool.{not};
+ghost use lib.Dec.{eqb};
+ghost use Rattle.card.specs.declared.Place.the-variants.{Step};
+ghost use Rattle.card.specs.Verdict.{told, refuse, whereOf};
 ghost use Rattle.card.specs.Fault.{Sound};
 ghost use Rattle.calculus.specs.Inner.Trace.{Says};
 ghost use Rattle.lines.specs.Inner.Set.{isEmptyS, cutS, Words};
 ghost use Rattle.summary.specs.Inner.Values.{startB};
-ghost use Rattle.trace.specs.Inner.Listing.{Covered, ListedSays};
-
-// Whether a list is that of a derivation within limits.
-pub enum Followed {
-    Listed,
-    Unlisted,
-}
+ghost use Rattle.trace.specs.Inner.Listing.{Covered, Ending, foundBy, Following};
 
 // Where the walk of the card's goal begins.
 fn start(card: &[u8], k: usize) -> Branch
@@ -65,12 +66,44 @@ fn covers(card: &[u8], w: Summary) -> bool
     within(scope::strict_lines(card), w.used)
 }
 
-// Follows the first k of the steps, where they stand.
-pub fn follows(card: &[u8], steps: &[u8], k: usize) -> Followed
+// 18 where the walk ended before the last of the k steps: the first that it did not want.
+fn length_check(w: Summary, k: usize) -> Checked
+    requires { ⌜ w .at ≤ 255 ⌝ }
+    ensures { λ r. ⌜ told r ≡ refuse (not (eqb (w .at) k)) 18 (whereOf (Step (w .at))) ⌝ }
+{
+    let at = w.at;
+    refuse(at != k, 18, Place::Step(at as u16))
+}
+
+// What is wrong with a list whose walk has ended: 18, then 19 where the items do not divide.
+fn end_check(card: &[u8], w: Summary, k: usize) -> Checked
+    requires { ⌜ Sound (now card) ⌝ }
+    requires { ⌜ w .at ≤ 255 ⌝ }
+    ensures { λ r. ⌜ Ending (now (card .entry)) w k (told r) ⌝ }
+{
+    let length = length_check(w, k);
+    let Checked::Sound = length else {
+        return length;
+    };
+    refuse(!covers(card, w), 19, Place::Steps)
+}
+
+// What the walk itself found: nothing where it ended.
+fn found(walked: Walked) -> Checked
+    ensures { λ r. ⌜ told r ≡ foundBy walked ⌝ }
+{
+    match walked {
+        Walked::Ended(w) => Checked::Sound,
+        Walked::Astray(refusal) => Checked::Refused(refusal),
+    }
+}
+
+// 13, 17, 18 and 19, of the first k of the steps, where they stand.
+pub fn steps_check(card: &[u8], steps: &[u8], k: usize) -> Checked
     requires { ⌜ Sound (now card) ⌝ }
     requires { ⌜ k ≤ length (now steps) ⌝ }
     requires { ⌜ k ≤ stepLimit (now card) ⌝ }
-    ensures { λ r. ⌜ ListedSays (now (card .entry)) (take k (now (steps .entry))) r ⌝ }
+    ensures { λ r. ⌜ Following (now (card .entry)) (take k (now (steps .entry))) (told r) ⌝ }
 {
     let mut nodes = [0u16; 256];
     let mut linear = [false; 256];
@@ -79,15 +112,7 @@ pub fn follows(card: &[u8], steps: &[u8], k: usize) -> Followed
     let goal = word(card, 7);
     let walked = walk::walk(card, steps, &mut nodes, &mut linear, b, goal);
     let Walked::Ended(w) = walked else {
-        return Followed::Unlisted;
+        return found(walked);
     };
-    let at = w.at;
-    if at != k {
-        return Followed::Unlisted;
-    }
-    let good = covers(card, w);
-    if good {
-        return Followed::Listed;
-    }
-    Followed::Unlisted
+    end_check(card, w, k)
 }

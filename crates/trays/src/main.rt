@@ -4,6 +4,7 @@
 use card::format::byte;
 use card::format::word;
 use planner::Answer;
+use show::at_most;
 ghost use Prim.Native.Nat.{_≤_, _<_};
 ghost use lib.ListN.{length};
 
@@ -46,15 +47,6 @@ fn outcome(card: &[u8], size: usize)
         show::print_word(b" spoiled");
     }
     show::print_word(b"\n");
-}
-
-fn at_most(n: usize, most: usize) -> usize
-    ensures { λ r. ⌜ (r ≤ n) × (r ≤ most) ⌝ }
-{
-    if most < n {
-        return most;
-    }
-    n
 }
 
 // Runs one record and tells where the next begins.

@@ -7,34 +7,36 @@ use mathlib.Core.Logic.{⊎-elim}
 use mathlib.Core.Bool.{Bool, true, false, false≢true}
 use mathlib.Core.List.{List}
 use lib.ListN.{length, getD, set}
-use Rattle.calculus.specs.Formula.{Goal, Clause, Fits, atomᴳ, tensor, with, lolliᴳ, atomᴰ, topᴰ, lolliᴰ, usable}
-use Rattle.calculus.specs.Derivation.{Scope, noEntry, size, entryAt, clauseAt, linearAt, lend}
-use Rattle.calculus.specs.Inner.Trace.{Part, goal, meet, Gathered, Ends, Tensors, Withs, Trace, trace-1, trace-⊤, trace-⊗, trace-&}
+use Rattle.calculus.specs.Formula.{Goal, atomᴳ, lolliᴳ, usable}
+use Rattle.calculus.specs.Derivation.{Scope, clauseAt, lend}
+use Rattle.calculus.specs.Wanted.{Part, goal, meet, Both, parts-⊗, parts-&, parts-⊸}
+use Rattle.calculus.specs.Inner.Trace.{Gathered, Ends, Tensors, Withs, Trace, trace-⊗, trace-&}
 use Rattle.calculus.specs.Inner.Trace.{trace-head, trace-recipe}
 use Rattle.lines.specs.Inner.Set.{Words}
 use Rattle.card.specs.Format.{nodeCount, ruleCount, kindAt, leftAt, rightAt}
-use Rattle.card.specs.Fault.{Sound, goalPart, clausePart, heightAt}
+use Rattle.card.specs.Fault.{goalPart, clausePart, heightAt}
 use Rattle.card.specs.Decode.{goalAt, clauseOf, scopeOf}
 use Rattle.card.proofs.CardChecked.{sound-front}
-use Rattle.card.proofs.NodesDecoded.{reads-name, reads-rest, reads-done}
+use Rattle.card.proofs.NodesDecoded.{reads-name}
 use Rattle.card.proofs.SoundNodes.{goal-lower, goal-kind, goal-above, clause-lower, clause-above, clause-kind, node-here, height-low}
 use Rattle.card.proofs.SoundNodes.{height-pos}
 use Rattle.card.proofs.SoundNodes.{height-parts, parts-below, both-parts, either-parts, lend-parts, recipe-parts, sound-both}
 use Rattle.card.proofs.SoundNodes.{sound-either}
 use Rattle.card.proofs.SoundNodes.{sound-lend, sound-recipe, usable-name, usable-rest, usable-recipe}
-use Rattle.scope.specs.Inner.Tables.{scopeIn, Entered, Kept}
+use Rattle.scope.specs.Inner.Tables.{scopeIn, Kept}
 use Rattle.scope.proofs.TablesAreScopes.{scope-size, scope-clause, scope-linear, scope-kept, lend-scope, entered-kept, entered-more}
 use Rattle.scope.proofs.TablesAreScopes.{kept-self, kept-trans, kept-again, kept-set}
+use Rattle.card.specs.declared.Refusal.{Refusal}
 use Rattle.summary.specs.declared.Branch.{Branch}
 use Rattle.summary.specs.declared.Summary.{Summary}
 use Rattle.summary.specs.declared.Walked.{Walked}
 use Rattle.summary.specs.declared.Walked.the-variants.{Ended, Astray}
 use Rattle.summary.specs.declared.Step.{Step}
-use Rattle.summary.specs.declared.Step.the-variants.{Taken, Nothing}
+use Rattle.summary.specs.declared.Step.the-variants.{Taken, Wrong}
 use Rattle.summary.specs.Inner.Values.{onB, lentB, deeperB, endedW, tensorW, withW, withoutW, behindW}
-use Rattle.summary.specs.Inner.Walks.{EndsWith, FitsNone, Tells, Ready, GoalReady, ClauseReady, CanUse, Stepping, PartWalks}
-use Rattle.summary.proofs.WalksTell.{Halves, halves-⊗, halves-&, halves-recipe, ends-here, first-astray}
-use Rattle.summary.proofs.WalksTell.{second-astray, tensor-ends, with-ends, lend-ends, lend-astray, use-ends, use-astray}
+use Rattle.summary.specs.Inner.Walks.{EndsWith, StopsWith, Tells, Ready, GoalReady, ClauseReady, CanUse, Stepping, PartWalks}
+use Rattle.summary.proofs.WalksTell.{ends-here, first-stops, second-stops, tensor-ends, with-ends, lend-ends, lend-stops, use-ends}
+use Rattle.summary.proofs.WalksTell.{use-stops}
 
 -- the falling number of a call, without its node: nesting and steps left
 abbrev pub weight : Branch → ℕ
@@ -54,13 +56,13 @@ module _ {bs steps nodes : List ℕ} {linear : List Bool} {b : Branch} (R : Read
   -- Behind a first part
 
   module _ {nodes₁ : List ℕ} {linear₁ : List Bool} {p : Part} where
-    module _ {q r : Part} (halves : Halves (b .depth) es p q r) where
-      pub first-lost : {x : Walked} → x ≡ Astray → PartWalks bs steps nodes nodes₁ linear linear₁ b p x
+    module _ {q r : Part} (parts : Both r p q) where
+      pub first-lost : {x : Walked} {f : Refusal} → x ≡ Astray f → PartWalks bs steps nodes nodes₁ linear linear₁ b p x
           → PartWalks bs steps nodes nodes₁ linear linear₁ b r x
       unfolding Tells
-      first-lost e W = rw e (
-          let F : PartWalks bs steps nodes nodes₁ linear linear₁ b p Astray = rw e at W in
-          record { tells = first-astray halves (F .tells); node-kept = F .node-kept; linear-kept = F .linear-kept }
+      first-lost {f} e W = rw e (
+          let F : PartWalks bs steps nodes nodes₁ linear linear₁ b p (Astray f) = rw e at W in
+          record { tells = first-stops parts (F .tells); node-kept = F .node-kept; linear-kept = F .linear-kept }
           )
 
     module _ {w : Summary} (W : PartWalks bs steps nodes nodes₁ linear linear₁ b p (Ended w)) where
@@ -87,11 +89,12 @@ module _ {bs steps nodes : List ℕ} {linear : List Bool} {b : Branch} (R : Read
       lighter = let o = ends .onward in omega arith
 
       module _ {q : Part} {nodes₂ : List ℕ} {linear₂ : List Bool} where
-        pub second-lost : {r : Part} → Halves (b .depth) es p q r → PartWalks bs steps nodes₁ nodes₂ linear₁ linear₂ (onB b (w .at)) q Astray
-            → PartWalks bs steps nodes nodes₂ linear linear₂ b r Astray
+        pub second-lost : {r : Part} {f : Refusal} → Both r p q
+            → PartWalks bs steps nodes₁ nodes₂ linear₁ linear₂ (onB b (w .at)) q (Astray f)
+            → PartWalks bs steps nodes nodes₂ linear linear₂ b r (Astray f)
         unfolding Tells
-        second-lost halves X = record {
-          tells = second-astray halves ends (subst (λ s. FitsNone steps (onB b (w .at)) s q) same-scope (X .tells));
+        second-lost {f} parts X = record {
+          tells = second-stops parts (R .given) ends (subst (λ s. StopsWith steps (onB b (w .at)) s q f) same-scope (X .tells));
           node-kept = kept-again (b .count) (W .node-kept) (X .node-kept);
           linear-kept = kept-again (b .count) (W .linear-kept) (X .linear-kept);
         }
@@ -127,8 +130,8 @@ module _ {bs steps nodes : List ℕ} {linear : List Bool} {b : Branch} (R : Read
     first-run : PartWalks bs steps nodes nodes₁ linear linear₁ b p (Ended w)
     first-run = rw ex at W
 
-    pub run-lost : {r : Part} → Halves (b .depth) es p q r → y ≡ Astray → PartWalks bs steps nodes nodes₂ linear linear₂ b r y
-    run-lost halves ey = rw ey (second-lost first-run halves (rw (eb, ey) at X))
+    pub run-lost : {r : Part} {f : Refusal} → Both r p q → y ≡ Astray f → PartWalks bs steps nodes nodes₂ linear linear₂ b r y
+    run-lost parts ey = rw ey (second-lost first-run parts (rw (eb, ey) at X))
 
     module _ (v : Summary) (ey : y ≡ Ended v) (m : Words (w .used)) (n : Words (v .used)) (u : Summary) where
       second-run : PartWalks bs steps nodes₁ nodes₂ linear₁ linear₂ (onB b (w .at)) q (Ended v)
@@ -209,15 +212,15 @@ module _ {bs steps nodes : List ℕ} {linear : List Bool} {b : Branch} (R : Read
 
     -- what a node of each kind reads as is walked as
     module _ (l : ℕ) (el : l ≡ leftAt bs node) (m : ℕ) (em : m ≡ rightAt bs node) where
-      pub tensor-halves : kindAt bs node ≡ 4 → Halves (b .depth) es (goal (goalAt bs l)) (goal (goalAt bs m)) (goal (goalAt bs node))
-      tensor-halves k g c = rw (el, em) (halves-⊗ g (rw (sound-both (R .sound) node below k) at c))
+      pub tensor-both : kindAt bs node ≡ 4 → Both (goal (goalAt bs node)) (goal (goalAt bs l)) (goal (goalAt bs m))
+      tensor-both k = rw (sound-both (R .sound) node below k, el, em) parts-⊗
 
       pub tensor-joins : kindAt bs node ≡ 4 → (f g h : Gathered) → Tensors h f g → Trace (b .depth) es (goal (goalAt bs l)) f
           → Trace (b .depth) es (goal (goalAt bs m)) g → Trace (b .depth) es (goal (goalAt bs node)) h
       tensor-joins k f g h s c d = rw (sound-both (R .sound) node below k) (trace-⊗ s (rw el at c) (rw em at d))
 
-      pub with-halves : kindAt bs node ≡ 5 → Halves (b .depth) es (goal (goalAt bs l)) (goal (goalAt bs m)) (goal (goalAt bs node))
-      with-halves k g c = rw (el, em) (halves-& g (rw (sound-either (R .sound) node below k) at c))
+      pub with-both : kindAt bs node ≡ 5 → Both (goal (goalAt bs node)) (goal (goalAt bs l)) (goal (goalAt bs m))
+      with-both k = rw (sound-either (R .sound) node below k, el, em) parts-&
 
       pub with-joins : kindAt bs node ≡ 5 → (f g h : Gathered) → Withs es h f g → Trace (b .depth) es (goal (goalAt bs l)) f
           → Trace (b .depth) es (goal (goalAt bs m)) g → Trace (b .depth) es (goal (goalAt bs node)) h
@@ -294,10 +297,10 @@ module _ {bs steps nodes : List ℕ} {linear : List Bool} {b : Branch} (R : Read
           linear-back : Kept (b .count) linear linear₂
           linear-back = kept-trans {n = b .count} {m = b .count + 1} (omega arith) (kept-set (b .count) (b .count) linear true (omega arith)) (inner .linear-kept)
 
-          pub lend-lost : x ≡ Astray → PartWalks bs steps nodes nodes₂ linear linear₂ b (goal (goalAt bs node)) x
+          pub lend-lost : {f : Refusal} → x ≡ Astray f → PartWalks bs steps nodes nodes₂ linear linear₂ b (goal (goalAt bs node)) x
           unfolding Tells
-          lend-lost e = rw (e, as-lend) (record {
-            tells = lend-astray (subst (λ s. FitsNone steps (lentB b) s (goal (goalAt bs (rightAt bs node)))) lent-scope
+          lend-lost {f} e = rw (e, as-lend) (record {
+            tells = lend-stops (subst (λ s. StopsWith steps (lentB b) s (goal (goalAt bs (rightAt bs node))) f) lent-scope
                 (let t = inner .tells in rw e at t));
             node-kept = node-back;
             linear-kept = linear-back;
@@ -320,9 +323,9 @@ module _ {bs steps nodes : List ℕ} {linear : List Bool} {b : Branch} (R : Read
       as-atom = reads-name bs node kind .0 ∙ ap atomᴳ (sym en)
 
       module _ {y : Step} (S : Stepping bs steps nodes linear b name y) where
-        pub atom-lost : y ≡ Nothing → PartWalks bs steps nodes nodes linear linear b (goal (goalAt bs node)) Astray
+        pub atom-lost : {f : Refusal} → y ≡ Wrong f → PartWalks bs steps nodes nodes linear linear b (goal (goalAt bs node)) (Astray f)
         unfolding Stepping Tells
-        atom-lost e = rw as-atom (at-once {r = Astray} (rw e at S))
+        atom-lost {f} e = rw as-atom (at-once {r = Astray f} (rw e at S))
 
         pub atom-call : (e : ℕ) → y ≡ Taken e → (t : ℕ) → weight b + 4 * node + 2 ≡ t
             → (weight b < t) × (Ready bs steps nodes linear b × (CanUse bs steps nodes b name e
@@ -362,8 +365,8 @@ module _ {bs steps nodes : List ℕ} {linear : List Bool} {b : Branch} (R : Read
       lower-7 = parts-below (R .sound) node clause-below (omega arith)
 
       module _ (m : ℕ) (em : m ≡ rightAt bs node) (l : ℕ) (el : l ≡ leftAt bs node) where
-        pub recipe-halves : Halves (b .depth) es (meet name (clauseOf bs m)) (goal (goalAt bs l)) (meet name (clauseOf bs node))
-        recipe-halves g c = rw (el, em) (halves-recipe g (rw (sound-recipe (R .sound) node clause-below kind) at c))
+        pub recipe-both : Both (meet name (clauseOf bs node)) (meet name (clauseOf bs m)) (goal (goalAt bs l))
+        recipe-both = rw (sound-recipe (R .sound) node clause-below kind, el, em) parts-⊸
 
         pub recipe-joins : (f g h : Gathered) → Tensors h f g → Trace (b .depth) es (meet name (clauseOf bs m)) f
             → Trace (b .depth) es (goal (goalAt bs l)) g → Trace (b .depth) es (meet name (clauseOf bs node)) h
@@ -441,13 +444,16 @@ module _ {bs steps nodes : List ℕ} {linear : List Bool} {b : Branch} (R : Read
       conditions : PartWalks bs steps nodes nodes₂ linear linear₂ (deeperB b) (meet name (clauseAt es e)) x
       conditions = rw (scope-clause bs nodes linear (b .count) e (U .inside), ← en, ← eb) X
 
-      pub use-lost : x ≡ Astray → PartWalks bs steps nodes nodes₂ linear linear₂ b (goal (atomᴳ name)) x
-      unfolding Tells
+      pub use-lost : {f : Refusal} → x ≡ Astray f → PartWalks bs steps nodes nodes₂ linear linear₂ b (goal (atomᴳ name)) x
+      unfolding Tells scopeIn
       use-lost q = rw q (record {
-        tells = use-astray (U .deep) (U .next) (let t = conditions .tells in rw q at t);
+        tells = use-stops (U .deep) (U .next) fits (let t = conditions .tells in rw q at t);
         node-kept = conditions .node-kept;
         linear-kept = conditions .linear-kept;
       })
+        where
+          fits : usable (es .fits) name (clauseAt es e) ≡ true
+          fits = ap (usable (scopeOf bs .fits) name) (scope-clause bs nodes linear (b .count) e (U .inside)) ∙ U .fitting
 
       pub use-done : (w u : Summary) → x ≡ Ended w → (gone : Bool) → gone ≡ getD linear e false → u ≡ behindW w gone (b .rules) e
           → PartWalks bs steps nodes nodes₂ linear linear₂ b (goal (atomᴳ name)) (Ended u)

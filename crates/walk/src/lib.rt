@@ -1,5 +1,5 @@
-// One pass along a given list. It goes by clauses and does not mind items: it ends, or says that the list does not fit; on the way it
-// gathers the list's summary and whether the items divided, and never breaks off because they did not.
+// One pass along a given list (02, #102). It goes by clauses and does not mind items: it ends, or stops at its first wrong step; on the way
+// it gathers the list's summary and whether the items divided, and never breaks off because they did not.
 use card::format::kind;
 use card::format::left;
 use card::format::right;
@@ -136,10 +136,10 @@ fn walk_atom(
 {
     let name = left(card, node);
     let next = next_step(card, steps, nodes, linear, b, name);
-    let Step::Taken(e) = next else {
-        return Walked::Astray;
-    };
-    use_clause(card, steps, nodes, linear, b, name, e)
+    match next {
+        Step::Taken(e) => use_clause(card, steps, nodes, linear, b, name, e),
+        Step::Wrong(refusal) => Walked::Astray(refusal),
+    }
 }
 
 // The use of an entry for a name.

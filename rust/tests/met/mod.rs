@@ -40,7 +40,7 @@ pub const LONG: usize = 50;
 /// budget being spent, or given up, the planner having taken too long.
 #[derive(Default, Debug)]
 pub struct Met {
-    numbers: [usize; 15],
+    numbers: [usize; 20],
     pub skipped: usize,
     pub given_up: usize,
     /// The most steps of a sheet, and how many sheets are long.
@@ -66,6 +66,13 @@ impl Met {
     pub fn all(&self, numbers: &[usize]) {
         for &n in numbers {
             assert!(self.numbers[n] > 0, "{n} was never met: {self:?}");
+        }
+    }
+
+    /// Each of these was met at least so often.
+    pub fn each(&self, numbers: &[usize], least: usize) {
+        for &n in numbers {
+            assert!(self.numbers[n] >= least, "{n} was met fewer than {least} times: {self:?}");
         }
     }
 

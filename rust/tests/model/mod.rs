@@ -224,6 +224,43 @@ fn planned(
     })
 }
 
+/// The first wrong step: its number and index. What is still wanted is kept in order, each goal with its nesting
+/// left and the clauses in its scope; who has used what is not minded.
+fn first_wrong(card: &Card, steps: &[u8]) -> Option<(u8, usize)> {
+    let scope: Vec<_> = card.scope().into_iter().map(|entry| entry.clause).collect();
+    let mut wanted = vec![(card.goal.clone(), card.d, scope)];
+    let mut i = 0;
+    while let Some((goal, depth, mut scope)) = wanted.pop() {
+        match &*goal {
+            Goal::Done | Goal::Rest => {}
+            Goal::Both(a, b) | Goal::Either(a, b) => {
+                wanted.push((b.clone(), depth, scope.clone()));
+                wanted.push((a.clone(), depth, scope));
+            }
+            Goal::Lend(d, g) => {
+                scope.push(d.clone());
+                wanted.push((g.clone(), depth, scope));
+            }
+            Goal::Name(a) => {
+                let Some(&e) = steps.get(i) else {
+                    return Some((18, i));
+                };
+                let clause = scope.get(usize::from(e)).filter(|d| d.head == Some(*a));
+                let Some(clause) = clause.cloned() else {
+                    return Some((13, i));
+                };
+                if depth == 0 {
+                    return Some((17, i));
+                }
+                let conditions = clause.conditions.iter().rev();
+                wanted.extend(conditions.map(|g| (g.clone(), depth - 1, scope.clone())));
+                i += 1;
+            }
+        }
+    }
+    (i < steps.len()).then_some((18, i))
+}
+
 /// Follows a list through a goal: the way it goes, and how many steps it takes.
 fn walk(scope: &mut Scope, g: &Goal, depth: usize, steps: &[u8]) -> Option<(Way, usize)> {
     match g {
@@ -280,8 +317,11 @@ pub fn read(bytes: &[u8], sheet: &[u8]) -> Result<usize, Refusal> {
         return refused(12, Place::Sheet);
     }
     let steps = &sheet[5..5 + k];
+    if let Some((number, i)) = first_wrong(&card, steps) {
+        return refused(number, Place::Step(i as u16));
+    }
     if !listed(&card, steps) {
-        return refused(13, Place::Steps);
+        return refused(19, Place::Steps);
     }
     match (0..t).find(|&i| sheet[5 + k + i] != card.mark(steps, i)) {
         Some(i) => refused(14, Place::Mark(i as u16)),

@@ -6,16 +6,18 @@ use mathlib.Core.Logic.{_⊎_, _↔_}
 use mathlib.Core.Bool.{Bool, true, false, _&&_, _||_}
 use mathlib.Core.List.{List, [], _∷_, _++_}
 use lib.ListN.{length}
-use Rattle.calculus.specs.Formula.{Goal, Clause, atomᴳ, topᴳ, oneᴳ, tensor, with, lolliᴳ, atomᴰ, lolliᴰ}
+use Rattle.calculus.specs.Formula.{Goal, Clause, atomᴳ, topᴳ, oneᴳ, zeroᴳ, tensor, with, lolliᴳ, atomᴰ, lolliᴰ}
 use Rattle.calculus.specs.Items.{Items, _∪_, Empty, Within}
 use Rattle.calculus.specs.Derivation.{Scope, size, clauseAt, linearAt, lend}
 use Rattle.calculus.specs.Job.{Job}
+use Rattle.calculus.specs.Walk.{Walk, goalWalk, clauseWalk, nameWithin}
+use Rattle.calculus.specs.Wanted.{Part, goal, meet}
 use Rattle.calculus.specs.Inner.Summary.{Same, Joins, Without, Plus, spare, Covers}
 
--- What is walked: a goal, or the conditions of a clause that is used for a name.
-pub data Part : Type 0 where
-  goal : Goal → Part
-  meet : ℕ → Clause → Part
+-- the walk of a part, with nesting n left
+unfoldable pub partWalk : ℕ → Part → Scope → ℕ → List ℕ → Walk
+partWalk n (goal G) = goalWalk (nameWithin n) G
+partWalk n (meet a D) = clauseWalk (nameWithin n) D
 
 -- What a walk gathers: its list, the outer items that it takes, whether there is slack, and whether all items divided.
 pub record Gathered : Type 0 where
@@ -38,6 +40,13 @@ pub record Ends (w : Gathered) (slack : Bool) : Type 0 where
   pub unused : Empty (w .used)
   pub slack-is : w .slack ≡ slack
   pub is-alive : w .alive ≡ true
+
+-- w at 0: it takes no step, and never divides
+pub record Fails (w : Gathered) : Type 0 where
+  pub no-list : w .list ≡ []
+  pub unused : Empty (w .used)
+  pub slack-is : w .slack ≡ false
+  pub is-dead : w .alive ≡ false
 
 -- w at a ⊗, from x and y at its parts: their shares are apart
 pub record Tensors (w x y : Gathered) : Type 0 where
@@ -79,6 +88,7 @@ pub record UsesItem (e : ℕ) (w x : Gathered) : Type 0 where
 pub data Trace : ℕ → Scope → Part → Gathered → Type 0 where
   trace-1 : {n : ℕ} {es : Scope} {w : Gathered} → Ends w false → Trace n es (goal oneᴳ) w
   trace-⊤ : {n : ℕ} {es : Scope} {w : Gathered} → Ends w true → Trace n es (goal topᴳ) w
+  trace-0 : {n : ℕ} {es : Scope} {w : Gathered} → Fails w → Trace n es (goal zeroᴳ) w
   trace-⊗ : {n : ℕ} {es : Scope} {G H : Goal} {w x y : Gathered} → Tensors w x y
       → Trace n es (goal G) x → Trace n es (goal H) y → Trace n es (goal (tensor G H)) w
   trace-& : {n : ℕ} {es : Scope} {G H : Goal} {w x y : Gathered} → Withs es w x y

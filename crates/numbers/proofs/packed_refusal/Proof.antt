@@ -49,6 +49,12 @@ enum-known-place-4 c = search needs
 packed-requires-7 : tie.Need-packed-requires-7
 packed-requires-7 c κs = search needs
 
+enum-known-place-5 : tie.Need-enum-known-place-5
+enum-known-place-5 c = search needs
+
+packed-requires-8 : tie.Need-packed-requires-8
+packed-requires-8 c κs = search needs
+
 returns : tie.Need-returns
 unfolding whereOf placeOf places indexOf
 returns c = (
@@ -98,6 +104,13 @@ returns-7 c = (
   (plain-indexed (c .packed7 .result) (c .packed7 .ensures .0) (omega arith) refl refl, c .packed7 .ensures .1),
 )
 
+returns-8 : tie.Need-returns-8
+unfolding whereOf placeOf places indexOf
+returns-8 c = (
+  told-at (c .packed8 .result) (c .before .before .place5 .given .1) (c .packed8 .ensures .0) refl,
+  (plain-indexed (c .packed8 .result) (c .packed8 .ensures .0) (omega arith) refl refl, c .packed8 .ensures .1),
+)
+
 pub packed-refusal-spec : {M : Type 1} → statement M
 packed-refusal-spec =
     tie.close
@@ -116,10 +129,13 @@ packed-refusal-spec =
     packed-requires-6
     enum-known-place-4
     packed-requires-7
+    enum-known-place-5
+    packed-requires-8
     returns
     returns-2
     returns-3
     returns-4
     returns-5
     returns-6
-    returns-7)
+    returns-7
+    returns-8)

@@ -1,9 +1,11 @@
 -- What each change of a branch and of a summary is.
 use Prim.Native.Nat.{ℕ, _+_, _-_}
-use mathlib.Core.Bool.{Bool, true, false, not, cond, _&&_, _||_}
+use mathlib.Core.Bool.{Bool, true, not, cond, _&&_, _||_}
 use mathlib.Core.List.{List}
 use Rattle.card.specs.Format.{ruleCount, lineCount, depthLimit}
 use Rattle.lines.specs.Inner.Set.{member, isEmptyS, emptyS, addS, takeS, cutS, meetS, joinS}
+use Rattle.card.specs.declared.Place.{Place}
+use Rattle.card.specs.declared.Refusal.{Refusal}
 use Rattle.summary.specs.declared.Branch.{Branch}
 use Rattle.summary.specs.declared.Summary.{Summary}
 
@@ -60,3 +62,6 @@ usingW w item = record {
 
 unfoldable pub behindW : Summary → Bool → ℕ → ℕ → Summary
 behindW w gone rules e = cond gone (usingW w (e - rules)) w
+
+abbrev pub wrongF : ℕ → Place → Refusal
+wrongF number place = record { number = number; place = place }

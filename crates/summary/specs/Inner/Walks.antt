@@ -1,12 +1,16 @@
 -- What a walk asks, and what it tells of the given steps in terms of traces.
 use Prim.Native.Nat.{ℕ, _+_, _*_, _≤_, _<_}
 use mathlib.Core.Path.{_≡_}
-use mathlib.Core.Bool.{Bool, true, false}
+use mathlib.Core.Bool.{Bool, true}
 use mathlib.Core.List.{List, _∷_, _++_}
 use lib.ListN.{length, getD, take, drop}
 use Rattle.calculus.specs.Formula.{atomᴳ, usable}
 use Rattle.calculus.specs.Derivation.{Scope}
-use Rattle.calculus.specs.Inner.Trace.{Part, goal, meet, Gathered, Trace}
+use Rattle.calculus.specs.Walk.{stops}
+use Rattle.calculus.specs.Wanted.{Part, goal, meet}
+use Rattle.calculus.specs.Inner.Trace.{partWalk, Gathered, Trace}
+use Rattle.card.specs.declared.Refusal.{Refusal}
+use Rattle.card.specs.Verdict.{whereOf, step}
 use Rattle.card.specs.Format.{ruleCount, nodeCount}
 use Rattle.card.specs.Fault.{Sound, goalPart, clausePart, heightAt}
 use Rattle.card.specs.Decode.{goalAt, clauseOf, scopeOf}
@@ -17,7 +21,7 @@ use Rattle.summary.specs.declared.Summary.{Summary}
 use Rattle.summary.specs.declared.Walked.{Walked}
 use Rattle.summary.specs.declared.Walked.the-variants.{Ended, Astray}
 use Rattle.summary.specs.declared.Step.{Step}
-use Rattle.summary.specs.declared.Step.the-variants.{Taken, Nothing}
+use Rattle.summary.specs.declared.Step.the-variants.{Taken, Wrong}
 
 -- the given steps from a place on
 unfoldable pub from : List ℕ → Branch → ℕ → List ℕ
@@ -35,14 +39,16 @@ pub record EndsWith (steps : List ℕ) (b : Branch) (es : Scope) (p : Part) (w :
   pub along : list ++ from steps b (w .at) ≡ from steps b (b .at)
   pub trace : Trace (b .depth) es p (gathered (b .rules) w list)
 
--- No beginning of the given steps is a walk of p.
-pub record FitsNone (steps : List ℕ) (b : Branch) (es : Scope) (p : Part) : Type 0 where
-  pub none-fits : (g : Gathered) (t : List ℕ) → Trace (b .depth) es p g → g .list ++ t ≡ from steps b (b .at) → ⊥
+-- The walk of the part p stops, with the refusal's number at the step that is its place.
+pub record StopsWith (steps : List ℕ) (b : Branch) (es : Scope) (p : Part) (f : Refusal) : Type 0 where
+  pub index : ℕ
+  pub place : whereOf (f .place) ≡ step index
+  pub walk : partWalk (b .depth) p es (b .at) (from steps b (b .at)) ≡ stops (f .number) index
 
 -- What each answer says.
 unfoldable pub Tells : List ℕ → Branch → Scope → Part → Walked → Type 0
 Tells steps b es p (Ended w) = EndsWith steps b es p w
-Tells steps b es p Astray = FitsNone steps b es p
+Tells steps b es p (Astray f) = StopsWith steps b es p f
 
 -- What every function of the walk asks: a sound card, steps and tables in order, and room.
 pub record Ready (bs steps nodes : List ℕ) (linear : List Bool) (b : Branch) : Type 0 where
@@ -77,7 +83,7 @@ pub record CanUse (bs steps nodes : List ℕ) (b : Branch) (name e : ℕ) : Type
 -- What the test of the next step answers.
 unfoldable pub Stepping : List ℕ → List ℕ → List ℕ → List Bool → Branch → ℕ → Step → Type 0
 Stepping bs steps nodes linear b name (Taken e) = CanUse bs steps nodes b name e
-Stepping bs steps nodes linear b name Nothing = FitsNone steps b (scopeIn bs nodes linear (b .count)) (goal (atomᴳ name))
+Stepping bs steps nodes linear b name (Wrong f) = StopsWith steps b (scopeIn bs nodes linear (b .count)) (goal (atomᴳ name)) f
 
 -- What every function of the walk promises: what it tells of the part, and that the entries in scope are kept. Behind them the tables are
 -- free: as many places as before.

@@ -6,12 +6,15 @@ use mathlib.Core.Bool.{true}
 use mathlib.Core.List.{List}
 use Rattle.calculus.specs.Items.{_∪_, Within}
 use Rattle.calculus.specs.Job.{Listed}
+use Rattle.calculus.specs.Walk.{ItemsDivide}
 use Rattle.card.specs.Format.{ruleCount}
+use Rattle.card.specs.Verdict.{Verdict, Where, sound, fault, step, steps, whereOf}
 use Rattle.card.specs.Decode.{jobOf}
 use Rattle.scope.specs.Inner.Sets.{items}
 use Rattle.summary.specs.declared.Summary.{Summary}
-use Rattle.trace.specs.declared.Followed.{Followed}
-use Rattle.trace.specs.declared.Followed.the-variants.{Listed as Listed⁺, Unlisted}
+use Rattle.summary.specs.declared.Walked.{Walked}
+use Rattle.summary.specs.declared.Walked.the-variants.{Ended, Astray}
+use Rattle.trace.specs.Steps.{stepsFault}
 
 -- The items divided, they lie within the lines, and there is slack or every must line is among them.
 pub record Covered (bs : List ℕ) (w : Summary) : Type 0 where
@@ -19,7 +22,19 @@ pub record Covered (bs : List ℕ) (w : Summary) : Type 0 where
   pub within : Within (items (ruleCount bs) (w .used)) (jobOf bs .strict ∪ jobOf bs .lax)
   pub all-strict : (w .slack ≡ true) ⊎ Within (jobOf bs .strict) (items (ruleCount bs) (w .used))
 
--- what each answer says of a list: it is the list of a derivation within limits, or it is not
-unfoldable pub ListedSays : List ℕ → List ℕ → Followed → Type 0
-ListedSays bs l Listed⁺ = Listed (jobOf bs) l
-ListedSays bs l Unlisted = Listed (jobOf bs) l → ⊥
+-- what is found of a walk along k steps that has ended
+pub data Ending (bs : List ℕ) (w : Summary) (k : ℕ) : Verdict → Type 0 where
+  early : (w .at ≡ k → ⊥) → Ending bs w k (fault 18 (step (w .at)))
+  bare : w .at ≡ k → (Covered bs w → ⊥) → Ending bs w k (fault 19 steps)
+  whole : w .at ≡ k → Covered bs w → Ending bs w k sound
+
+-- what a walk itself found: nothing where it ended
+unfoldable pub foundBy : Walked → Verdict
+foundBy (Ended w) = sound
+foundBy (Astray f) = fault (f .number) (whereOf (f .place))
+
+-- what is found of a list: 13, 17 or 18; 19; or nothing, and it is the list of a derivation within limits
+pub data Following (bs l : List ℕ) : Verdict → Type 0 where
+  strays : {n : ℕ} {w : Where} → stepsFault bs l ≡ fault n w → Following bs l (fault n w)
+  divides-not : stepsFault bs l ≡ sound → (ItemsDivide (jobOf bs) l → ⊥) → Following bs l (fault 19 steps)
+  follows : Listed (jobOf bs) l → Following bs l sound

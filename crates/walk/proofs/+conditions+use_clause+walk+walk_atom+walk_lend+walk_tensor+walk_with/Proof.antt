@@ -9,9 +9,9 @@ use Rattle.card.proofs.CardChecked.{sound-front}
 use Rattle.card.proofs.NodesDecoded.{reads-rest, reads-done}
 use Rattle.card.proofs.SoundNodes.{clause-lower}
 use Rattle.walk.proofs.CallsAreReady.{weight, rules-below, first-lost, run-lost, run-tensor, run-with, goal-here, done-ends}
-use Rattle.walk.proofs.CallsAreReady.{left-call, right-call, kind-six, tensor-parts, with-parts, tensor-halves, tensor-joins}
-use Rattle.walk.proofs.CallsAreReady.{with-halves, with-joins, lend-room, put-room, lend-call, lend-lost, lend-done, atom-lost}
-use Rattle.walk.proofs.CallsAreReady.{atom-call, atom-done, clause-here, head-ends, recipe-halves, recipe-joins, recipe-call}
+use Rattle.walk.proofs.CallsAreReady.{left-call, right-call, kind-six, tensor-parts, with-parts, tensor-both, tensor-joins}
+use Rattle.walk.proofs.CallsAreReady.{with-both, with-joins, put-room, lend-call, lend-lost, lend-done, atom-lost}
+use Rattle.walk.proofs.CallsAreReady.{atom-call, atom-done, clause-here, head-ends, recipe-both, recipe-joins, recipe-call}
 use Rattle.walk.proofs.CallsAreReady.{condition-call, use-call, use-lost, use-done, behind-low}
 use Prim.Native.Nat.{ℕ, _<_}
 use borrow.Fn.Kinds.{In}
@@ -262,7 +262,7 @@ conditions-returns-2 t c =
     let at-else1 = at-right .before in
     let at-kind = at-else1 .before in
     let start = at-kind .before .before .before in
-    first-lost (start .pre .1 .0) (recipe-halves (start .pre .1 .0) _ _ (start .pre .1 .1) (sym (at-kind .kind .ensures .0) ∙ at-else1
+    first-lost (start .pre .1 .0) (recipe-both (start .pre .1 .0) _ _ (start .pre .1 .1) (sym (at-kind .kind .ensures .0) ∙ at-else1
     .if1 .left) _ (at-right .right .ensures .0) _ refl) (c .enum-told .given .1) (at-conditions .conditions .ensures)
 
 conditions-left-requires : (t : ℕ) → conditions-lts.Need-left-requires (conditions-claims t) (conditions-at t) conditions.Post
@@ -302,7 +302,7 @@ conditions-returns-3 t c =
     let at-kind = at-else1 .before in
     let start = at-kind .before .before .before in
     run-lost (start .pre .1 .0) _ (at-first .first .given .1) (at-conditions .conditions .ensures) _ (at-on .on .ensures) (at-walk .walk
-    .ensures) (recipe-halves (start .pre .1 .0) _ _ (start .pre .1 .1) (sym (at-kind .kind .ensures .0) ∙ at-else1 .if1 .left) _
+    .ensures) (recipe-both (start .pre .1 .0) _ _ (start .pre .1 .1) (sym (at-kind .kind .ensures .0) ∙ at-else1 .if1 .left) _
     (at-right .right .ensures .0) _ (at-left .left .ensures .0)) (c .enum-told2 .given .1)
 
 conditions-tensor-requires : (t : ℕ) → conditions-lts.Need-tensor-requires (conditions-claims t) (conditions-at t) conditions.Post
@@ -514,17 +514,6 @@ walk-atom-next-step-requires t c κs =
 walk-atom-enum-known-next : (t : ℕ) → walk-atom-lts.Need-enum-known-next (walk-atom-claims t) (walk-atom-at t) walk-atom.Post
 walk-atom-enum-known-next t c = c .match .keys1
 
-walk-atom-enum-told : (t : ℕ) → walk-atom-lts.Need-enum-told (walk-atom-claims t) (walk-atom-at t) walk-atom.Post
-walk-atom-enum-told t c = c .match .keys2
-
-walk-atom-returns : (t : ℕ) → walk-atom-lts.Need-returns (walk-atom-claims t) (walk-atom-at t) walk-atom.Post
-walk-atom-returns t c =
-    let at-next-step = c .before .before in
-    let at-left = at-next-step .before .before .before in
-    let start = at-left .before .before .before in
-    atom-lost (start .pre .1 .0) _ (start .pre .1 .1 .0) (start .pre .1 .1 .1) _ (at-left .left .ensures .0) (at-next-step .next-step
-    .ensures) (c .enum-told .given .1)
-
 walk-atom-use-clause-requires : (t : ℕ) → walk-atom-lts.Need-use-clause-requires (walk-atom-claims t) (walk-atom-at t) walk-atom.Post
 walk-atom-use-clause-requires t c κs =
     let at-next = c .before .before .before in
@@ -534,11 +523,24 @@ walk-atom-use-clause-requires t c κs =
     atom-call (start .pre .1 .0) _ (start .pre .1 .1 .0) (start .pre .1 .1 .1) _ (at-left .left .ensures .0) (at-next-step .next-step
     .ensures) _ (at-next .next .given .1) t (start .pre .0)
 
-walk-atom-returns-2 : (t : ℕ) → walk-atom-lts.Need-returns-2 (walk-atom-claims t) (walk-atom-at t) walk-atom.Post
-walk-atom-returns-2 t c =
-    let at-left = c .before .before .before .before .before .before .before .before .before in
+walk-atom-enum-known-next-2 : (t : ℕ) → walk-atom-lts.Need-enum-known-next-2 (walk-atom-claims t) (walk-atom-at t) walk-atom.Post
+walk-atom-enum-known-next-2 t c = c .match .keys2
+
+walk-atom-returns : (t : ℕ) → walk-atom-lts.Need-returns (walk-atom-claims t) (walk-atom-at t) walk-atom.Post
+walk-atom-returns t c =
+    let at-next-step = c .before .before .before .before .before .before in
+    let at-left = at-next-step .before .before .before in
     let start = at-left .before .before .before in
     atom-done (start .pre .1 .0) _ (start .pre .1 .1 .0) (start .pre .1 .1 .1) _ (at-left .left .ensures .0) (c .use-clause .ensures)
+
+walk-atom-returns-2 : (t : ℕ) → walk-atom-lts.Need-returns-2 (walk-atom-claims t) (walk-atom-at t) walk-atom.Post
+walk-atom-returns-2 t c =
+    let at-next = c .before in
+    let at-next-step = at-next .before .before in
+    let at-left = at-next-step .before .before .before in
+    let start = at-left .before .before .before in
+    atom-lost (start .pre .1 .0) _ (start .pre .1 .1 .0) (start .pre .1 .1 .1) _ (at-left .left .ensures .0) (at-next-step .next-step
+    .ensures) (at-next .next2 .given .1)
 
 walk-lend-left-requires : (t : ℕ) → walk-lend-lts.Need-left-requires (walk-lend-claims t) (walk-lend-at t) walk-lend.Post
 walk-lend-left-requires t c κs =
@@ -634,7 +636,7 @@ walk-tensor-returns t c =
     let at-walk = c .before .before in
     let at-left = at-walk .before .before .before in
     let start = at-left .before .before .before in
-    first-lost (start .pre .1 .0) (tensor-halves (start .pre .1 .0) _ (start .pre .1 .1 .0) _ (at-left .left .ensures .0) _ refl (start
+    first-lost (start .pre .1 .0) (tensor-both (start .pre .1 .0) _ (start .pre .1 .1 .0) _ (at-left .left .ensures .0) _ refl (start
     .pre .1 .1 .1)) (c .enum-told .given .1) (at-walk .walk .ensures)
 
 walk-tensor-right-requires : (t : ℕ) → walk-tensor-lts.Need-right-requires (walk-tensor-claims t) (walk-tensor-at t) walk-tensor.Post
@@ -671,7 +673,7 @@ walk-tensor-returns-2 t c =
     let at-left = at-walk .before .before .before in
     let start = at-left .before .before .before in
     run-lost (start .pre .1 .0) _ (at-first .first .given .1) (at-walk .walk .ensures) _ (at-on .on .ensures) (at-walk2 .walk2 .ensures)
-    (tensor-halves (start .pre .1 .0) _ (start .pre .1 .1 .0) _ (at-left .left .ensures .0) _ (at-right .right .ensures .0) (start .pre
+    (tensor-both (start .pre .1 .0) _ (start .pre .1 .1 .0) _ (at-left .left .ensures .0) _ (at-right .right .ensures .0) (start .pre
     .1 .1 .1)) (c .enum-told2 .given .1)
 
 walk-tensor-tensor-requires : (t : ℕ) → walk-tensor-lts.Need-tensor-requires (walk-tensor-claims t) (walk-tensor-at t) walk-tensor.Post
@@ -715,7 +717,7 @@ walk-with-returns t c =
     let at-walk = c .before .before in
     let at-left = at-walk .before .before .before in
     let start = at-left .before .before .before in
-    first-lost (start .pre .1 .0) (with-halves (start .pre .1 .0) _ (start .pre .1 .1 .0) _ (at-left .left .ensures .0) _ refl (start
+    first-lost (start .pre .1 .0) (with-both (start .pre .1 .0) _ (start .pre .1 .1 .0) _ (at-left .left .ensures .0) _ refl (start
     .pre .1 .1 .1)) (c .enum-told .given .1) (at-walk .walk .ensures)
 
 walk-with-right-requires : (t : ℕ) → walk-with-lts.Need-right-requires (walk-with-claims t) (walk-with-at t) walk-with.Post
@@ -752,7 +754,7 @@ walk-with-returns-2 t c =
     let at-left = at-walk .before .before .before in
     let start = at-left .before .before .before in
     run-lost (start .pre .1 .0) _ (at-first .first .given .1) (at-walk .walk .ensures) _ (at-on .on .ensures) (at-walk2 .walk2 .ensures)
-    (with-halves (start .pre .1 .0) _ (start .pre .1 .1 .0) _ (at-left .left .ensures .0) _ (at-right .right .ensures .0) (start .pre .1
+    (with-both (start .pre .1 .0) _ (start .pre .1 .1 .0) _ (at-left .left .ensures .0) _ (at-right .right .ensures .0) (start .pre .1
     .1 .1)) (c .enum-told2 .given .1)
 
 walk-with-beside-requires : (t : ℕ) → walk-with-lts.Need-beside-requires (walk-with-claims t) (walk-with-at t) walk-with.Post
@@ -838,9 +840,9 @@ pub +conditions+use-clause+walk+walk-atom+walk-lend+walk-tensor+walk-with-spec :
     (walk-atom-left-requires t)
     (walk-atom-next-step-requires t)
     (walk-atom-enum-known-next t)
-    (walk-atom-enum-told t)
-    (walk-atom-returns t)
     (walk-atom-use-clause-requires t)
+    (walk-atom-enum-known-next-2 t)
+    (walk-atom-returns t)
     (walk-atom-returns-2 t))
     (λ t. walk-lend-lts.spec (walk-lend-claims t)
     (walk-lend-at t)

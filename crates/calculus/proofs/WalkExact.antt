@@ -1,0 +1,397 @@
+-- The walk is what its places say: it goes along just the lists that are walks, and stops just at the first wrong step. A list is that of
+-- a derivation within limits exactly when its walk is right and its items divide.
+use Prim.Native.Nat.{ℕ, zero, suc, _+_, _≤_}
+use native.Mathlib.Omega.{arith}
+use mathlib.Core.Path.{_≡_, refl, sym, ap, ap₂, subst, _∙_}
+use mathlib.Core.Logic.{_↔_}
+use mathlib.Core.Bool.{Bool, true, false, false≢true}
+use mathlib.Core.List.{List, [], _∷_, _++_, append-assoc, append-nil, head-eq-of-cons-eq, tail-eq-of-cons-eq}
+use lib.ListN.{length, length-append}
+use Rattle.calculus.specs.Formula.{Goal, Clause, atomᴳ, topᴳ, oneᴳ, zeroᴳ, tensor, with, lolliᴳ, atomᴰ, topᴰ, lolliᴰ, usable}
+use Rattle.calculus.specs.Derivation.{Scope, clauseAt, lend}
+use Rattle.calculus.specs.Items.{_∪_}
+use Rattle.calculus.specs.Steps.{nesting}
+use Rattle.calculus.specs.Job.{Job, Listed}
+use Rattle.calculus.specs.Inner.Summary.{Bounded}
+use Rattle.calculus.specs.Walk.{Walk, goes, stops, _⨾_, goalWalk, clauseWalk, nameWalk, nameWithin, jobWalk, ItemsDivide}
+use Rattle.calculus.specs.Wanted.{Part, goal, meet, Both, parts-⊗, parts-&, parts-⊸, Still, still-1, still-⊤, still-0, still-head}
+use Rattle.calculus.specs.Wanted.{Along, ends, in-turn, lends, uses, Wants, here, in-first, in-second, in-lent, in-use}
+use Rattle.calculus.specs.Inner.Trace.{partWalk, Gathered, Trace, Accounts, trace-1, trace-⊤, trace-0, trace-⊗, trace-&, trace-⊸}
+use Rattle.calculus.specs.Inner.Trace.{trace-rule, trace-item, trace-head, trace-recipe}
+use Rattle.calculus.proofs.TraceExact.{begun, listed-accounts}
+use Rattle.calculus.specs.Wanted.{Wrong, no-entry, too-deep, missing, FirstWrong}
+
+-- The walk of a part
+
+pub walk-both : (n : ℕ) {p x y : Part} → Both p x y → (es : Scope) (i : ℕ) (l : List ℕ)
+    → partWalk n p es i l ≡ partWalk n x es i l ⨾ partWalk n y es
+unfolding partWalk goalWalk clauseWalk
+walk-both n parts-⊗ es i l = refl
+walk-both n parts-& es i l = refl
+walk-both n parts-⊸ es i l = refl
+
+pub walk-still : (n : ℕ) {p : Part} → Still p → (es : Scope) (i : ℕ) (l : List ℕ) → partWalk n p es i l ≡ goes i l
+unfolding partWalk goalWalk clauseWalk
+walk-still n still-1 es i l = refl
+walk-still n still-⊤ es i l = refl
+walk-still n still-0 es i l = refl
+walk-still n still-head es i l = refl
+
+pub walk-lent : (n : ℕ) (D : Clause) (G : Goal) (es : Scope) (i : ℕ) (l : List ℕ)
+    → partWalk n (goal (lolliᴳ D G)) es i l ≡ partWalk n (goal G) (lend es D) i l
+unfolding partWalk goalWalk
+walk-lent n D G es i l = refl
+
+pub walk-none : (n a : ℕ) (es : Scope) (i : ℕ) → partWalk n (goal (atomᴳ a)) es i [] ≡ stops 18 i
+unfolding partWalk goalWalk nameWithin nameWalk
+walk-none zero a es i = refl
+walk-none (suc n) a es i = refl
+
+pub walk-unfit : (n a : ℕ) (es : Scope) (i e : ℕ) (l : List ℕ) → usable (es .fits) a (clauseAt es e) ≡ false
+    → partWalk n (goal (atomᴳ a)) es i (e ∷ l) ≡ stops 13 i
+unfolding partWalk goalWalk nameWithin nameWalk
+walk-unfit zero a es i e l u = rw u refl
+walk-unfit (suc n) a es i e l u = rw u refl
+
+pub walk-deep : (a : ℕ) (es : Scope) (i e : ℕ) (l : List ℕ) → usable (es .fits) a (clauseAt es e) ≡ true
+    → partWalk 0 (goal (atomᴳ a)) es i (e ∷ l) ≡ stops 17 i
+unfolding partWalk goalWalk nameWithin nameWalk
+walk-deep a es i e l u = rw u refl
+
+pub walk-use : (n a : ℕ) (es : Scope) (i e : ℕ) (l : List ℕ) → usable (es .fits) a (clauseAt es e) ≡ true
+    → partWalk (suc n) (goal (atomᴳ a)) es i (e ∷ l) ≡ partWalk n (meet a (clauseAt es e)) es (i + 1) l
+unfolding partWalk goalWalk nameWithin nameWalk
+walk-use n a es i e l u = rw u refl
+
+-- What goes along a list, and what stops
+
+at-step : {i j : ℕ} (t : List ℕ) → i ≡ j → goes i t ≡ goes j t
+at-step t e = ap (λ (j : ℕ). goes j t) e
+
+at-stop : {i j : ℕ} (m : ℕ) → i ≡ j → stops m i ≡ stops m j
+at-stop m e = ap (λ (j : ℕ). stops m j) e
+
+longer : (i : ℕ) (k m : List ℕ) → i + length k + length m ≡ i + length (k ++ m)
+longer i k m = let e = length-append k m in omega arith
+
+pub along-walk : {n : ℕ} {es : Scope} {p : Part} {k : List ℕ} → Along n es p k → (i : ℕ) (t : List ℕ)
+    → partWalk n p es i (k ++ t) ≡ goes (i + length k) t
+unfolding _⨾_
+along-walk {n} {es} (ends s) i t = walk-still n s es i t ∙ at-step t (omega arith)
+along-walk {n} {es} (in-turn {p} {x} {y} {l} {k} {m} b q c d) i t =
+    let first = along-walk c i (m ++ t) in
+    rw q (
+    ap (partWalk n p es i) (append-assoc k m t)
+    ∙ walk-both n b es i (k ++ (m ++ t))
+    ∙ rw first (along-walk d (i + length k) t ∙ at-step t (longer i k m))
+    )
+along-walk {n} {es} (lends {D} {G} {l} c) i t = walk-lent n D G es i (l ++ t) ∙ along-walk c i t
+along-walk {es} (uses {n} {a} {e} {l} u c) i t =
+    walk-use n a es i e (l ++ t) u ∙ along-walk c (i + 1) t ∙ at-step t (omega arith)
+
+-- one use out, limit and nesting are one more
+lower : {d u a m : ℕ} {fs : Scope} {t : List ℕ} → Wrong (suc d) fs a (suc u) m t → Wrong d fs a u m t
+lower (no-entry h) = no-entry h
+lower (too-deep h g) = too-deep h (omega arith)
+lower missing = missing
+
+-- what is wrong at a name that is wanted at once
+wrong-here : (n a : ℕ) (es : Scope) {m : ℕ} {t : List ℕ} → Wrong n es a 1 m t → (i : ℕ) → partWalk n (goal (atomᴳ a)) es i t ≡ stops m i
+wrong-here n a es (no-entry {e} {l} h) i = walk-unfit n a es i e l h
+wrong-here zero a es (too-deep {e} {l} h g) i = walk-deep a es i e l h
+wrong-here (suc n) a es (too-deep h g) i = absurd (omega arith)
+wrong-here n a es missing i = walk-none n a es i
+
+pub wants-walk : {n u a m : ℕ} {es fs : Scope} {p : Part} {k t : List ℕ} → Wants n es p k u fs a → Wrong n fs a u m t → (i : ℕ)
+    → partWalk n p es i (k ++ t) ≡ stops m (i + length k)
+unfolding _⨾_
+wants-walk {m} {t} (here {n} {a} {es}) w i = wrong-here n a es w i ∙ at-stop m (omega arith)
+wants-walk {n} {es} {k} {t} (in-first {y} b c) w i = walk-both n b es i (k ++ t) ∙ ap (λ x. x ⨾ partWalk n y es) (wants-walk c w i)
+wants-walk {n} {m = h} {es} {t} (in-second {p} {x} {y} {l} {k} {m} b q c d) w i =
+    let first = along-walk c i (m ++ t) in
+    rw q (
+    ap (partWalk n p es i) (append-assoc k m t)
+    ∙ walk-both n b es i (k ++ (m ++ t))
+    ∙ rw first (wants-walk d w (i + length k) ∙ at-stop h (longer i k m))
+    )
+wants-walk {n} {es} {k} {t} (in-lent {D} {G} c) w i = walk-lent n D G es i (k ++ t) ∙ wants-walk c w i
+wants-walk {m} {es} {t} (in-use {n} {b} {e} {l} u c) w i =
+    walk-use n b es i e (l ++ t) u ∙ wants-walk c (lower w) (i + 1) ∙ at-stop m (omega arith)
+
+-- What a walk tells
+
+data Told (n : ℕ) (es : Scope) (p : Part) (i : ℕ) (l : List ℕ) : Walk → Type 0 where
+  went : {j : ℕ} {k t : List ℕ} → Along n es p k → k ++ t ≡ l → i + length k ≡ j → Told n es p i l (goes j t)
+  halted : {j m u a : ℕ} {fs : Scope} {k t : List ℕ} → Wants n es p k u fs a → Wrong n fs a u m t → k ++ t ≡ l → i + length k ≡ j
+      → Told n es p i l (stops m j)
+
+-- what the walk of a part in a scope tells
+abbrev Tells : ℕ → Scope → Part → Type 0
+Tells n es p = (i : ℕ) (l : List ℕ) → Told n es p i l (partWalk n p es i l)
+
+told-still : (n : ℕ) (es : Scope) {p : Part} → Still p → Tells n es p
+told-still n es s i l = rw (walk-still n s es i l) (went {j = i} (ends s) refl (omega arith))
+
+told-both : (n : ℕ) (es : Scope) {p x y : Part} → Both p x y → Tells n es x → Tells n es y → Tells n es p
+unfolding _⨾_
+told-both n es {p} {x} {y} b first second i l = rw (walk-both n b es i l) (behind (first i l))
+  where
+    after : {j : ℕ} {k t : List ℕ} {w : Walk} → Along n es x k → k ++ t ≡ l → i + length k ≡ j → Told n es y j t w → Told n es p i l w
+    after {k} c q e (went {j = h} {k = m} {t = r} d f g) =
+        went {j = h} (in-turn b refl c d) (append-assoc k m r ∙ ap (λ s. k ++ s) f ∙ q) (let o = length-append k m in omega arith)
+    after {k} c q e (halted {j = h} {k = m} {t = r} d w f g) =
+        halted {j = h} (in-second b refl c d) w (append-assoc k m r ∙ ap (λ s. k ++ s) f ∙ q) (let o = length-append k m in omega arith)
+
+    behind : {w : Walk} → Told n es x i l w → Told n es p i l (w ⨾ partWalk n y es)
+    behind (went {j} {t} c q e) = after c q e (second j t)
+    behind (halted c w q e) = halted (in-first b c) w q e
+
+told-lent : (n : ℕ) (es : Scope) (D : Clause) (G : Goal) → Tells n (lend es D) (goal G) → Tells n es (goal (lolliᴳ D G))
+told-lent n es D G inner i l = rw (walk-lent n D G es i l) (out (inner i l))
+  where
+    out : {w : Walk} → Told n (lend es D) (goal G) i l w → Told n es (goal (lolliᴳ D G)) i l w
+    out (went c q e) = went (lends c) q e
+    out (halted c w q e) = halted (in-lent c) w q e
+
+module _ (n : ℕ) (names : (a : ℕ) (es : Scope) → Tells n es (goal (atomᴳ a))) where
+  told-goal : (G : Goal) (es : Scope) → Tells n es (goal G)
+  told-goal (atomᴳ a) es = names a es
+  told-goal topᴳ es = told-still n es still-⊤
+  told-goal oneᴳ es = told-still n es still-1
+  told-goal zeroᴳ es = told-still n es still-0
+  told-goal (tensor G H) es = told-both n es parts-⊗ (told-goal G es) (told-goal H es)
+  told-goal (with G H) es = told-both n es parts-& (told-goal G es) (told-goal H es)
+  told-goal (lolliᴳ D G) es = told-lent n es D G (told-goal G (lend es D))
+
+  told-clause : (D : Clause) (a : ℕ) (es : Scope) → usable (es .fits) a D ≡ true → Tells n es (meet a D)
+  unfolding usable
+  told-clause (atomᴰ b) a es u = told-still n es still-head
+  told-clause topᴰ a es u = absurd (false≢true u)
+  told-clause (lolliᴰ G D) a es u = told-both n es parts-⊸ (told-clause D a es u) (told-goal G es)
+
+-- an entry that can be used, with nesting left
+told-use : (n a : ℕ) (es : Scope) (i e : ℕ) (l : List ℕ) → usable (es .fits) a (clauseAt es e) ≡ true → Tells n es (meet a (clauseAt es e))
+    → Told (suc n) es (goal (atomᴳ a)) i (e ∷ l) (partWalk (suc n) (goal (atomᴳ a)) es i (e ∷ l))
+told-use n a es i e l u inner = rw (walk-use n a es i e l u) (out (inner (i + 1) l))
+  where
+    raise : {d u b m : ℕ} {fs : Scope} {t : List ℕ} → Wrong d fs b u m t → Wrong (suc d) fs b (suc u) m t
+    raise (no-entry h) = no-entry h
+    raise (too-deep h g) = too-deep h (omega arith)
+    raise missing = missing
+
+    out : {w : Walk} → Told n es (meet a (clauseAt es e)) (i + 1) l w → Told (suc n) es (goal (atomᴳ a)) i (e ∷ l) w
+    out (went {j} c q f) = went {j = j} (uses u c) (ap (λ s. e ∷ s) q) (omega arith)
+    out (halted {j} c w q f) = halted {j = j} (in-use u c) (raise w) (ap (λ s. e ∷ s) q) (omega arith)
+
+-- a name, by what is left of the list; where its entry can be used, what is told of the use
+told-at : (n a : ℕ) (es : Scope)
+    → ((i e : ℕ) (l : List ℕ) → usable (es .fits) a (clauseAt es e) ≡ true
+    → Told n es (goal (atomᴳ a)) i (e ∷ l) (partWalk n (goal (atomᴳ a)) es i (e ∷ l)))
+    → Tells n es (goal (atomᴳ a))
+told-at n a es used i [] = rw (walk-none n a es i) (halted {j = i} here missing refl (omega arith))
+told-at n a es used i (e ∷ l) = by (usable (es .fits) a (clauseAt es e)) refl
+  where
+    by : (g : Bool) → usable (es .fits) a (clauseAt es e) ≡ g
+        → Told n es (goal (atomᴳ a)) i (e ∷ l) (partWalk n (goal (atomᴳ a)) es i (e ∷ l))
+    by false u = rw (walk-unfit n a es i e l u) (halted {j = i} here (no-entry u) refl (omega arith))
+    by true u = used i e l u
+
+told-name : (n a : ℕ) (es : Scope) → Tells n es (goal (atomᴳ a))
+told-name zero a es =
+    told-at zero a es (λ i e l u. rw (walk-deep a es i e l u) (halted {j = i} here (too-deep u (omega arith)) refl (omega arith)))
+told-name (suc n) a es =
+    told-at (suc n) a es (λ i e l u. told-use n a es i e l u (told-clause n (told-name n) (clauseAt es e) a es u))
+
+told : (n : ℕ) (es : Scope) (G : Goal) → Tells n es (goal G)
+told n es G = told-goal n (told-name n) G es
+
+-- What a job's walk says
+
+module _ (j : Job) where
+  abbrev Walked : List ℕ → Type 0
+  Walked = Along (j .depth) (j .scope) (goal (j .goal))
+
+  abbrev ToldOf : List ℕ → Walk → Type 0
+  ToldOf l w = Told (j .depth) (j .scope) (goal (j .goal)) 0 l w
+
+  pub job-walk : (l : List ℕ) → jobWalk j l ≡ partWalk (j .depth) (goal (j .goal)) (j .scope) 0 l
+  unfolding jobWalk partWalk
+  job-walk l = refl
+
+  job-told : (l : List ℕ) → ToldOf l (jobWalk j l)
+  job-told l = rw (job-walk l) (told (j .depth) (j .scope) (j .goal) 0 l)
+
+  -- THEOREM. The walk goes on at step i exactly where the steps before it are a walk to its end.
+  pub goes-along : (l : List ℕ) (i : ℕ) (t : List ℕ) → (jobWalk j l ≡ goes i t) ↔ ((k : List ℕ) × Walked k × (k ++ t ≡ l) × (length k ≡ i))
+  goes-along l i t = (λ e. to (job-told l) e, λ h. from h)
+    where
+      to : {w : Walk} → ToldOf l w → w ≡ goes i t → (k : List ℕ) × Walked k × (k ++ t ≡ l) × (length k ≡ i)
+      to (went {j = h} {k} {t = s} c q f) e =
+          let x : h ≡ i = cc in
+          let y : s ≡ t = cc in
+          (k, c, ap (λ s. k ++ s) (sym y) ∙ q, omega arith)
+      to (halted c w q f) e = let z : _≡_ {A = ℕ} 0 1 = cc in absurd (omega arith)
+
+      from : ((k : List ℕ) × Walked k × (k ++ t ≡ l) × (length k ≡ i)) → jobWalk j l ≡ goes i t
+      from (k, c, q, e) = ap (jobWalk j) (sym q) ∙ job-walk (k ++ t) ∙ along-walk c 0 t ∙ at-step t (omega arith)
+
+  -- THEOREM. It stops with the number m at step i exactly where the steps before i are the beginning of a walk and step i is the first
+  -- that is wrong, in the way that m tells.
+  pub stops-first : (l : List ℕ) (m i : ℕ) → (jobWalk j l ≡ stops m i) ↔ FirstWrong (j .depth) (j .scope) (goal (j .goal)) l m i
+  stops-first l m i = (λ e. to (job-told l) e, λ h. from h)
+    where
+      to : {w : Walk} → ToldOf l w → w ≡ stops m i → FirstWrong (j .depth) (j .scope) (goal (j .goal)) l m i
+      to (went c q f) e = let z : _≡_ {A = ℕ} 0 1 = cc in absurd (omega arith)
+      to (halted {j = h} {m = g} {u} {a} {fs} {k} {t} c w q f) e =
+          let x : h ≡ i = cc in
+          let y : g ≡ m = cc in
+          record {
+            before = k;
+            after = t;
+            whole = q;
+            index = omega arith;
+            nested = u;
+            scope = fs;
+            name = a;
+            begun = c;
+            wrong = subst (λ n. Wrong (j .depth) fs a u n t) y w;
+          }
+
+      from : FirstWrong (j .depth) (j .scope) (goal (j .goal)) l m i → jobWalk j l ≡ stops m i
+      from f =
+          ap (jobWalk j) (sym (f .whole))
+          ∙ job-walk (f .before ++ f .after)
+          ∙ wants-walk (f .begun) (f .wrong) 0
+          ∙ at-stop m (let e = f .index in omega arith)
+
+-- Walks and traces
+
+-- only a clause with a head that fits is walked
+abbrev Fitting : Scope → Part → Type 0
+Fitting es (goal G) = Unit {0}
+Fitting es (meet a D) = usable (es .fits) a D ≡ true
+
+fitting : {n : ℕ} {es : Scope} {p : Part} {g : Gathered} → Trace n es p g → Fitting es p
+unfolding usable
+fitting (trace-1 e) = tt
+fitting (trace-⊤ e) = tt
+fitting (trace-0 e) = tt
+fitting (trace-⊗ s x y) = tt
+fitting (trace-& s x y) = tt
+fitting (trace-⊸ s x) = tt
+fitting (trace-rule r s x) = tt
+fitting (trace-item r s x) = tt
+fitting (trace-head f e) = f
+fitting (trace-recipe s x y) = fitting x
+
+still-along : {n : ℕ} {es : Scope} {p : Part} {l : List ℕ} → Still p → l ≡ [] → Along n es p l
+still-along s e = rw e (ends s)
+
+use-along : {n a e : ℕ} {es : Scope} {k l : List ℕ} → l ≡ e ∷ k → usable (es .fits) a (clauseAt es e) ≡ true
+    → Along n es (meet a (clauseAt es e)) k → Along (suc n) es (goal (atomᴳ a)) l
+use-along q u c = rw q (uses u c)
+
+-- THEOREM. The list of a trace is a walk.
+pub trace-along : {n : ℕ} {es : Scope} {p : Part} {g : Gathered} → Trace n es p g → Along n es p (g .list)
+trace-along (trace-1 e) = still-along still-1 (e .no-list)
+trace-along (trace-⊤ e) = still-along still-⊤ (e .no-list)
+trace-along (trace-0 e) = still-along still-0 (e .no-list)
+trace-along (trace-⊗ s x y) = in-turn parts-⊗ (s .lists) (trace-along x) (trace-along y)
+trace-along (trace-& s x y) = in-turn parts-& (s .lists) (trace-along x) (trace-along y)
+trace-along (trace-⊸ s x) = rw (s .lists) (lends (trace-along x))
+trace-along (trace-rule r s x) = use-along (s .lists) (fitting x) (trace-along x)
+trace-along (trace-item r s x) = use-along (s .lists) (fitting x) (trace-along x)
+trace-along (trace-head f e) = still-along still-head (e .no-list)
+trace-along (trace-recipe s x y) = in-turn parts-⊸ (s .lists) (trace-along x) (trace-along y)
+
+-- a list told otherwise, with what follows
+onward : {g l s : List ℕ} (r : List ℕ) → g ≡ l → g ++ r ≡ s → l ++ r ≡ s
+onward r p h = sym (ap (_++ r) p) ∙ h
+
+-- two lists in two parts each, with what follows
+in-two : (x y k m r t : List ℕ) {g l : List ℕ} → g ≡ x ++ y → l ≡ k ++ m → g ++ r ≡ l ++ t → x ++ (y ++ r) ≡ k ++ (m ++ t)
+in-two x y k m r t p q h = sym (append-assoc x y r) ∙ begun r t p q h ∙ append-assoc k m t
+
+-- THEOREM. A trace whose list, whatever follows it, begins a walk's is that walk's list, and keeps to the nesting of the walk.
+pub retrace : {n m : ℕ} {es : Scope} {p : Part} {g : Gathered} {l : List ℕ} (r t : List ℕ) → Trace m es p g → Along n es p l
+    → g .list ++ r ≡ l ++ t → (g .list ≡ l) × (r ≡ t) × Trace n es p g
+retrace r t (trace-1 e) (ends s) h = (e .no-list, onward r (e .no-list) h, trace-1 e)
+retrace r t (trace-⊤ e) (ends s) h = (e .no-list, onward r (e .no-list) h, trace-⊤ e)
+retrace r t (trace-0 e) (ends s) h = (e .no-list, onward r (e .no-list) h, trace-0 e)
+retrace r t (trace-head f e) (ends s) h = (e .no-list, onward r (e .no-list) h, trace-head f e)
+retrace r t (trace-⊗ {x} {y} s c d) (in-turn {k} {m} parts-⊗ q a b) h =
+    let f = retrace (y .list ++ r) (m ++ t) c a (in-two (x .list) (y .list) k m r t (s .lists) q h) in
+    let g = retrace r t d b (f .1) in
+    (s .lists ∙ ap₂ _++_ (f .0) (g .0) ∙ sym q, g .1, trace-⊗ s (f .2) (g .2))
+retrace r t (trace-& {x} {y} s c d) (in-turn {k} {m} parts-& q a b) h =
+    let f = retrace (y .list ++ r) (m ++ t) c a (in-two (x .list) (y .list) k m r t (s .lists) q h) in
+    let g = retrace r t d b (f .1) in
+    (s .lists ∙ ap₂ _++_ (f .0) (g .0) ∙ sym q, g .1, trace-& s (f .2) (g .2))
+retrace r t (trace-recipe {x} {y} s c d) (in-turn {k} {m} parts-⊸ q a b) h =
+    let f = retrace (y .list ++ r) (m ++ t) c a (in-two (x .list) (y .list) k m r t (s .lists) q h) in
+    let g = retrace r t d b (f .1) in
+    (s .lists ∙ ap₂ _++_ (f .0) (g .0) ∙ sym q, g .1, trace-recipe s (f .2) (g .2))
+retrace r t (trace-⊸ s c) (lends a) h =
+    let f = retrace r t c a (onward r (s .lists) h) in (s .lists ∙ f .0, f .1, trace-⊸ s (f .2))
+retrace {es} r t (trace-rule {a = b} q s c) (uses {n} {l} u a) h =
+    let g = onward r (s .lists) h in
+    let f = retrace r t c (subst (λ e. Along n es (meet b (clauseAt es e)) l) (sym (head-eq-of-cons-eq g)) a) (tail-eq-of-cons-eq g) in
+    (s .lists ∙ ap₂ _∷_ (head-eq-of-cons-eq g) (f .0), f .1, trace-rule q s (f .2))
+retrace {es} r t (trace-item {a = b} q s c) (uses {n} {l} u a) h =
+    let g = onward r (s .lists) h in
+    let f = retrace r t c (subst (λ e. Along n es (meet b (clauseAt es e)) l) (sym (head-eq-of-cons-eq g)) a) (tail-eq-of-cons-eq g) in
+    (s .lists ∙ ap₂ _∷_ (head-eq-of-cons-eq g) (f .0), f .1, trace-item q s (f .2))
+
+-- THEOREM. A list is that of a derivation within limits exactly when its walk is right to its end, its items divide, and it keeps to the
+-- step limit.
+module _ (j : Job) (l : List ℕ) (b : Bounded (j .scope) (j .strict ∪ j .lax)) where
+  pub listed-walk : Listed j l → jobWalk j l ≡ goes (length l) []
+  listed-walk x =
+      let a = listed-accounts j l b .0 x in
+      goes-along j l (length l) [] .1
+      (l, subst (Along (j .depth) (j .scope) (goal (j .goal))) (a .list) (trace-along (a .trace)), append-nil l, refl)
+
+  pub listed-divides : Listed j l → ItemsDivide j l
+  listed-divides x = record { derivation = x .derivation; list = x .list }
+
+  -- the same job with the limits of a derivation
+  abbrev roomy : ItemsDivide j l → Job
+  roomy d = record {
+    scope = j .scope;
+    strict = j .strict;
+    lax = j .lax;
+    goal = j .goal;
+    depth = nesting (d .derivation .tree);
+    length-limit = length l;
+  }
+
+  pub divides-accounts : (d : ItemsDivide j l) → Accounts (roomy d) l
+  divides-accounts d = listed-accounts (roomy d) l b .0 (record {
+    derivation = record {
+      items = d .derivation .items;
+      all-strict = d .derivation .all-strict;
+      none-else = d .derivation .none-else;
+      tree = d .derivation .tree;
+    };
+    limited = record { nested = omega arith; counted = let e = ap length (d .list) in omega arith };
+    list = d .list;
+  })
+
+  pub walked-listed : jobWalk j l ≡ goes (length l) [] → ItemsDivide j l → length l ≤ j .length-limit → Listed j l
+  walked-listed e d h = go (goes-along j l (length l) [] .0 e)
+    where
+      go : (k : List ℕ) × Along (j .depth) (j .scope) (goal (j .goal)) k × (k ++ [] ≡ l) × (length k ≡ length l) → Listed j l
+      go (k, c, q, f) =
+          let a = divides-accounts d in
+          listed-accounts j l b .1 (record {
+            gathered = a .gathered;
+            trace = retrace [] [] (a .trace) c (append-nil (a .gathered .list) ∙ a .list ∙ sym q) .2;
+            list = a .list;
+            alive = a .alive;
+            within = a .within;
+            all-strict = a .all-strict;
+            counted = h;
+          })
+
+  pub listed-exactly : length l ≤ j .length-limit → Listed j l ↔ ((jobWalk j l ≡ goes (length l) []) × ItemsDivide j l)
+  listed-exactly h = (λ x. (listed-walk x, listed-divides x), λ x. walked-listed (x .0) (x .1) h)
