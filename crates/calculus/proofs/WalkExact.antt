@@ -71,20 +71,24 @@ at-step t e = ap (λ (j : ℕ). goes j t) e
 at-stop : {i j : ℕ} (m : ℕ) → i ≡ j → stops m i ≡ stops m j
 at-stop m e = ap (λ (j : ℕ). stops m j) e
 
-longer : (i : ℕ) (k m : List ℕ) → i + length k + length m ≡ i + length (k ++ m)
-longer i k m = let e = length-append k m in omega arith
+longer : (i : ℕ) (k m : List ℕ) {l : List ℕ} → l ≡ k ++ m → i + length k + length m ≡ i + length l
+longer i k m q = let e = ap length q in let f = length-append k m in omega arith
+
+-- behind a first part that was walked along k, the second is walked
+walk-turn : (n : ℕ) (es : Scope) {p x y : Part} (k m : List ℕ) {l : List ℕ} → Both p x y → l ≡ k ++ m → (i : ℕ) (t : List ℕ)
+    → partWalk n x es i (k ++ (m ++ t)) ≡ goes (i + length k) (m ++ t)
+    → partWalk n p es i (l ++ t) ≡ partWalk n y es (i + length k) (m ++ t)
+unfolding _⨾_
+walk-turn n es {p} {y} k m b q i t first =
+    ap (partWalk n p es i) (ap (_++ t) q ∙ append-assoc k m t)
+    ∙ walk-both n b es i (k ++ (m ++ t))
+    ∙ ap (λ x. x ⨾ partWalk n y es) first
 
 pub along-walk : {n : ℕ} {es : Scope} {p : Part} {k : List ℕ} → Along n es p k → (i : ℕ) (t : List ℕ)
     → partWalk n p es i (k ++ t) ≡ goes (i + length k) t
-unfolding _⨾_
 along-walk {n} {es} (ends s) i t = walk-still n s es i t ∙ at-step t (omega arith)
-along-walk {n} {es} (in-turn {p} {x} {y} {l} {k} {m} b q c d) i t =
-    let first = along-walk c i (m ++ t) in
-    rw q (
-    ap (partWalk n p es i) (append-assoc k m t)
-    ∙ walk-both n b es i (k ++ (m ++ t))
-    ∙ rw first (along-walk d (i + length k) t ∙ at-step t (longer i k m))
-    )
+along-walk {n} {es} (in-turn {k} {m} b q c d) i t =
+    walk-turn n es k m b q i t (along-walk c i (m ++ t)) ∙ along-walk d (i + length k) t ∙ at-step t (longer i k m q)
 along-walk {n} {es} (lends {D} {G} {l} c) i t = walk-lent n D G es i (l ++ t) ∙ along-walk c i t
 along-walk {es} (uses {n} {a} {e} {l} u c) i t =
     walk-use n a es i e (l ++ t) u ∙ along-walk c (i + 1) t ∙ at-step t (omega arith)
@@ -107,13 +111,8 @@ pub wants-walk : {n u a m : ℕ} {es fs : Scope} {p : Part} {k t : List ℕ} →
 unfolding _⨾_
 wants-walk {m} {t} (here {n} {a} {es}) w i = wrong-here n a es w i ∙ at-stop m (omega arith)
 wants-walk {n} {es} {k} {t} (in-first {y} b c) w i = walk-both n b es i (k ++ t) ∙ ap (λ x. x ⨾ partWalk n y es) (wants-walk c w i)
-wants-walk {n} {m = h} {es} {t} (in-second {p} {x} {y} {l} {k} {m} b q c d) w i =
-    let first = along-walk c i (m ++ t) in
-    rw q (
-    ap (partWalk n p es i) (append-assoc k m t)
-    ∙ walk-both n b es i (k ++ (m ++ t))
-    ∙ rw first (wants-walk d w (i + length k) ∙ at-stop h (longer i k m))
-    )
+wants-walk {n} {m = h} {es} {t} (in-second {k} {m} b q c d) w i =
+    walk-turn n es k m b q i t (along-walk c i (m ++ t)) ∙ wants-walk d w (i + length k) ∙ at-stop h (longer i k m q)
 wants-walk {n} {es} {k} {t} (in-lent {D} {G} c) w i = walk-lent n D G es i (k ++ t) ∙ wants-walk c w i
 wants-walk {m} {es} {t} (in-use {n} {b} {e} {l} u c) w i =
     walk-use n b es i e (l ++ t) u ∙ wants-walk c (lower w) (i + 1) ∙ at-stop m (omega arith)
@@ -138,9 +137,9 @@ told-both n es {p} {x} {y} b first second i l = rw (walk-both n b es i l) (behin
   where
     after : {j : ℕ} {k t : List ℕ} {w : Walk} → Along n es x k → k ++ t ≡ l → i + length k ≡ j → Told n es y j t w → Told n es p i l w
     after {k} c q e (went {j = h} {k = m} {t = r} d f g) =
-        went {j = h} (in-turn b refl c d) (append-assoc k m r ∙ ap (λ s. k ++ s) f ∙ q) (let o = length-append k m in omega arith)
+        went {j = h} (in-turn b refl c d) (append-assoc k m r ∙ ap (λ s. k ++ s) f ∙ q) (let o = longer i k m refl in omega arith)
     after {k} c q e (halted {j = h} {k = m} {t = r} d w f g) =
-        halted {j = h} (in-second b refl c d) w (append-assoc k m r ∙ ap (λ s. k ++ s) f ∙ q) (let o = length-append k m in omega arith)
+        halted {j = h} (in-second b refl c d) w (append-assoc k m r ∙ ap (λ s. k ++ s) f ∙ q) (let o = longer i k m refl in omega arith)
 
     behind : {w : Walk} → Told n es x i l w → Told n es p i l (w ⨾ partWalk n y es)
     behind (went {j} {t} c q e) = after c q e (second j t)
@@ -308,50 +307,55 @@ trace-along (trace-recipe s x y) = in-turn parts-⊸ (s .lists) (trace-along x) 
 onward : {g l s : List ℕ} (r : List ℕ) → g ≡ l → g ++ r ≡ s → l ++ r ≡ s
 onward r p h = sym (ap (_++ r) p) ∙ h
 
--- two lists in two parts each, with what follows
-in-two : (x y k m r t : List ℕ) {g l : List ℕ} → g ≡ x ++ y → l ≡ k ++ m → g ++ r ≡ l ++ t → x ++ (y ++ r) ≡ k ++ (m ++ t)
-in-two x y k m r t p q h = sym (append-assoc x y r) ∙ begun r t p q h ∙ append-assoc k m t
+-- the trace of p is retraced at nesting n, along a walk whose list begins as its own
+abbrev Retraced : ℕ → Scope → Part → Gathered → List ℕ → Type 0
+Retraced n es p g l = (r t : List ℕ) → g .list ++ r ≡ l ++ t → (g .list ≡ l) × (r ≡ t) × Trace n es p g
+
+-- of a part that takes no step, of two parts in turn, and of a use
+retraced-still : {n : ℕ} {es : Scope} {p : Part} {g : Gathered} → g .list ≡ [] → Trace n es p g → Retraced n es p g []
+retraced-still e c r t h = (e, onward r e h, c)
+
+retraced-both : {n : ℕ} {es : Scope} {p q x : Part} {f g v : Gathered} {l k m : List ℕ} → v .list ≡ f .list ++ g .list → l ≡ k ++ m
+    → (Trace n es p f → Trace n es q g → Trace n es x v) → Retraced n es p f k → Retraced n es q g m → Retraced n es x v l
+retraced-both {f} {g} {k} {m} s e join first second r t h =
+    let a = first (g .list ++ r) (m ++ t) (sym (append-assoc (f .list) (g .list) r) ∙ begun r t s e h ∙ append-assoc k m t) in
+    let b = second r t (a .1) in
+    (s ∙ ap₂ _++_ (a .0) (b .0) ∙ sym e, b .1, join (a .2) (b .2))
+
+retraced-use : {n a e f : ℕ} {es : Scope} {g v : Gathered} {l : List ℕ} → v .list ≡ e ∷ g .list
+    → (Trace n es (meet a (clauseAt es e)) g → Trace (suc n) es (goal (atomᴳ a)) v)
+    → (Along n es (meet a (clauseAt es e)) l → Retraced n es (meet a (clauseAt es e)) g l) → Along n es (meet a (clauseAt es f)) l
+    → Retraced (suc n) es (goal (atomᴳ a)) v (f ∷ l)
+retraced-use {n} {a} {es} {l} s use-it inner c r t h =
+    let g = onward r s h in
+    let d = subst (λ e. Along n es (meet a (clauseAt es e)) l) (sym (head-eq-of-cons-eq g)) c in
+    let b = inner d r t (tail-eq-of-cons-eq g) in
+    (s ∙ ap₂ _∷_ (head-eq-of-cons-eq g) (b .0), b .1, use-it (b .2))
 
 -- THEOREM. A trace whose list, whatever follows it, begins a walk's is that walk's list, and keeps to the nesting of the walk.
-pub retrace : {n m : ℕ} {es : Scope} {p : Part} {g : Gathered} {l : List ℕ} (r t : List ℕ) → Trace m es p g → Along n es p l
-    → g .list ++ r ≡ l ++ t → (g .list ≡ l) × (r ≡ t) × Trace n es p g
-retrace r t (trace-1 e) (ends s) h = (e .no-list, onward r (e .no-list) h, trace-1 e)
-retrace r t (trace-⊤ e) (ends s) h = (e .no-list, onward r (e .no-list) h, trace-⊤ e)
-retrace r t (trace-0 e) (ends s) h = (e .no-list, onward r (e .no-list) h, trace-0 e)
-retrace r t (trace-head f e) (ends s) h = (e .no-list, onward r (e .no-list) h, trace-head f e)
-retrace r t (trace-⊗ {x} {y} s c d) (in-turn {k} {m} parts-⊗ q a b) h =
-    let f = retrace (y .list ++ r) (m ++ t) c a (in-two (x .list) (y .list) k m r t (s .lists) q h) in
-    let g = retrace r t d b (f .1) in
-    (s .lists ∙ ap₂ _++_ (f .0) (g .0) ∙ sym q, g .1, trace-⊗ s (f .2) (g .2))
-retrace r t (trace-& {x} {y} s c d) (in-turn {k} {m} parts-& q a b) h =
-    let f = retrace (y .list ++ r) (m ++ t) c a (in-two (x .list) (y .list) k m r t (s .lists) q h) in
-    let g = retrace r t d b (f .1) in
-    (s .lists ∙ ap₂ _++_ (f .0) (g .0) ∙ sym q, g .1, trace-& s (f .2) (g .2))
-retrace r t (trace-recipe {x} {y} s c d) (in-turn {k} {m} parts-⊸ q a b) h =
-    let f = retrace (y .list ++ r) (m ++ t) c a (in-two (x .list) (y .list) k m r t (s .lists) q h) in
-    let g = retrace r t d b (f .1) in
-    (s .lists ∙ ap₂ _++_ (f .0) (g .0) ∙ sym q, g .1, trace-recipe s (f .2) (g .2))
-retrace r t (trace-⊸ s c) (lends a) h =
-    let f = retrace r t c a (onward r (s .lists) h) in (s .lists ∙ f .0, f .1, trace-⊸ s (f .2))
-retrace {es} r t (trace-rule {a = b} q s c) (uses {n} {l} u a) h =
-    let g = onward r (s .lists) h in
-    let f = retrace r t c (subst (λ e. Along n es (meet b (clauseAt es e)) l) (sym (head-eq-of-cons-eq g)) a) (tail-eq-of-cons-eq g) in
-    (s .lists ∙ ap₂ _∷_ (head-eq-of-cons-eq g) (f .0), f .1, trace-rule q s (f .2))
-retrace {es} r t (trace-item {a = b} q s c) (uses {n} {l} u a) h =
-    let g = onward r (s .lists) h in
-    let f = retrace r t c (subst (λ e. Along n es (meet b (clauseAt es e)) l) (sym (head-eq-of-cons-eq g)) a) (tail-eq-of-cons-eq g) in
-    (s .lists ∙ ap₂ _∷_ (head-eq-of-cons-eq g) (f .0), f .1, trace-item q s (f .2))
+pub retrace : {n m : ℕ} {es : Scope} {p : Part} {g : Gathered} {l : List ℕ} → Trace m es p g → Along n es p l → Retraced n es p g l
+retrace (trace-1 e) (ends s) = retraced-still (e .no-list) (trace-1 e)
+retrace (trace-⊤ e) (ends s) = retraced-still (e .no-list) (trace-⊤ e)
+retrace (trace-0 e) (ends s) = retraced-still (e .no-list) (trace-0 e)
+retrace (trace-head f e) (ends s) = retraced-still (e .no-list) (trace-head f e)
+retrace (trace-⊗ s c d) (in-turn parts-⊗ q a b) = retraced-both (s .lists) q (trace-⊗ s) (retrace c a) (retrace d b)
+retrace (trace-& s c d) (in-turn parts-& q a b) = retraced-both (s .lists) q (trace-& s) (retrace c a) (retrace d b)
+retrace (trace-recipe s c d) (in-turn parts-⊸ q a b) = retraced-both (s .lists) q (trace-recipe s) (retrace c a) (retrace d b)
+retrace (trace-⊸ s c) (lends a) =
+    λ r t h. let f = retrace c a r t (onward r (s .lists) h) in (s .lists ∙ f .0, f .1, trace-⊸ s (f .2))
+retrace (trace-rule q s c) (uses u a) = retraced-use (s .lists) (trace-rule q s) (λ d. retrace c d) a
+retrace (trace-item q s c) (uses u a) = retraced-use (s .lists) (trace-item q s) (λ d. retrace c d) a
 
 -- THEOREM. A list is that of a derivation within limits exactly when its walk is right to its end, its items divide, and it keeps to the
 -- step limit.
 module _ (j : Job) (l : List ℕ) (b : Bounded (j .scope) (j .strict ∪ j .lax)) where
-  pub listed-walk : Listed j l → jobWalk j l ≡ goes (length l) []
+  listed-walk : Listed j l → jobWalk j l ≡ goes (length l) []
   listed-walk x =
       let a = listed-accounts j l b .0 x in
       goes-along j l (length l) [] .1
       (l, subst (Along (j .depth) (j .scope) (goal (j .goal))) (a .list) (trace-along (a .trace)), append-nil l, refl)
 
-  pub listed-divides : Listed j l → ItemsDivide j l
+  listed-divides : Listed j l → ItemsDivide j l
   listed-divides x = record { derivation = x .derivation; list = x .list }
 
   -- the same job with the limits of a derivation
@@ -377,7 +381,7 @@ module _ (j : Job) (l : List ℕ) (b : Bounded (j .scope) (j .strict ∪ j .lax)
     list = d .list;
   })
 
-  pub walked-listed : jobWalk j l ≡ goes (length l) [] → ItemsDivide j l → length l ≤ j .length-limit → Listed j l
+  walked-listed : jobWalk j l ≡ goes (length l) [] → ItemsDivide j l → length l ≤ j .length-limit → Listed j l
   walked-listed e d h = go (goes-along j l (length l) [] .0 e)
     where
       go : (k : List ℕ) × Along (j .depth) (j .scope) (goal (j .goal)) k × (k ++ [] ≡ l) × (length k ≡ length l) → Listed j l
@@ -385,7 +389,7 @@ module _ (j : Job) (l : List ℕ) (b : Bounded (j .scope) (j .strict ∪ j .lax)
           let a = divides-accounts d in
           listed-accounts j l b .1 (record {
             gathered = a .gathered;
-            trace = retrace [] [] (a .trace) c (append-nil (a .gathered .list) ∙ a .list ∙ sym q) .2;
+            trace = retrace (a .trace) c [] [] (append-nil (a .gathered .list) ∙ a .list ∙ sym q) .2;
             list = a .list;
             alive = a .alive;
             within = a .within;

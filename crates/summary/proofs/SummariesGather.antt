@@ -1,22 +1,21 @@
 -- Each change of a summary gathers as its connective asks.
 use Prim.Native.Nat.{ℕ, _-_, _≤_, _<_}
-use native.Mathlib.Omega.{arith}
 use mathlib.Core.Path.{_≡_, refl, sym, _∙_, ap}
 use mathlib.Core.Logic.{_↔_}
-use mathlib.Core.Bool.{Bool, true, false, not, cond, _&&_, _||_, false≢true}
+use mathlib.Core.Bool.{Bool, true, false, not, _&&_, _||_, false≢true}
 use mathlib.Core.List.{List, [], _∷_, _++_}
-use Rattle.calculus.specs.Items.{Items, _∪_, _∖_, only, Empty, Within}
+use Rattle.calculus.specs.Items.{_∪_, _∖_, only, Within}
 use Rattle.calculus.specs.Derivation.{Scope, size}
-use Rattle.calculus.specs.Inner.Summary.{Same, Joins, Without, Plus, spare, Covers}
+use Rattle.calculus.specs.Inner.Summary.{Joins, spare, Covers}
 use Rattle.calculus.specs.Inner.Trace.{Says, Apart, Ends, Tensors, Withs, Lends, UsesRule, UsesItem}
 use Rattle.lines.specs.declared.LineSet.{LineSet}
 use Rattle.lines.specs.Inner.Set.{member, isEmptyS, emptyS, cutS, meetS, Words}
 use Rattle.lines.proofs.MemberLaws.{words-empty, words-meet, words-cut}
 use Rattle.scope.specs.Inner.Sets.{items}
-use Rattle.scope.proofs.SetsAreItems.{items-empty, items-join, items-meet, items-cut, items-none, items-add, items-take, items-at}
+use Rattle.scope.proofs.SetsAreItems.{items-join, items-meet, items-cut, items-none, items-add, items-take, items-at}
 use Rattle.summary.specs.declared.Branch.{Branch}
 use Rattle.summary.specs.declared.Summary.{Summary}
-use Rattle.summary.specs.Inner.Values.{endedW, tensorW, coverW, withW, withoutW, usingW, behindW}
+use Rattle.summary.specs.Inner.Values.{endedW, tensorW, coverW, withW, withoutW, usingW}
 use Rattle.summary.specs.Inner.Walks.{gathered}
 
 -- Tests that say what they test

@@ -9,7 +9,7 @@ use Rattle.calculus.specs.Derivation.{Scope}
 use Rattle.calculus.specs.Job.{Listed}
 use Rattle.calculus.specs.Walk.{Walk, goes, stops, jobWalk, ItemsDivide}
 use Rattle.calculus.specs.Wanted.{goal, Along, Wrong, no-entry, too-deep, missing, FirstWrong, FirstExtra}
-use Rattle.calculus.proofs.WalkExact.{goes-along, stops-first, listed-walk, listed-divides, walked-listed}
+use Rattle.calculus.proofs.WalkExact.{goes-along, stops-first, listed-exactly}
 use Rattle.card.specs.Format.{stepLimit}
 use Rattle.card.specs.Verdict.{Where, sound, fault, steps, step}
 use Rattle.card.specs.Fault.{Placed}
@@ -110,13 +110,9 @@ module _ (bs l : List ℕ) where
   -- THEOREM. None of 13, 17, 18 and 19 exactly when the steps, no more than s, are the list of a derivation within limits.
   pub none-found : length l ≤ stepLimit bs → ((stepsFault bs l ≡ sound) × ItemsDivide (jobOf bs) l) ↔ Listed (jobOf bs) l
   unfolding jobOf
-  none-found h = (
-    λ x. walked-listed (jobOf bs) l (lines-bounded bs) (walked-right .0 (x .0)) (x .1) h,
-    λ x. (listed-right x, listed-divides (jobOf bs) l (lines-bounded bs) x),
-  )
-    where
-      listed-right : Listed (jobOf bs) l → stepsFault bs l ≡ sound
-      listed-right x = walked-right .1 (listed-walk (jobOf bs) l (lines-bounded bs) x)
+  none-found h =
+      let e = listed-exactly (jobOf bs) l (lines-bounded bs) h in
+      (λ x. e .1 (walked-right .0 (x .0), x .1), λ x. let y = e .0 x in (walked-right .1 (y .0), y .1))
 
   pub names-a-step : {n : ℕ} → stepsFault bs l ≡ fault n steps → ⊥
   unfolding stepsFault
