@@ -292,6 +292,8 @@ mod tests {
             step.to_string(),
             "refused 17 at step 0: the step stands inside more uses than the nesting limit allows"
         );
+        let told = |number| Refusal { number, place: Place::Card }.reason();
+        assert!((1..=19).all(|number| told(number) != told(0)));
         let line = of(None, 16, Place::Line(9));
         assert_eq!(line.to_string(), "refused 16 at line 9: line not below the joined T");
         let rule = of(Some(Which::First), 8, Place::Rule(3));
