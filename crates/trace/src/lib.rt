@@ -8,16 +8,16 @@ use lines::LineSet;
 use summary::Branch;
 use summary::Summary;
 use summary::Walked;
+ghost use mathlib.Core.Bool.{not};
 ghost use mathlib.Core.Path.{_≡_};
 ghost use Prim.Native.Nat.{_≤_};
-ghost use lib.ListN.{length, take};
-ghost use Rattle.card.specs.Format.{stepLimit};
-ghost use mathlib.Core.Bool.{not};
 ghost use lib.Dec.{eqb};
+ghost use lib.ListN.{length, take};
+ghost use Rattle.calculus.specs.Inner.Trace.{Says};
 ghost use Rattle.card.specs.declared.Place.the-variants.{Step};
+ghost use Rattle.card.specs.Format.{stepLimit};
 ghost use Rattle.card.specs.Verdict.{told, refuse, whereOf};
 ghost use Rattle.card.specs.Fault.{Sound};
-ghost use Rattle.calculus.specs.Inner.Trace.{Says};
 ghost use Rattle.lines.specs.Inner.Set.{isEmptyS, cutS, Words};
 ghost use Rattle.summary.specs.Inner.Values.{startB};
 ghost use Rattle.trace.specs.Inner.Listing.{Covered, Ending, foundBy, Following};
@@ -93,7 +93,7 @@ fn found(walked: Walked) -> Checked
     ensures { λ r. ⌜ told r ≡ foundBy walked ⌝ }
 {
     match walked {
-        Walked::Ended(w) => Checked::Sound,
+        Walked::Ended(_) => Checked::Sound,
         Walked::Astray(refusal) => Checked::Refused(refusal),
     }
 }

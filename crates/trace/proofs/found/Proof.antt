@@ -6,19 +6,19 @@ use Rattle.trace.specs.Inner.Listing.{foundBy}
 use Rattle.trace.proofs.found.Statement.{statement}
 use Rattle.trace.proofs.found.Tie as tie
 
+enum-told : tie.Need-enum-told
+enum-told c = search needs
+
 enum-known-walked : tie.Need-enum-known-walked
 enum-known-walked c = search needs
 
-enum-known-walked-2 : tie.Need-enum-known-walked-2
-enum-known-walked-2 c = search needs
-
 returns : tie.Need-returns
 unfolding told foundBy
-returns c = ap foundBy (sym (c .before .walked .given .1))
+returns c = ap foundBy (sym (c .enum-told .given .1))
 
 returns-2 : tie.Need-returns-2
 unfolding told foundBy
-returns-2 c = ap foundBy (sym (c .before .walked2 .given .1))
+returns-2 c = ap foundBy (sym (c .before .walked .given .1))
 
 pub found-spec : {M : Type 1} → statement M
-found-spec = tie.close (tie.spec enum-known-walked enum-known-walked-2 returns returns-2)
+found-spec = tie.close (tie.spec enum-told enum-known-walked returns returns-2)
