@@ -96,7 +96,6 @@ ORDER = [
 ]
 
 
-
 def mixed(steps, mark=1, d=2):
     """The card of docs/FORMAT.md with a rule (entry 0), a line (entry 1) and a lend (entry 2). The list is 0 2 1."""
     return tray(lend(B, C), rules=[gives(A, gives(B, C))], must=[A], d=d, s=3), sheet(steps, [mark])

@@ -15,6 +15,7 @@ from cards import DONE, REST, all_of, both, either, gives, lend, store, tray, wo
 
 ROOT = pathlib.Path(__file__).resolve().parent.parent
 
+
 def planned(steps, marks):
     return "plan " + " ".join([str(len(steps))] + [str(e) for e in steps]) + " marks" + "".join(f" {m}" for m in marks)
 
