@@ -30,7 +30,7 @@ walk-both n parts-⊗ es i l = refl
 walk-both n parts-& es i l = refl
 walk-both n parts-⊸ es i l = refl
 
-pub walk-still : (n : ℕ) {p : Part} → Still p → (es : Scope) (i : ℕ) (l : List ℕ) → partWalk n p es i l ≡ goes i l
+walk-still : (n : ℕ) {p : Part} → Still p → (es : Scope) (i : ℕ) (l : List ℕ) → partWalk n p es i l ≡ goes i l
 unfolding partWalk goalWalk clauseWalk
 walk-still n still-1 es i l = refl
 walk-still n still-⊤ es i l = refl
@@ -106,7 +106,7 @@ wrong-here zero a es (too-deep {e} {l} h g) i = walk-deep a es i e l h
 wrong-here (suc n) a es (too-deep h g) i = absurd (omega arith)
 wrong-here n a es missing i = walk-none n a es i
 
-pub wants-walk : {n u a m : ℕ} {es fs : Scope} {p : Part} {k t : List ℕ} → Wants n es p k u fs a → Wrong n fs a u m t → (i : ℕ)
+wants-walk : {n u a m : ℕ} {es fs : Scope} {p : Part} {k t : List ℕ} → Wants n es p k u fs a → Wrong n fs a u m t → (i : ℕ)
     → partWalk n p es i (k ++ t) ≡ stops m (i + length k)
 unfolding _⨾_
 wants-walk {m} {t} (here {n} {a} {es}) w i = wrong-here n a es w i ∙ at-stop m (omega arith)

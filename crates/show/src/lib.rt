@@ -3,6 +3,7 @@ use card::Place;
 use card::Refusal;
 use card::format::byte;
 use libc::STDOUT_FILENO;
+ghost use mathlib.Core.Path.{_≡_};
 ghost use Prim.Native.Nat.{_+_, _≤_};
 ghost use lib.ListN.{length};
 
@@ -69,6 +70,7 @@ pub fn print_bytes(bytes: &[u8]) {
 // A sheet of k steps and t marks; tells where it ends.
 pub fn print_sheet(sheet: &[u8], k: usize, t: usize) -> usize
     requires { ⌜ 5 + k + t ≤ length (now sheet) ⌝ }
+    ensures { λ r. ⌜ r ≡ 5 + k + t ⌝ }
 {
     let marks = 5 + k;
     let end = marks + t;

@@ -193,7 +193,7 @@ module _ {bs steps nodes : List ℕ} {linear : List Bool} {k : ℕ} (s : Sound b
       same-walk g t q =
           trace-unique [] (from steps (startB bs k) (w .at)) t (ended .trace) (append-nil (g .list) ∙ q ∙ sym (ended .along))
 
-      pub early-found : (w .at ≡ k → ⊥) → Following bs (take k steps) (fault 18 (step (w .at)))
+      early-found : (w .at ≡ k → ⊥) → Following bs (take k steps) (fault 18 (step (w .at)))
       unfolding startB stepsFault walkFault from
       early-found n = strays (ap walkFault (walked ∙ ap (goes (w .at)) next))
         where
@@ -212,7 +212,7 @@ module _ {bs steps nodes : List ℕ} {linear : List Bool} {k : ℕ} (s : Sound b
         unfolding from startB
         list-is = sym (append-nil (ended .list)) ∙ ap (λ t. ended .list ++ t) (sym none-left) ∙ ended .along
 
-        pub covered-found : Covered bs w → Following bs (take k steps) sound
+        covered-found : Covered bs w → Following bs (take k steps) sound
         unfolding startB gathered jobOf
         covered-found c = follows (listed-accounts (jobOf bs) (take k steps) (lines-bounded bs) .1 (record {
           gathered = gathered (ruleCount bs) w (ended .list);
@@ -247,7 +247,7 @@ module _ {bs steps nodes : List ℕ} {linear : List Bool} {k : ℕ} (s : Sound b
             covers (inl h) p = inl (sym p ∙ h)
             covers (inr h) p = inr h
 
-        pub bare-found : (Covered bs w → ⊥) → Following bs (take k steps) (fault 19 steps-place)
+        bare-found : (Covered bs w → ⊥) → Following bs (take k steps) (fault 19 steps-place)
         unfolding stepsFault walkFault
         bare-found n = divides-not (ap walkFault (walked ∙ ap (goes (w .at)) none-left)) (λ d. n (divided-covers d))
 
