@@ -22,8 +22,8 @@ use Rattle.card.proofs.StepsFitAByte.{steps-fit}
 use Rattle.planning.specs.Plan.{PlanVerdict, planned, roomOf, Planning, PlanDecided, Carries}
 use Rattle.planner.proofs.PlannedExactly.{plan-decided, plan-determined, planned-exactly, planned-sheet}
 use Rattle.sheet_front.specs.Front.{stepsOf, sheetFault}
-use Rattle.trace.specs.Steps.{stepsFault}
-use Rattle.trace.proofs.StepsMean.{WrongStep, ExtraStep, none-found}
+use Rattle.trace.specs.Steps.{stepsFault, WrongStep, ExtraStep}
+use Rattle.trace.proofs.StepsMean.{none-found}
 use Rattle.reader.specs.Read.{ReadVerdict, accepted, refused, Reading, ReadDecided, Holds, AcceptsExactly}
 use Rattle.reader.proofs.AcceptedExactly.{read-decided, read-determined, accepts-exactly, holds-accepted}
 use Rattle.reader.proofs.StepsRefused.{thirteen-told, seventeen-told, eighteen-told, nineteen-told}

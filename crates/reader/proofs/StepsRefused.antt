@@ -10,8 +10,8 @@ use Rattle.card.specs.Fault.{Sound}
 use Rattle.card.specs.Decode.{jobOf}
 use Rattle.card.proofs.FaultsInOrder.{sound-or-faulty}
 use Rattle.sheet_front.specs.Front.{stepsOf, sheetFault}
-use Rattle.trace.specs.Steps.{stepsFault}
-use Rattle.trace.proofs.StepsMean.{WrongStep, ExtraStep, thirteen, seventeen, eighteen, names-a-step}
+use Rattle.trace.specs.Steps.{stepsFault, WrongStep, ExtraStep}
+use Rattle.trace.proofs.StepsMean.{thirteen, seventeen, eighteen, names-a-step}
 use Rattle.reader.specs.Read.{ReadVerdict, refused, Reading, faulty, misfit, astray, undivided, wrong-mark, accepted-as}
 use Rattle.reader.proofs.AcceptedExactly.{marks-told}
 

@@ -8,14 +8,14 @@ use lib.ListN.{length, length-append}
 use Rattle.calculus.specs.Derivation.{Scope}
 use Rattle.calculus.specs.Job.{Listed}
 use Rattle.calculus.specs.Walk.{Walk, goes, stops, jobWalk, ItemsDivide}
-use Rattle.calculus.specs.Wanted.{goal, Along, Wrong, no-entry, too-deep, missing, FirstWrong, FirstExtra}
+use Rattle.calculus.specs.Wanted.{goal, Along, Wrong, no-entry, too-deep, missing}
 use Rattle.calculus.proofs.WalkExact.{goes-along, stops-first, listed-exactly}
 use Rattle.card.specs.Format.{stepLimit}
 use Rattle.card.specs.Verdict.{Where, sound, fault, steps, step}
 use Rattle.card.specs.Fault.{Placed}
 use Rattle.card.specs.Decode.{jobOf}
 use Rattle.card.proofs.NodesDecoded.{lines-bounded}
-use Rattle.trace.specs.Steps.{walkFault, stepsFault}
+use Rattle.trace.specs.Steps.{walkFault, stepsFault, WrongStep, ExtraStep}
 
 -- a walk that tells no 18 has not ended before the last step
 stopped : (w : Walk) (n i : ℕ) → (n ≡ 18 → ⊥) → (walkFault w ≡ fault n (step i)) ↔ (w ≡ stops n i)
@@ -52,15 +52,7 @@ at-step (goes j []) e = let z : _≡_ {A = ℕ} 0 1 = cc in omega arith
 at-step (goes j (x ∷ l)) e = let z : _≡_ {A = ℕ} 0 1 = cc in omega arith
 
 module _ (bs l : List ℕ) where
-  -- the steps before i are the beginning of a walk of the card's goal, and step i is the first that is wrong, as n tells
-  abbrev pub WrongStep : ℕ → ℕ → Type 0
-  WrongStep n i = FirstWrong (jobOf bs .depth) (jobOf bs .scope) (goal (jobOf bs .goal)) l n i
-
-  -- the steps before i are a walk of the card's goal to its end, and step i is one that it did not want
-  abbrev pub ExtraStep : ℕ → Type 0
-  ExtraStep i = FirstExtra (jobOf bs .depth) (jobOf bs .scope) (goal (jobOf bs .goal)) l i
-
-  by-number : (n i : ℕ) → (n ≡ 18 → ⊥) → (stepsFault bs l ≡ fault n (step i)) ↔ WrongStep n i
+  by-number : (n i : ℕ) → (n ≡ 18 → ⊥) → (stepsFault bs l ≡ fault n (step i)) ↔ WrongStep bs l n i
   unfolding stepsFault
   by-number n i h =
       let s = stopped (jobWalk (jobOf bs) l) n i h in
@@ -68,29 +60,29 @@ module _ (bs l : List ℕ) where
       (λ e. f .0 (s .0 e), λ x. s .1 (f .1 x))
 
   -- THEOREM (13). "step i names no entry in scope whose head is the name wanted", and the steps before it are the beginning of a walk.
-  pub thirteen : (i : ℕ) → (stepsFault bs l ≡ fault 13 (step i)) ↔ WrongStep 13 i
+  pub thirteen : (i : ℕ) → (stepsFault bs l ≡ fault 13 (step i)) ↔ WrongStep bs l 13 i
   thirteen i = by-number 13 i (λ e. omega arith)
 
   -- THEOREM (17). "step i is nested above d", its entry could be used but for that, and the steps before it are the beginning of a walk.
-  pub seventeen : (i : ℕ) → (stepsFault bs l ≡ fault 17 (step i)) ↔ WrongStep 17 i
+  pub seventeen : (i : ℕ) → (stepsFault bs l ≡ fault 17 (step i)) ↔ WrongStep bs l 17 i
   seventeen i = by-number 17 i (λ e. omega arith)
 
   -- THEOREM (18). "the walk wants a step after the last or ends before it, place the first missing or extra step".
-  pub eighteen : (i : ℕ) → (stepsFault bs l ≡ fault 18 (step i)) ↔ (WrongStep 18 i ⊎ ExtraStep i)
+  pub eighteen : (i : ℕ) → (stepsFault bs l ≡ fault 18 (step i)) ↔ (WrongStep bs l 18 i ⊎ ExtraStep bs l i)
   unfolding stepsFault walkFault
   eighteen i = (λ e. to (late (jobWalk (jobOf bs) l) i e), from)
     where
       ended : {e : ℕ} {t : List ℕ}
           → (k : List ℕ) × Along (jobOf bs .depth) (jobOf bs .scope) (goal (jobOf bs .goal)) k × (k ++ (e ∷ t) ≡ l) × (length k ≡ i)
-          → ExtraStep i
+          → ExtraStep bs l i
       ended {e} {t} (k, c, q, h) = record { before = k; next = e; after = t; whole = q; index = h; walked = c }
 
       to : (jobWalk (jobOf bs) l ≡ stops 18 i) ⊎ ((e : ℕ) × (t : List ℕ) × (jobWalk (jobOf bs) l ≡ goes i (e ∷ t)))
-          → WrongStep 18 i ⊎ ExtraStep i
+          → WrongStep bs l 18 i ⊎ ExtraStep bs l i
       to (inl e) = inl (stops-first (jobOf bs) l 18 i .0 e)
       to (inr (e, t, q)) = inr (ended (goes-along (jobOf bs) l i (e ∷ t) .0 q))
 
-      from : WrongStep 18 i ⊎ ExtraStep i → walkFault (jobWalk (jobOf bs) l) ≡ fault 18 (step i)
+      from : WrongStep bs l 18 i ⊎ ExtraStep bs l i → walkFault (jobWalk (jobOf bs) l) ≡ fault 18 (step i)
       from (inl x) = ap walkFault (stops-first (jobOf bs) l 18 i .1 x)
       from (inr x) = ap walkFault (goes-along (jobOf bs) l i (x .next ∷ x .after) .1 (x .before, x .walked, x .whole, x .index))
 
