@@ -1,6 +1,6 @@
-/* The calls of kit_planner.h as a C program meets them: the sample card planned and read, two cards joined, and
- * refusals by number, card, place and index. It is C99 and C++11 alike; tests/calls.sh compiles it as both. It
- * ends at the first check that fails. */
+/* The calls of kit_planner.h as a C program meets them: the sample card planned, checked and read, two cards joined,
+ * null pointers lent, and refusals by number, card, place, index and reason. It is C99 and C++11 alike;
+ * tests/calls.sh compiles it as both. It ends at the first check that fails. */
 #include "kit_planner.h"
 
 #include <stdio.h>
@@ -13,14 +13,15 @@
 #define LANGUAGE "C99"
 #endif
 
-/* Declared once more, so that the compiler refuses any other types in the header. */
-uint32_t kit_plan(const uint8_t *card, size_t card_len, uint8_t *sheet, size_t sheet_len);
-uint32_t kit_read(const uint8_t *card, size_t card_len, const uint8_t *sheet, size_t sheet_len);
-uint32_t kit_join(const uint8_t *first, size_t first_len, const uint8_t *second, size_t second_len,
-                  uint8_t *joined, size_t joined_len);
-uint32_t kit_source(const uint8_t *first, size_t first_len, const uint8_t *second, size_t second_len, uint16_t i);
+/* Declared once more, so that the compiler refuses any other types in the header. A name in parentheses is the
+ * archive's function and not the header's macro. */
+uint32_t (kit_plan)(const uint8_t *card, size_t card_len, uint8_t *sheet, size_t sheet_len);
+uint32_t (kit_read)(const uint8_t *card, size_t card_len, const uint8_t *sheet, size_t sheet_len);
+uint32_t (kit_join)(const uint8_t *first, size_t first_len, const uint8_t *second, size_t second_len,
+                    uint8_t *joined, size_t joined_len);
+uint32_t (kit_source)(const uint8_t *first, size_t first_len, const uint8_t *second, size_t second_len, uint16_t i);
 
-enum { CARD, NODE, RULE, LINE, SHEET, STEPS, MARK, STEP };
+enum { CARD, NODE, RULE, LINE, SHEET, STEPS, MARK, STEP, PLACES };
 enum { NEITHER, FIRST, SECOND };
 
 /* The sample card: P = 0, T = 3, N = 4, s = 8. */
@@ -224,9 +225,9 @@ static void pair_refused(const uint8_t *first, size_t n, const uint8_t *second, 
 
 static void sources(void) {
     static const uint32_t wanted[4] = {0x00100010, 0x0020001F, 0x00200022, 0x00200025};
-    unsigned i;
+    uint16_t i;
     for (i = 0; i < 4; i++) {
-        const uint32_t answer = kit_source(small, sizeof small, sample, sizeof sample, (uint16_t)i);
+        const uint32_t answer = kit_source(small, sizeof small, sample, sizeof sample, i);
         const uint8_t *card = KIT_CARD(answer) == FIRST ? small : sample;
         check(answer == wanted[i], "the source of a line");
         check(card[KIT_INDEX(answer) + 2] == joined_card[43 + 3 * i], "must or may as in the joined card");
@@ -243,7 +244,7 @@ static void pairs_refused(void) {
     size_t i;
     for (i = 0; i < sizeof card_faults / sizeof card_faults[0]; i++) {
         const struct fault f = card_faults[i];
-        const uint32_t refusal = (uint32_t)f.number << 24 | (uint32_t)f.place << 16 | f.index;
+        const uint32_t refusal = f.number << 24 | f.place << 16 | f.index;
         memcpy(card, sample, sizeof card);
         card[f.at] = f.to;
         pair_refused(card, sizeof card, small, sizeof small, refusal | 1u << 20);
@@ -262,6 +263,80 @@ static void pairs_refused(void) {
     pair_refused(small, sizeof small, full, sizeof full, 0x0F000000);
 }
 
+/* A null pointer with length 0 is answered as any other empty one is. */
+static void null_of_one_card(void) {
+    uint8_t sheet[324];
+    check(kit_plan(NULL, 0, sheet, sizeof sheet) == kit_plan(sample, 0, sheet, sizeof sheet), "plan, null card");
+    check(kit_plan(sample, sizeof sample, NULL, 0) == kit_plan(sample, sizeof sample, sheet, 0), "plan, null sheet");
+    check(kit_plan(NULL, 0, NULL, 0) == kit_plan(sample, 0, sheet, 0), "plan, both null");
+    check(kit_read(NULL, 0, sample_sheet, 10) == kit_read(sample, 0, sample_sheet, 10), "read, null card");
+    check(kit_read(sample, sizeof sample, NULL, 0) == kit_read(sample, sizeof sample, sheet, 0), "read, null sheet");
+    check(kit_read(NULL, 0, NULL, 0) == kit_read(sample, 0, sheet, 0), "read, both null");
+    check(kit_check(NULL, 0) == kit_check(sample, 0), "check, null card");
+    told(kit_plan(NULL, 0, sheet, sizeof sheet), 1, CARD, 0);
+    told(kit_plan(sample, sizeof sample, NULL, 0), 10, SHEET, 0);
+    told(kit_read(sample, sizeof sample, NULL, 0), 12, SHEET, 0);
+}
+
+static void null_of_two_cards(void) {
+    uint8_t card[2891];
+    const size_t n = sizeof small, m = sizeof sample, room = sizeof card;
+    check(kit_join(NULL, 0, sample, m, card, room) == kit_join(small, 0, sample, m, card, room), "join, null first");
+    check(kit_join(small, n, NULL, 0, card, room) == kit_join(small, n, sample, 0, card, room), "join, null second");
+    check(kit_join(small, n, sample, m, NULL, 0) == kit_join(small, n, sample, m, card, 0), "join, null buffer");
+    check(kit_join(NULL, 0, NULL, 0, NULL, 0) == kit_join(small, 0, sample, 0, card, 0), "join, all null");
+    check(kit_source(NULL, 0, sample, m, 0) == kit_source(small, 0, sample, m, 0), "source, null first");
+    check(kit_source(small, n, NULL, 0, 0) == kit_source(small, n, sample, 0, 0), "source, null second");
+    check(kit_source(NULL, 0, NULL, 0, 0) == kit_source(small, 0, sample, 0, 0), "source, both null");
+    told_of(kit_join(NULL, 0, sample, m, card, room), 1, FIRST, CARD, 0);
+    told_of(kit_join(small, n, NULL, 0, card, room), 1, SECOND, CARD, 0);
+    told(kit_join(small, n, sample, m, NULL, 0), 10, SHEET, 0);
+    told_of(kit_source(small, n, NULL, 0, 0), 1, SECOND, CARD, 0);
+}
+
+/* A card is checked as kit_plan checks it. One that cannot be planned is sound all the same. */
+static void checked(void) {
+    uint8_t card[40];
+    size_t i;
+    check(kit_check(sample, sizeof sample) == 0, "the sample card is sound");
+    check(kit_check(small, sizeof small) == 0, "the small card is sound");
+    memcpy(card, sample, sizeof card);
+    card[39] = 1; /* name 30 must be used, and cannot be */
+    check(kit_check(card, sizeof card) == 0, "a card without a plan is sound");
+    told(kit_check(sample, 10), 1, CARD, 0);
+    told(kit_check(bad_rule, sizeof bad_rule), 8, RULE, 1);
+    for (i = 0; i < sizeof card_faults / sizeof card_faults[0]; i++) {
+        const struct fault f = card_faults[i];
+        memcpy(card, sample, sizeof card);
+        card[f.at] = f.to;
+        told(kit_check(card, sizeof card), f.number, f.place, f.index);
+    }
+}
+
+/* Some reasons by their words; that all are those of the Rust package is for tests/install.sh. */
+static void reasons(void) {
+    unsigned i, j;
+    check(strcmp(kit_reason(0), "not refused") == 0, "the reason of 0");
+    check(strcmp(kit_reason(1), "fewer than 11 bytes") == 0, "the reason of 1");
+    check(strcmp(kit_reason(11), "no derivation within limits") == 0, "the reason of 11");
+    check(strcmp(kit_reason(16), "line not below the joined T") == 0, "the reason of 16");
+    for (i = 20; i < 300; i++) check(strcmp(kit_reason(i), "unknown") == 0, "no reason past 19");
+    check(strcmp(kit_reason(0xffffffffu), "unknown") == 0, "the reason of the last number");
+    for (i = 0; i < 20; i++)
+        for (j = i + 1; j <= 20; j++) check(strcmp(kit_reason(i), kit_reason(j)) != 0, "each reason is another");
+}
+
+static void constants(void) {
+    static const enum kit_place places[] = {KIT_PLACE_CARD,  KIT_PLACE_NODE,  KIT_PLACE_RULE, KIT_PLACE_LINE,
+                                            KIT_PLACE_SHEET, KIT_PLACE_STEPS, KIT_PLACE_MARK, KIT_PLACE_STEP};
+    unsigned i;
+    check(sizeof places / sizeof places[0] == PLACES, "eight places");
+    for (i = 0; i < PLACES; i++) check(places[i] == i, "a place's number");
+    check(KIT_CARD_MAX == 11 + 5 * 512 + 2 * 64 + 3 * 64, "the longest card");
+    check(KIT_SHEET_MAX == 5 + 255 + 64, "the longest sheet");
+    check(strcmp(KIT_VERSION, "0.2.0") == 0, "the version");
+}
+
 int main(void) {
     planned(16);
     planned(324);
@@ -274,6 +349,11 @@ int main(void) {
     joined(2891);
     sources();
     pairs_refused();
+    null_of_one_card();
+    null_of_two_cards();
+    checked();
+    reasons();
+    constants();
     printf("calls.c as %s: %u checks passed\n", LANGUAGE, passed);
     return 0;
 }

@@ -1,5 +1,6 @@
 #!/usr/bin/env bash
-# Compiles tests/calls.c with the header as C99 and as C++11, no warning allowed, and runs both over the static library.
+# Compiles tests/calls.c and tests/lent.c with the header as C99 and as C++11, no warning allowed, and runs them: the first over the static
+# library, the second over functions of its own.
 #
 # Usage: calls.sh LIBRARY
 set -euo pipefail
@@ -12,8 +13,11 @@ done
 folder=$(mktemp -d)
 trap 'rm -rf "$folder"' EXIT
 
-options=(-pedantic -Wall -Wextra -Werror -I "$tests/../include")
-gcc -std=c99 "${options[@]}" "$tests/calls.c" "$library" -o "$folder/c99"
-g++ -x c++ -std=c++11 "${options[@]}" "$tests/calls.c" -x none "$library" -o "$folder/c++11"
-"$folder/c99"
-"$folder/c++11"
+options=(-pedantic -Wall -Wextra -Wconversion -Wshadow -Werror -I "$tests/../include")
+c99=(gcc -std=c99 "${options[@]}")
+cxx11=(g++ -x c++ -std=c++11 -Wold-style-cast "${options[@]}")
+"${c99[@]}" "$tests/calls.c" "$library" -o "$folder/c99"
+"${cxx11[@]}" "$tests/calls.c" -x none "$library" -o "$folder/c++11"
+"${c99[@]}" "$tests/lent.c" -o "$folder/lent-c99"
+"${cxx11[@]}" "$tests/lent.c" -o "$folder/lent-c++11"
+for program in c99 c++11 lent-c99 lent-c++11; do "$folder/$program"; done
