@@ -1,5 +1,49 @@
-//! Safe calls of the kit planner. `include/kit_planner.h` says what a packed answer means.
-use std::fmt;
+//! Safe calls of the kit planner, over its static library. No `std`, no allocation, no dependencies.
+//!
+//! A *card* (bytes) says which parts lie on the tray, which recipes hold and what is to come out. [`plan`] and
+//! [`plan_sheet`] tell whether that can be done, and write the *sheet* that says how; [`check`] only tells whether
+//! the card is sound; [`read`] holds a sheet against its card. [`join`] makes one card of two, and [`source`] and
+//! [`located`] tell where a line of that one comes from. `docs/FORMAT.md` draws card and sheet byte by byte.
+//!
+//! ```
+//! // Line 0 is name 2 and must be used; the goal is name 2.
+//! let card = [0, 19, 1, 0, 1, 0, 1, 0, 0, 4, 8, 1, 0, 2, 0, 0, 0, 0, 1];
+//! let sheet = kit_planner::plan_sheet(&card)?;
+//! assert_eq!(sheet.steps(), [0]);
+//! assert!(sheet.marks().eq([kit_planner::Mark::Used]));
+//! assert_eq!(kit_planner::read(&card, sheet.as_bytes()), Ok(1));
+//! # Ok::<(), kit_planner::Refusal>(())
+//! ```
+//!
+//! A call takes nothing but stack: at most 461 KB to plan on the deepest cards tried. Any bytes of any length may be
+//! lent. Planning can take long on a hard card and cannot be stopped, so run it in a thread or process of its own
+//! where that matters; the other calls take time by the length of what is lent.
+//!
+//! The library is `libplanner_c.a`, by `rt staticlib planner_c`, in the repository's target/staticlib or in the
+//! folder that `KIT_PLANNER_LIB_DIR` names when the crate is built.
+#![no_std]
+#![warn(missing_docs)]
+
+#[cfg(all(no_archive, not(doc)))]
+compile_error!(concat!(
+    env!("KIT_PLANNER_ARCHIVE"),
+    " is missing: run `rt staticlib planner_c` in the repository, ",
+    "or name the folder that holds libplanner_c.a in KIT_PLANNER_LIB_DIR"
+));
+
+use core::fmt;
+
+/// This package's version, which is the header's too.
+pub const VERSION: &str = env!("CARGO_PKG_VERSION");
+
+/// The longest card's length.
+pub const CARD_MAX: usize = 2891;
+
+/// The longest sheet's length, so room for any sheet.
+pub const SHEET_MAX: usize = 324;
+
+/// Room for any joined card.
+pub const ROOM_TO_JOIN: usize = CARD_MAX;
 
 extern "C" {
     fn kit_plan(card: *const u8, card_len: usize, sheet: *mut u8, sheet_len: usize) -> u32;
@@ -15,43 +59,84 @@ extern "C" {
     fn kit_source(first: *const u8, first_len: usize, second: *const u8, second_len: usize, i: u16) -> u32;
 }
 
-/// What a refusal speaks of.
+/// What a refusal speaks of. Each index counts from 0.
 #[derive(Clone, Copy, Debug, PartialEq, Eq)]
+#[non_exhaustive]
 pub enum Place {
+    /// The card.
     Card,
+    /// This node of the card.
     Node(u16),
+    /// This rule of the card.
     Rule(u16),
+    /// This line of the card.
     Line(u16),
+    /// The sheet, or the buffer for it.
     Sheet,
+    /// The steps of the sheet together.
     Steps,
+    /// The mark of this line.
     Mark(u16),
-    /// Counted from 0. One that is missing stands behind the last.
+    /// This step of the sheet. One that is missing stands behind the last.
     Step(u16),
 }
 
 /// A refusal: its number, 1 to 19, and its place.
 #[derive(Clone, Copy, Debug, PartialEq, Eq)]
 pub struct Refusal {
+    /// What is wrong, 1 to 19; [`Refusal::reason`] has it in words.
     pub number: u8,
+    /// Where.
     pub place: Place,
 }
 
 /// One of two cards.
 #[derive(Clone, Copy, Debug, PartialEq, Eq)]
 pub enum Which {
+    /// The first.
     First,
+    /// The second.
     Second,
 }
 
-/// A refusal over two cards, and the card whose own it is: `None` for 10, 15 and 16, which are neither's.
+/// A refusal over two cards.
 #[derive(Clone, Copy, Debug, PartialEq, Eq)]
 pub struct BenchRefusal {
+    /// The card whose own it is: `None` for 10, 15 and 16, which are neither's.
     pub card: Option<Which>,
+    /// The refusal itself.
     pub refusal: Refusal,
 }
 
+/// What has become of a line.
+#[derive(Clone, Copy, Debug, PartialEq, Eq)]
+#[non_exhaustive]
+pub enum Mark {
+    /// No step uses it, and it is a may line: it stays on the tray, or a rest takes it.
+    Left = 0,
+    /// A step uses it.
+    Used = 1,
+    /// No step uses it, and it is a must line: a rest takes it.
+    Covered = 2,
+}
+
+/// The sheet of a planned card.
+#[derive(Clone, PartialEq, Eq)]
+pub struct Sheet {
+    /// Those behind the sheet are 0, so equal sheets have equal bytes.
+    bytes: [u8; SHEET_MAX],
+    len: usize,
+}
+
 /// Plans a card into the buffer. After `Ok(k)` its first 5 + k + T bytes are the sheet, and the others keep
-/// what they held; after a refusal all do.
+/// what they held; after a refusal, 1 to 11, all do. [`SHEET_MAX`] bytes are enough for any card.
+///
+/// ```
+/// let card = [0, 19, 1, 0, 1, 0, 1, 0, 0, 4, 8, 1, 0, 2, 0, 0, 0, 0, 1];
+/// let mut sheet = [0; kit_planner::SHEET_MAX];
+/// assert_eq!(kit_planner::plan(&card, &mut sheet), Ok(1));
+/// assert_eq!(sheet[..7], [0, 7, 1, 1, 1, 0, 1]);
+/// ```
 pub fn plan(card: &[u8], sheet: &mut [u8]) -> Result<usize, Refusal> {
     // SAFETY: both are whole slices, not null even when empty. The buffer, which is written, may overlap
     // nothing else that is lent: it is borrowed by `&mut`, so it does not overlap the card.
@@ -59,7 +144,48 @@ pub fn plan(card: &[u8], sheet: &mut [u8]) -> Result<usize, Refusal> {
     unpacked(answer)
 }
 
+/// Plans a card: its sheet, or why there is none.
+///
+/// ```
+/// let mut card = [0, 19, 1, 0, 1, 0, 1, 0, 0, 4, 8, 1, 0, 2, 0, 0, 0, 0, 1];
+/// let sheet = kit_planner::plan_sheet(&card).expect("the line is the goal");
+/// assert_eq!(sheet.as_bytes(), [0, 7, 1, 1, 1, 0, 1]);
+/// card[10] = 0; // no step is allowed
+/// let refusal = kit_planner::plan_sheet(&card).unwrap_err();
+/// assert_eq!(refusal.to_string(), "refused 11 at card: no derivation within limits");
+/// ```
+pub fn plan_sheet(card: &[u8]) -> Result<Sheet, Refusal> {
+    let mut bytes = [0; SHEET_MAX];
+    plan(card, &mut bytes)?;
+    let len = usize::from(u16::from_be_bytes([bytes[0], bytes[1]]));
+    Ok(Sheet { bytes, len })
+}
+
+/// Checks a card and plans nothing: whether it is sound, or its refusal, 1 to 9.
+///
+/// ```
+/// let mut card = [0, 19, 1, 0, 1, 0, 1, 0, 0, 4, 8, 1, 0, 2, 0, 0, 0, 0, 1];
+/// assert_eq!(kit_planner::check(&card), Ok(()));
+/// card[18] = 2; // neither must nor may
+/// let refusal = kit_planner::check(&card).unwrap_err();
+/// assert_eq!((refusal.number, refusal.place), (9, kit_planner::Place::Line(0)));
+/// ```
+pub fn check(card: &[u8]) -> Result<(), Refusal> {
+    // No sheet has room in an empty buffer, so a sound card is refused with 10, before any search.
+    match plan(card, &mut []) {
+        Err(refusal) if refusal.number != 10 => Err(refusal),
+        _ => Ok(()),
+    }
+}
+
 /// Reads a sheet against its card: the number of its steps, or why it is refused. The two may overlap.
+///
+/// ```
+/// let card = [0, 19, 1, 0, 1, 0, 1, 0, 0, 4, 8, 1, 0, 2, 0, 0, 0, 0, 1];
+/// assert_eq!(kit_planner::read(&card, &[0, 7, 1, 1, 1, 0, 1]), Ok(1));
+/// let refusal = kit_planner::read(&card, &[0, 7, 1, 1, 1, 0, 0]).unwrap_err();
+/// assert_eq!(refusal.to_string(), "refused 14 at mark 0: a mark is not the true one");
+/// ```
 pub fn read(card: &[u8], sheet: &[u8]) -> Result<usize, Refusal> {
     // SAFETY: both are whole slices, not null even when empty. The call writes nothing, so they may overlap
     // or be the same.
@@ -68,7 +194,16 @@ pub fn read(card: &[u8], sheet: &[u8]) -> Result<usize, Refusal> {
 }
 
 /// Joins two cards to one in the buffer. After `Ok(n)` its first n bytes are the joined card, and the others keep
-/// what they held; after a refusal all do. `ROOM_TO_JOIN` bytes are enough. The two cards may overlap.
+/// what they held; after a refusal all do. [`ROOM_TO_JOIN`] bytes are enough. The two cards may overlap.
+///
+/// ```
+/// let card = [0, 19, 1, 0, 1, 0, 1, 0, 0, 4, 8, 1, 0, 2, 0, 0, 0, 0, 1];
+/// let mut joined = [0; kit_planner::ROOM_TO_JOIN];
+/// let len = kit_planner::join(&card, &card, &mut joined)?;
+/// let sheet = kit_planner::plan_sheet(&joined[..len]).expect("each has its line");
+/// assert_eq!((len, sheet.steps()), (32, &[0, 1][..]));
+/// # Ok::<(), kit_planner::BenchRefusal>(())
+/// ```
 pub fn join(first: &[u8], second: &[u8], joined: &mut [u8]) -> Result<usize, BenchRefusal> {
     // SAFETY: all three are whole slices, not null even when empty. The buffer, which is written, may overlap
     // nothing else that is lent: it is borrowed by `&mut`, so it overlaps no card. The cards are only read.
@@ -85,16 +220,25 @@ pub fn join(first: &[u8], second: &[u8], joined: &mut [u8]) -> Result<usize, Ben
     unpacked_of(answer)
 }
 
-/// The longest card's length, so room for any joined card.
-pub const ROOM_TO_JOIN: usize = 2891;
-
 /// The three bytes of the joined card's line i, as they stand in the card that holds it. The two may overlap.
+///
+/// ```
+/// let card = [0, 19, 1, 0, 1, 0, 1, 0, 0, 4, 8, 1, 0, 2, 0, 0, 0, 0, 1];
+/// assert_eq!(kit_planner::source(&card, &card, 1), Ok(&card[16..]));
+/// let refusal = kit_planner::source(&card, &card, 2).unwrap_err();
+/// assert_eq!(refusal.to_string(), "refused 16 at line 2: line not below the joined T");
+/// ```
 pub fn source<'a>(first: &'a [u8], second: &'a [u8], i: u16) -> Result<&'a [u8], BenchRefusal> {
     let (card, at) = located(first, second, i)?;
     Ok(&card.of(first, second)[at..at + 3])
 }
 
 /// The card that holds the joined card's line i, and where its three bytes begin there.
+///
+/// ```
+/// let card = [0, 19, 1, 0, 1, 0, 1, 0, 0, 4, 8, 1, 0, 2, 0, 0, 0, 0, 1];
+/// assert_eq!(kit_planner::located(&card, &card, 1), Ok((kit_planner::Which::Second, 16)));
+/// ```
 pub fn located(first: &[u8], second: &[u8], i: u16) -> Result<(Which, usize), BenchRefusal> {
     // SAFETY: both are whole slices, not null even when empty. The call writes nothing, so they may overlap
     // or be the same.
@@ -131,6 +275,10 @@ impl Which {
     }
 
     /// This one of the two.
+    ///
+    /// ```
+    /// assert_eq!(kit_planner::Which::Second.of("left", "right"), "right");
+    /// ```
     pub fn of<T>(self, first: T, second: T) -> T {
         match self {
             Which::First => first,
@@ -172,6 +320,11 @@ impl Place {
 
 impl Refusal {
     /// When the refusal applies.
+    ///
+    /// ```
+    /// let refusal = kit_planner::check(&[]).unwrap_err();
+    /// assert_eq!(refusal.reason(), "fewer than 11 bytes");
+    /// ```
     pub fn reason(self) -> &'static str {
         match self.number {
             1 => "fewer than 11 bytes",
@@ -195,6 +348,82 @@ impl Refusal {
             19 => "a part is used twice, a must line is neither used nor left to rest, a lent part is left over, or the sides of \"either way\" use different parts",
             _ => "unknown",
         }
+    }
+}
+
+impl Mark {
+    /// The mark by its number.
+    fn numbered(number: u8) -> Mark {
+        match number {
+            0 => Mark::Left,
+            1 => Mark::Used,
+            2 => Mark::Covered,
+            _ => unreachable!("no mark has the number {number}"),
+        }
+    }
+}
+
+impl Sheet {
+    /// The sheet's bytes, as [`read`] takes them.
+    ///
+    /// ```
+    /// let card = [0, 19, 1, 0, 1, 0, 1, 0, 0, 4, 8, 1, 0, 2, 0, 0, 0, 0, 1];
+    /// let sheet = kit_planner::plan_sheet(&card)?;
+    /// assert_eq!(sheet.as_bytes(), [0, 7, 1, 1, 1, 0, 1]);
+    /// # Ok::<(), kit_planner::Refusal>(())
+    /// ```
+    pub fn as_bytes(&self) -> &[u8] {
+        &self.bytes[..self.len]
+    }
+
+    /// The entry used at each step: rules are numbered from 0, lines from P, the number of rules, and clauses lent on
+    /// the way from P + T, T the number of lines.
+    ///
+    /// ```
+    /// let card = [0, 19, 1, 0, 1, 0, 1, 0, 0, 4, 8, 1, 0, 2, 0, 0, 0, 0, 1];
+    /// assert_eq!(kit_planner::plan_sheet(&card)?.steps(), [0]);
+    /// # Ok::<(), kit_planner::Refusal>(())
+    /// ```
+    pub fn steps(&self) -> &[u8] {
+        self.parts().0
+    }
+
+    /// The mark of each line.
+    ///
+    /// ```
+    /// use kit_planner::Mark;
+    ///
+    /// // The goal is rest, which takes a must line; a may line is left.
+    /// let card = [0, 27, 1, 0, 2, 0, 2, 0, 1, 4, 8, 1, 0, 2, 0, 0, 2, 0, 0, 0, 0, 0, 0, 1, 0, 0, 0];
+    /// let sheet = kit_planner::plan_sheet(&card)?;
+    /// assert_eq!(sheet.marks().len(), 2);
+    /// assert!(sheet.marks().eq([Mark::Covered, Mark::Left]));
+    /// # Ok::<(), kit_planner::Refusal>(())
+    /// ```
+    pub fn marks(&self) -> impl ExactSizeIterator<Item = Mark> + DoubleEndedIterator + Clone + '_ {
+        self.parts().1.iter().map(|&number| Mark::numbered(number))
+    }
+
+    /// The bytes of the steps, and those of the marks.
+    fn parts(&self) -> (&[u8], &[u8]) {
+        self.as_bytes()[5..].split_at(usize::from(self.bytes[3]))
+    }
+}
+
+impl fmt::Debug for Sheet {
+    fn fmt(&self, f: &mut fmt::Formatter) -> fmt::Result {
+        let (steps, marks) = self.parts();
+        f.debug_struct("Sheet").field("steps", &steps).field("marks", &marks).finish()
+    }
+}
+
+impl fmt::Display for Mark {
+    fn fmt(&self, f: &mut fmt::Formatter) -> fmt::Result {
+        f.write_str(match self {
+            Mark::Left => "left on the tray",
+            Mark::Used => "used",
+            Mark::Covered => "taken by rest",
+        })
     }
 }
 
@@ -231,13 +460,64 @@ impl fmt::Display for BenchRefusal {
     }
 }
 
-impl std::error::Error for Refusal {}
+impl core::error::Error for Refusal {}
 
-impl std::error::Error for BenchRefusal {}
+impl core::error::Error for BenchRefusal {}
 
 #[cfg(test)]
 mod tests {
+    extern crate std;
+
     use super::*;
+    use std::format;
+    use std::string::ToString;
+    use std::vec::Vec;
+
+    /// Name 2 must be used, and is the goal.
+    const SMALL: [u8; 19] = [0, 19, 1, 0, 1, 0, 1, 0, 0, 4, 8, 1, 0, 2, 0, 0, 0, 0, 1];
+
+    #[test]
+    fn cards_are_checked() {
+        assert_eq!(check(&SMALL), Ok(()));
+        let mut card = SMALL;
+        card[10] = 0;
+        assert_eq!(check(&card), Ok(()), "a card without a plan is sound");
+        for (at, to, number, place) in [
+            (1, 18, 2, Place::Card),
+            (2, 2, 3, Place::Card),
+            (9, 17, 4, Place::Card),
+            (6, 2, 5, Place::Card),
+            (11, 8, 6, Place::Node(0)),
+            (8, 1, 7, Place::Card),
+            (17, 1, 9, Place::Line(0)),
+        ] {
+            let mut card = SMALL;
+            card[at] = to;
+            assert_eq!(check(&card), Err(Refusal { number, place }));
+        }
+        assert_eq!(check(&[]), Err(Refusal { number: 1, place: Place::Card }));
+    }
+
+    #[test]
+    fn sheets_are_taken_apart() {
+        let sheet = plan_sheet(&SMALL).expect("the line is the goal");
+        assert_eq!(sheet.as_bytes(), [0, 7, 1, 1, 1, 0, 1]);
+        assert_eq!((sheet.steps(), sheet.marks().len()), (&[0][..], 1));
+        assert_eq!(format!("{sheet:?}"), "Sheet { steps: [0], marks: [1] }");
+        assert_eq!(sheet.clone(), sheet);
+        let mut bytes = [0; SHEET_MAX];
+        bytes[..10].copy_from_slice(&[0, 10, 1, 2, 3, 9, 8, 0, 1, 2]);
+        let sheet = Sheet { bytes, len: 10 };
+        let words: Vec<_> = sheet.marks().map(|mark| (mark as u8, mark.to_string())).collect();
+        let wanted = [(0, "left on the tray"), (1, "used"), (2, "taken by rest")];
+        assert_eq!(words, wanted.map(|(number, word)| (number, word.to_string())));
+        assert_eq!(sheet.steps(), [9, 8]);
+    }
+
+    #[test]
+    fn longest_lengths() {
+        assert_eq!((CARD_MAX, SHEET_MAX), (11 + 5 * 512 + 2 * 64 + 3 * 64, 5 + 255 + 64));
+    }
 
     #[test]
     fn answers_are_unpacked() {
