@@ -1,0 +1,62 @@
+//! Plans the card of a file and prints its steps and marks, or why it is refused, as examples/plan.c does.
+//!
+//! Usage: plan CARD
+//!
+//! The exit status is 0 where the card is planned, 1 where it is refused, 2 where it could not be read.
+use kit_planner::{plan_sheet, Sheet, CARD_MAX};
+use std::env;
+use std::fs::File;
+use std::io::{self, Read};
+use std::process::ExitCode;
+
+/// The file's beginning: one byte more than the longest card, so that a longer file is refused as it would be in full.
+fn read_file(name: &str) -> io::Result<Vec<u8>> {
+    let mut card = Vec::new();
+    File::open(name)?.take(CARD_MAX as u64 + 1).read_to_end(&mut card)?;
+    Ok(card)
+}
+
+/// Entries are numbered through: P rules, then T lines, then what is lent.
+fn entry(card: &[u8], entry: u8) -> String {
+    let (rules, lines) = (card[3], card[4]);
+    if entry < rules {
+        format!("rule {entry}")
+    } else if entry < rules + lines {
+        format!("line {}", entry - rules)
+    } else {
+        format!("lent {}", entry - rules - lines)
+    }
+}
+
+fn print_sheet(card: &[u8], sheet: &Sheet) {
+    println!("planned, steps: {}", sheet.steps().len());
+    for (i, &step) in sheet.steps().iter().enumerate() {
+        println!("step {i}: {}", entry(card, step));
+    }
+    for (i, mark) in sheet.marks().enumerate() {
+        println!("line {i}: {mark}");
+    }
+}
+
+fn main() -> ExitCode {
+    let names: Vec<String> = env::args().skip(1).collect();
+    let [name] = names.as_slice() else {
+        eprintln!("usage: plan CARD");
+        return ExitCode::from(2);
+    };
+    let card = match read_file(name) {
+        Ok(card) => card,
+        Err(error) => {
+            eprintln!("plan: {name}: {error}");
+            return ExitCode::from(2);
+        }
+    };
+    match plan_sheet(&card) {
+        Ok(sheet) => print_sheet(&card, &sheet),
+        Err(refusal) => {
+            println!("{refusal}");
+            return ExitCode::from(1);
+        }
+    }
+    ExitCode::SUCCESS
+}
