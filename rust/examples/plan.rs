@@ -7,10 +7,11 @@ use kit_planner::{plan_sheet, Sheet, CARD_MAX};
 use std::env;
 use std::fs::File;
 use std::io::{self, Read};
+use std::path::{Path, PathBuf};
 use std::process::ExitCode;
 
 /// The file's beginning: one byte more than the longest card, so that a longer file is refused as it would be in full.
-fn read_file(name: &str) -> io::Result<Vec<u8>> {
+fn read_file(name: &Path) -> io::Result<Vec<u8>> {
     let mut card = Vec::new();
     File::open(name)?.take(CARD_MAX as u64 + 1).read_to_end(&mut card)?;
     Ok(card)
@@ -39,7 +40,7 @@ fn print_sheet(card: &[u8], sheet: &Sheet) {
 }
 
 fn main() -> ExitCode {
-    let names: Vec<String> = env::args().skip(1).collect();
+    let names: Vec<PathBuf> = env::args_os().skip(1).map(PathBuf::from).collect();
     let [name] = names.as_slice() else {
         eprintln!("usage: plan CARD");
         return ExitCode::from(2);
@@ -47,7 +48,7 @@ fn main() -> ExitCode {
     let card = match read_file(name) {
         Ok(card) => card,
         Err(error) => {
-            eprintln!("plan: {name}: {error}");
+            eprintln!("plan: {}: {error}", name.display());
             return ExitCode::from(2);
         }
     };
