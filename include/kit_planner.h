@@ -131,7 +131,7 @@ static inline uint8_t *kit_lent_buffer(uint8_t *bytes, size_t len) {
     return bytes || len ? bytes : &none;
 }
 
-/* The calls with such pointers. */
+/* The calls with such pointers, for the macros behind them. */
 static inline uint32_t kit_plan_lent(const uint8_t *card, size_t card_len, uint8_t *sheet, size_t sheet_len) {
     return kit_plan(kit_lent(card, card_len), card_len, kit_lent_buffer(sheet, sheet_len), sheet_len);
 }

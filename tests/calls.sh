@@ -13,7 +13,7 @@ done
 folder=$(mktemp -d)
 trap 'rm -rf "$folder"' EXIT
 
-options=(-pedantic -Wall -Wextra -Wconversion -Wshadow -Werror -I "$tests/../include")
+options=(-O2 -pedantic -Wall -Wextra -Wconversion -Wshadow -Werror -I "$tests/../include")
 c99=(gcc -std=c99 "${options[@]}")
 cxx11=(g++ -x c++ -std=c++11 -Wold-style-cast "${options[@]}")
 "${c99[@]}" "$tests/calls.c" "$library" -o "$folder/c99"
