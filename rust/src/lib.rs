@@ -304,7 +304,11 @@ impl Place {
     }
 
     /// Its word, and its index where it has one.
-    fn word(self) -> (&'static str, Option<u16>) {
+    ///
+    /// ```
+    /// assert_eq!(kit_planner::Place::Node(3).word(), ("node", Some(3)));
+    /// ```
+    pub fn word(self) -> (&'static str, Option<u16>) {
         match self {
             Place::Card => ("card", None),
             Place::Node(i) => ("node", Some(i)),

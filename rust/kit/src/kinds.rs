@@ -1,0 +1,104 @@
+//! The kinds of node, by their words at the desk.
+
+/// What a field of a node holds.
+#[derive(Clone, Copy, PartialEq, Eq)]
+pub enum Holds {
+    Name,
+    Nothing,
+    Goal,
+    Clause,
+}
+
+/// A kind of node. Its words stand before, between and behind its parts; `role` says what each part is to it.
+pub struct Kind {
+    pub number: u8,
+    pub word: &'static str,
+    pub fields: [Holds; 2],
+    pub reads: Reads,
+    pub around: [&'static str; 2],
+    pub roles: [&'static str; 2],
+}
+
+/// What a node can be read as.
+#[derive(Clone, Copy, PartialEq, Eq)]
+pub struct Reads {
+    pub goal: bool,
+    pub clause: bool,
+}
+
+const GOAL: Reads = Reads { goal: true, clause: false };
+const CLAUSE: Reads = Reads { goal: false, clause: true };
+const EITHER: Reads = Reads { goal: true, clause: true };
+
+pub const NAME: u8 = 1;
+pub const REST: u8 = 2;
+pub const DONE: u8 = 3;
+pub const BOTH: u8 = 4;
+pub const EITHER_WAY: u8 = 5;
+pub const LEND: u8 = 6;
+pub const RECIPE: u8 = 7;
+
+const fn kind(number: u8, word: &'static str, fields: [Holds; 2], reads: Reads) -> Kind {
+    Kind { number, word, fields, reads, around: ["", ""], roles: ["", ""] }
+}
+
+use Holds::{Clause, Goal, Name, Nothing};
+
+/// 01's table.
+pub const KINDS: [Kind; 7] = [
+    kind(NAME, "name", [Name, Nothing], EITHER),
+    kind(REST, "rest", [Nothing, Nothing], EITHER),
+    kind(DONE, "done", [Nothing, Nothing], GOAL),
+    Kind {
+        around: ["", "both"],
+        roles: ["one part", "the other part"],
+        ..kind(BOTH, "both", [Goal, Goal], GOAL)
+    },
+    Kind {
+        around: ["", "either way"],
+        roles: ["one way", "the other way"],
+        ..kind(EITHER_WAY, "either way", [Goal, Goal], GOAL)
+    },
+    Kind {
+        around: ["lend", "to"],
+        roles: ["what is lent", "to what"],
+        ..kind(LEND, "lend", [Clause, Goal], GOAL)
+    },
+    Kind {
+        around: ["", "gives"],
+        roles: ["the condition", "what it gives"],
+        ..kind(RECIPE, "recipe", [Goal, Clause], CLAUSE)
+    },
+];
+
+/// The kind with this number.
+pub fn numbered(number: u8) -> Option<&'static Kind> {
+    KINDS.iter().find(|kind| kind.number == number)
+}
+
+impl Holds {
+    /// Whether the field names a part.
+    pub fn part(self) -> bool {
+        matches!(self, Goal | Clause)
+    }
+
+    /// Whether a part read so fits here.
+    pub fn fits(self, reads: Reads) -> bool {
+        match self {
+            Goal => reads.goal,
+            Clause => reads.clause,
+            Name | Nothing => false,
+        }
+    }
+}
+
+impl Reads {
+    /// In words.
+    pub fn words(self) -> &'static str {
+        match (self.goal, self.clause) {
+            (true, true) => "a goal and a clause",
+            (true, false) => "a goal, no clause",
+            _ => "a clause, no goal",
+        }
+    }
+}

@@ -1,0 +1,426 @@
+//! Statements and formulas.
+use super::draft::{Draft, LINE_LIMIT, NAME_LIMIT, NESTING_LIMIT, RULE_LIMIT, STEP_LIMIT};
+use super::tokens::{can_name, tokens, Token};
+use super::Mistake;
+use crate::card::{Line, Node};
+use crate::kinds::{self, Holds};
+use crate::names::Names;
+
+/// What a text holds: a card by statements, or bytes as they stand; and its names.
+pub struct Parsed {
+    pub bytes: Vec<u8>,
+    pub names: Names,
+    /// Whether it was written as bytes.
+    pub raw: bool,
+}
+
+/// Parentheses are nested no deeper: formulas of a card are not.
+const DEPTH_LIMIT: usize = 64;
+
+/// A statement's tokens, and where the next one stands.
+struct Statement<'a> {
+    line: usize,
+    tokens: Vec<Token<'a>>,
+    next: usize,
+    end: usize,
+}
+
+/// A formula's node and where it is written.
+#[derive(Clone, Copy)]
+struct Part {
+    node: usize,
+    from: usize,
+    to: usize,
+}
+
+type Outcome<T> = Result<T, Mistake>;
+
+impl<'a> Statement<'a> {
+    fn new(line: usize, text: &'a str) -> Outcome<Statement<'a>> {
+        let tokens = tokens(line, text)?;
+        let end = tokens.last().map_or(1, |t| t.column + t.width());
+        Ok(Statement { line, tokens, next: 0, end })
+    }
+
+    fn peek(&self) -> Option<&'a str> {
+        self.tokens.get(self.next).map(|t| t.text)
+    }
+
+    fn column(&self) -> usize {
+        self.tokens.get(self.next).map_or(self.end, |t| t.column)
+    }
+
+    fn mistake<T>(&self, from: usize, to: usize, words: String) -> Outcome<T> {
+        Err(Mistake { line: self.line, column: from, width: to.saturating_sub(from).max(1), words })
+    }
+
+    /// A mistake about the last token taken.
+    fn wrong<T>(&self, words: String) -> Outcome<T> {
+        let token = &self.tokens[self.next - 1];
+        self.mistake(token.column, token.column + token.width(), words)
+    }
+
+    /// The next token, or that it is missing.
+    fn take(&mut self, what: &str) -> Outcome<&'a str> {
+        let Some(token) = self.tokens.get(self.next) else {
+            return self.mistake(self.end, self.end + 1, format!("{what} is missing"));
+        };
+        self.next += 1;
+        Ok(token.text)
+    }
+
+    fn expect(&mut self, word: &str) -> Outcome<()> {
+        let what = format!("\"{word}\"");
+        match self.take(&what)? {
+            text if text == word => Ok(()),
+            text => self.wrong(format!("\"{text}\" is not expected here, but {what} is")),
+        }
+    }
+
+    /// A number of at most so much.
+    fn number(&mut self, what: &str, most: usize) -> Outcome<usize> {
+        let text = self.take(what)?;
+        if !text.bytes().all(|b| b.is_ascii_digit()) {
+            return self.wrong(format!("\"{text}\" is no number: {what} is expected here"));
+        }
+        match text.parse() {
+            Ok(n) if n <= most => Ok(n),
+            _ => self.wrong(format!("{text} is too much: {what} goes to {most}")),
+        }
+    }
+
+    fn ended(&mut self) -> Outcome<()> {
+        match self.tokens.get(self.next) {
+            None => Ok(()),
+            Some(token) => {
+                self.next += 1;
+                self.wrong(format!("\"{}\" is not expected here: the statement ends before it", token.text))
+            }
+        }
+    }
+}
+
+/// A parser's state: the card so far, and the names that it knows from the first line on.
+struct Parser {
+    names: Names,
+    draft: Draft,
+    raw: Option<Vec<u8>>,
+}
+
+const STATEMENTS: [&str; 8] = ["name", "limits", "goal", "rule", "must", "may", "node", "bytes"];
+
+/// The lines of a text, counted from 1.
+fn lines(text: &str) -> impl Iterator<Item = (usize, &str)> {
+    text.lines().enumerate().map(|(i, line)| (i + 1, line))
+}
+
+/// The names that a text gives, beside those known before. Its other statements are left alone.
+pub fn names_of(text: &str, known: &Names) -> Outcome<Names> {
+    let mut names = known.clone();
+    for (number, line) in lines(text) {
+        let mut statement = Statement::new(number, line)?;
+        match statement.peek() {
+            Some("name") => name(&mut statement, &mut names)?,
+            Some(word) if !STATEMENTS.contains(&word) => {
+                statement.next = 1;
+                return statement
+                    .wrong(format!("\"{word}\" begins no statement: {} do", STATEMENTS.join(", ")));
+            }
+            _ => {}
+        }
+    }
+    Ok(names)
+}
+
+/// `name WORD NUMBER`
+fn name(statement: &mut Statement, names: &mut Names) -> Outcome<()> {
+    statement.expect("name")?;
+    let word = statement.take("a word")?;
+    if !can_name(word) {
+        return statement.wrong(format!(
+            "\"{word}\" cannot be a name's word: it begins with no letter, or the format keeps it"
+        ));
+    }
+    let number = statement.number("a name's number", NAME_LIMIT)?;
+    names.add(word, number as u16).or_else(|words| statement.wrong(words))?;
+    statement.ended()
+}
+
+/// The card that a text writes.
+pub fn parse(text: &str, known: &Names) -> Outcome<Parsed> {
+    let names = names_of(text, known)?;
+    let mut parser = Parser { names, draft: Draft::default(), raw: None };
+    let mut last = 1;
+    for (number, line) in lines(text) {
+        let mut statement = Statement::new(number, line)?;
+        parser.statement(&mut statement)?;
+        last = number;
+    }
+    let Parser { names, draft, raw } = parser;
+    if let Some(bytes) = raw {
+        return Ok(Parsed { bytes, names, raw: true });
+    }
+    let missing = if draft.goal.is_none() { "goal" } else { "limits" };
+    match draft.bytes() {
+        Some(bytes) => Ok(Parsed { bytes, names, raw: false }),
+        None => Err(Mistake {
+            line: last,
+            column: 1,
+            width: 1,
+            words: format!("the card has no \"{missing}\" statement"),
+        }),
+    }
+}
+
+impl Parser {
+    fn statement(&mut self, s: &mut Statement) -> Outcome<()> {
+        let Some(word) = s.peek() else { return Ok(()) };
+        if word == "name" {
+            return Ok(());
+        }
+        s.next = 1;
+        if word != "bytes" && self.raw.is_some() || word == "bytes" && !self.draft.is_empty() {
+            return s.wrong("a card is written by \"bytes\" alone, or without".to_string());
+        }
+        match word {
+            "limits" => self.limits(s)?,
+            "goal" => self.goal(s)?,
+            "rule" => self.rule(s)?,
+            "node" => self.node(s)?,
+            "bytes" => self.bytes(s)?,
+            _ => self.line(s, u8::from(word == "must"))?,
+        }
+        s.ended()
+    }
+
+    /// `limits nesting D steps S`
+    fn limits(&mut self, s: &mut Statement) -> Outcome<()> {
+        if self.draft.limits.is_some() {
+            return s.wrong("the limits are told twice".to_string());
+        }
+        s.expect("nesting")?;
+        let nesting = s.number("the nesting limit", NESTING_LIMIT)?;
+        s.expect("steps")?;
+        let steps = s.number("the step limit", STEP_LIMIT)?;
+        self.draft.limits = Some((nesting as u8, steps as u8));
+        Ok(())
+    }
+
+    fn goal(&mut self, s: &mut Statement) -> Outcome<()> {
+        if self.draft.goal.is_some() {
+            return s.wrong("the goal is told twice".to_string());
+        }
+        self.draft.goal = Some(self.root(s, Holds::Goal, "the goal")?);
+        Ok(())
+    }
+
+    fn rule(&mut self, s: &mut Statement) -> Outcome<()> {
+        if self.draft.rules.len() == RULE_LIMIT {
+            return s.wrong(format!("a card has at most {RULE_LIMIT} rules"));
+        }
+        let node = self.root(s, Holds::Clause, "a rule")?;
+        self.draft.rules.push(node);
+        Ok(())
+    }
+
+    /// `must CLAUSE [times N]`, and `may`
+    fn line(&mut self, s: &mut Statement, must: u8) -> Outcome<()> {
+        let node = self.root(s, Holds::Clause, "a line")?;
+        let mut times = 1;
+        if s.peek() == Some("times") {
+            s.next += 1;
+            times = s.number("the number of lines", LINE_LIMIT)?;
+        }
+        if self.draft.lines.len() + times > LINE_LIMIT {
+            s.next = 1;
+            return s.wrong(format!("a card has at most {LINE_LIMIT} lines"));
+        }
+        self.draft.lines.extend((0..times).map(|_| Line { node, must }));
+        Ok(())
+    }
+
+    /// `node I` of the nodes before, or a formula; with the reading asked for.
+    fn root(&mut self, s: &mut Statement, holds: Holds, what: &str) -> Outcome<usize> {
+        let part = if s.peek() == Some("node") {
+            let from = s.column();
+            s.next += 1;
+            let node = self.number_of_node(s)?;
+            Part { node, from, to: s.end }
+        } else {
+            self.formula(s, DEPTH_LIMIT)?
+        };
+        self.reading(s, part, holds, what)?;
+        Ok(part.node)
+    }
+
+    fn reading(&self, s: &Statement, part: Part, holds: Holds, what: &str) -> Outcome<()> {
+        if holds.fits(self.draft.reads(part.node)) {
+            return Ok(());
+        }
+        let asked = match holds {
+            Holds::Goal => "no goal: a recipe (\"gives\") is none",
+            _ => "no clause: a name, rest or a recipe (\"gives\") is one",
+        };
+        s.mistake(part.from, part.to, format!("{what} cannot be this, which is {asked}"))
+    }
+
+    fn number_of_node(&self, s: &mut Statement) -> Outcome<usize> {
+        let node = s.number("a node's number", usize::from(u16::MAX))?;
+        match self.draft.len() {
+            n if node < n => Ok(node),
+            _ => s.wrong(format!("there is no node {node} yet")),
+        }
+    }
+
+    /// `node I`, its kind's words and the numbers of its parts.
+    fn node(&mut self, s: &mut Statement) -> Outcome<()> {
+        let i = s.number("a node's number", usize::from(u16::MAX))?;
+        if i != self.draft.len() {
+            return s.wrong(format!("node {} is expected here", self.draft.len()));
+        }
+        let from = s.column();
+        let node = self.written(s)?;
+        match self.draft.add(node) {
+            Ok(_) => Ok(()),
+            Err(words) => s.mistake(from, s.end, words),
+        }
+    }
+
+    fn written(&mut self, s: &mut Statement) -> Outcome<Node> {
+        let word = s.take("what the node is")?;
+        let pair = |kind: u8, left: usize, right: usize| Node { kind, fields: [left as u16, right as u16] };
+        let parts = |s: &mut Statement, between: Option<&str>| -> Outcome<(usize, usize)> {
+            let left = self.number_of_node(s)?;
+            between.map_or(Ok(()), |word| s.expect(word))?;
+            Ok((left, self.number_of_node(s)?))
+        };
+        Ok(match word {
+            "name" => pair(kinds::NAME, self.name(s)?, 0),
+            "rest" => pair(kinds::REST, 0, 0),
+            "done" => pair(kinds::DONE, 0, 0),
+            "both" => parts(s, None).map(|(l, r)| pair(kinds::BOTH, l, r))?,
+            "either" => {
+                s.expect("way")?;
+                parts(s, None).map(|(l, r)| pair(kinds::EITHER_WAY, l, r))?
+            }
+            "lend" => parts(s, Some("to")).map(|(l, r)| pair(kinds::LEND, l, r))?,
+            _ => {
+                s.next -= 1;
+                parts(s, Some("gives")).map(|(l, r)| pair(kinds::RECIPE, l, r))?
+            }
+        })
+    }
+
+    /// A name by word or number.
+    fn name(&self, s: &mut Statement) -> Outcome<usize> {
+        let text = s.take("a name")?;
+        if text.starts_with(|c: char| c.is_ascii_digit()) {
+            s.next -= 1;
+            return s.number("a name", NAME_LIMIT);
+        }
+        match self.names.number(text) {
+            Some(number) => Ok(usize::from(number)),
+            None => s.wrong(format!("\"{text}\" is no name")),
+        }
+    }
+
+    /// `bytes 00 28`: a card's bytes as they stand.
+    fn bytes(&mut self, s: &mut Statement) -> Outcome<()> {
+        let bytes = self.raw.get_or_insert_with(Vec::new);
+        while s.peek().is_some() {
+            let text = s.take("a byte")?;
+            let two = text.len() == 2 && text.bytes().all(|b| b.is_ascii_hexdigit());
+            match u8::from_str_radix(text, 16) {
+                Ok(byte) if two => bytes.push(byte),
+                _ => return s.wrong(format!("\"{text}\" is no byte: two hex digits are")),
+            }
+        }
+        Ok(())
+    }
+
+    fn formula(&mut self, s: &mut Statement, depth: usize) -> Outcome<Part> {
+        let from = s.column();
+        let text = s.take("a formula")?;
+        if depth == 0 {
+            return s.wrong("parentheses are nested too deep".to_string());
+        }
+        let node = match text {
+            "(" => self.inner(s, depth - 1)?,
+            "rest" => self.leaf(s, kinds::REST)?,
+            "done" => self.leaf(s, kinds::DONE)?,
+            ")" => return s.wrong("a formula is missing before \")\"".to_string()),
+            _ => {
+                s.next -= 1;
+                let name = self.name(s)?;
+                self.shared(s, Node { kind: kinds::NAME, fields: [name as u16, 0] }, from)?
+            }
+        };
+        let last = &s.tokens[s.next - 1];
+        Ok(Part { node, from, to: last.column + last.width() })
+    }
+
+    fn leaf(&mut self, s: &Statement, kind: u8) -> Outcome<usize> {
+        self.shared(s, Node { kind, fields: [0, 0] }, s.tokens[s.next - 1].column)
+    }
+
+    fn shared(&mut self, s: &Statement, node: Node, from: usize) -> Outcome<usize> {
+        let last = &s.tokens[s.next - 1];
+        self.draft.share(node).or_else(|words| s.mistake(from, last.column + last.width(), words))
+    }
+
+    /// Behind "(", up to its ")".
+    fn inner(&mut self, s: &mut Statement, depth: usize) -> Outcome<usize> {
+        let from = s.tokens[s.next - 1].column;
+        if s.tokens.get(s.next + 1).is_some_and(|t| t.text == "of") {
+            return self.quantity(s, depth, from);
+        }
+        let lends = s.peek() == Some("lend");
+        s.next += usize::from(lends);
+        let left = self.formula(s, depth)?;
+        let number = if lends {
+            s.expect("to")?;
+            kinds::LEND
+        } else {
+            match s.take("\")\"")? {
+                ")" => return Ok(left.node),
+                "both" => kinds::BOTH,
+                "gives" => kinds::RECIPE,
+                "either" => s.expect("way").map(|()| kinds::EITHER_WAY)?,
+                text => {
+                    return s.wrong(format!(
+                        "\"{text}\" is not expected here: both, either way, gives or \")\" is"
+                    ))
+                }
+            }
+        };
+        let right = self.formula(s, depth)?;
+        s.expect(")")?;
+        let kind = kinds::numbered(number).expect("it is in the table");
+        for (part, side) in [left, right].into_iter().zip(0..) {
+            self.reading(s, part, kind.fields[side], kind.roles[side])?;
+        }
+        self.shared(s, Node { kind: number, fields: [left.node as u16, right.node as u16] }, from)
+    }
+
+    /// `(3 of G)`: the balanced "both" of so many.
+    fn quantity(&mut self, s: &mut Statement, depth: usize, from: usize) -> Outcome<usize> {
+        let times = s.number("how many", STEP_LIMIT)?;
+        if times == 0 {
+            return s.wrong("0 of something is no formula: \"done\" asks for nothing".to_string());
+        }
+        s.expect("of")?;
+        let part = self.formula(s, depth)?;
+        s.expect(")")?;
+        self.reading(s, part, Holds::Goal, "a quantity")?;
+        self.times(s, part.node, times, from)
+    }
+
+    fn times(&mut self, s: &Statement, node: usize, times: usize, from: usize) -> Outcome<usize> {
+        if times == 1 {
+            return Ok(node);
+        }
+        let left = self.times(s, node, times.div_ceil(2), from)?;
+        let right = self.times(s, node, times / 2, from)?;
+        self.shared(s, Node { kind: kinds::BOTH, fields: [left as u16, right as u16] }, from)
+    }
+}

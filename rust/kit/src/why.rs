@@ -1,0 +1,357 @@
+//! The one reason behind a refusal, and the bytes it is about. Number and place are the proved call's; here they are put into words.
+use crate::card::{Card, Entry, Sound, FRONT, HEIGHT_LIMIT};
+use crate::kinds::Holds;
+use crate::names::Names;
+use crate::way::{amiss, walk, Amiss, Serves, Stop, Stopped, Use, Walk};
+use kit_planner::{Place, Refusal};
+
+/// What is wrong: the bytes that are, where some are, and the reason.
+#[derive(Clone, Debug)]
+pub struct Why {
+    pub wrong: Option<Wrong>,
+    pub words: String,
+}
+
+/// The wrong bytes, none where some are missing there, and where the record that holds them begins and how long it is.
+#[derive(Clone, Copy, Debug)]
+pub struct Wrong {
+    pub at: usize,
+    pub len: usize,
+    pub record: (usize, usize),
+}
+
+impl Why {
+    fn new(at: usize, len: usize, record: (usize, usize), words: String) -> Why {
+        Why { wrong: Some(Wrong { at, len, record }), words }
+    }
+
+    fn front(at: usize, len: usize, words: String) -> Why {
+        Why::new(at, len, (0, FRONT), words)
+    }
+}
+
+const SIDES: [&str; 2] = ["left", "right"];
+
+/// Why a card is refused with one of 1 to 9, or cannot be planned (11).
+pub fn card(bytes: &[u8], refusal: Refusal, names: &Names) -> Why {
+    let card = Card::new(bytes);
+    match (refusal.number, refusal.place) {
+        (1, _) => {
+            let n = bytes.len();
+            Why::new(n, 0, (0, n), format!("the card has {}; its front alone has 11", count(n, "byte")))
+        }
+        (2, _) => wrong_length(card),
+        (3, _) => Why::front(2, 1, format!("the version is {}; it must be 1", card.byte(2))),
+        (4, _) => out_of_range(card),
+        (5, _) => wrong_counts(card),
+        (6, Place::Node(i)) => wrong_node(card, usize::from(i), names),
+        (7, _) => wrong_root(card, 7, (0, FRONT), Root::Goal, names),
+        (8, Place::Rule(i)) => {
+            let at = card.rule_at(usize::from(i));
+            wrong_root(card, at, (at, 2), Root::Rule, names)
+        }
+        (9, Place::Line(i)) => {
+            let at = card.line_at(usize::from(i));
+            let must = card.byte(at + 2);
+            match must {
+                0 | 1 => wrong_root(card, at, (at, 3), Root::Line, names),
+                _ => Why::new(
+                    at + 2,
+                    1,
+                    (at, 3),
+                    format!("its must/may byte is {must}; it must be 1 (must) or 0 (may)"),
+                ),
+            }
+        }
+        _ => Why { wrong: None, words: no_way(card) },
+    }
+}
+
+fn no_way(card: Card) -> String {
+    let (nesting, steps) = (card.nesting_limit(), card.step_limit());
+    format!(
+        "the goal cannot be had from these lines and rules with nesting {nesting} and {}",
+        count(steps, "step")
+    )
+}
+
+/// So many of them, in words.
+pub fn count(n: usize, word: &str) -> String {
+    format!("{n} {word}{}", if n == 1 { "" } else { "s" })
+}
+
+/// 2: the length field, or bytes missing or too many behind a front that agrees with itself.
+fn wrong_length(card: Card) -> Why {
+    let (says, lent) = (card.length(), card.bytes.len());
+    let there = format!("the length field says {says}, but there are {}", count(lent, "byte"));
+    if says != card.formula_length() {
+        return Why::front(0, 2, there);
+    }
+    if lent < says {
+        return Why::new(
+            lent,
+            0,
+            (0, FRONT),
+            format!("{there}: {} missing at the end", count(says - lent, "byte")),
+        );
+    }
+    let over = count(lent - says, "byte");
+    Why::new(says, lent - says, (says, (lent - says).min(16)), format!("{there}: {over} too many"))
+}
+
+/// 4: the first of P, T, N and d that is.
+fn out_of_range(card: Card) -> Why {
+    let fields = [
+        (3, 1, "P, the number of rules,", card.rules(), 0, 64),
+        (4, 1, "T, the number of lines,", card.lines(), 0, 64),
+        (5, 2, "N, the number of nodes,", card.nodes(), 1, 512),
+        (9, 1, "d, the nesting limit,", card.nesting_limit(), 0, 16),
+    ];
+    let wrong = fields.into_iter().find(|&(_, _, _, value, least, most)| value < least || value > most);
+    let (at, len, word, value, least, most) = wrong.unwrap_or(fields[0]);
+    Why::front(at, len, format!("{word} is {value}; it must be {least} to {most}"))
+}
+
+/// 5: the count that would make the card sound if it were another, where there is just one; else the length.
+fn wrong_counts(card: Card) -> Why {
+    let (nodes, rules, lines) = (card.nodes(), card.rules(), card.lines());
+    let asked = card.formula_length();
+    let sum = format!(
+        "11 + 5 * {nodes} + 2 * {rules} + 3 * {lines} = {asked}, but the card has {}",
+        count(card.length(), "byte")
+    );
+    let fields = [(5, 2, "N", nodes, 5), (3, 1, "P", rules, 2), (4, 1, "T", lines, 3)];
+    let mended = fields.into_iter().filter_map(|(at, len, word, value, size)| {
+        let right = (card.length() + size * value).checked_sub(asked).filter(|n| n % size == 0)? / size;
+        mends(card, at, len, right)
+            .then(|| Why::front(at, len, format!("{sum}; with {word} = {right} it would be sound")))
+    });
+    let mut mended: Vec<Why> = mended.collect();
+    match mended.len() {
+        1 => mended.remove(0),
+        _ => Why::front(0, 2, sum),
+    }
+}
+
+/// Whether the proved check finds the card sound with this value there.
+fn mends(card: Card, at: usize, len: usize, value: usize) -> bool {
+    let mut bytes = card.bytes.to_vec();
+    let value = value.to_be_bytes();
+    bytes[at..at + len].copy_from_slice(&value[value.len() - len..]);
+    kit_planner::check(&bytes).is_ok()
+}
+
+/// 6: kind, left, right, then height.
+fn wrong_node(card: Card, i: usize, names: &Names) -> Why {
+    let at = card.node_at(i);
+    let told = |from: usize, len: usize, words: String| Why::new(at + from, len, (at, 5), words);
+    let node = card.node(i);
+    let Some(kind) = card.kind(i) else {
+        return told(0, 1, format!("its kind is {}; there are kinds 1 to 7", node.kind));
+    };
+    for side in 0..2 {
+        if let Some(words) = wrong_field(card, i, side, names) {
+            return told(1 + 2 * side, 2, words);
+        }
+    }
+    let heights = card.heights();
+    let height = |side: usize| card.part(i, side).map_or(0, |part| heights[part]);
+    let side = usize::from(height(1) > height(0));
+    let (part, below) = (node.fields[side], height(side));
+    let deep = format!("its {} part, node {part}, has height {below}", SIDES[side]);
+    let height = below + 1;
+    told(1 + 2 * side, 2, format!("this {} has height {height}, at most {HEIGHT_LIMIT}: {deep}", kind.word))
+}
+
+fn wrong_field(card: Card, i: usize, side: usize, names: &Names) -> Option<String> {
+    let kind = card.kind(i)?;
+    let value = card.node(i).fields[side];
+    let (holds, word) = (kind.fields[side], SIDES[side]);
+    match holds {
+        Holds::Name => (value > 999).then(|| format!("its name is {value}; names go to 999")),
+        Holds::Nothing => (value != 0)
+            .then(|| format!("its {word} field is {value}; a {} has nothing there, so 0", kind.word)),
+        Holds::Goal | Holds::Clause => {
+            let part = usize::from(value);
+            if part >= i {
+                return Some(format!("its {word} part is node {part}; a part must be lower than {i}"));
+            }
+            let reads = card.kind(part)?.reads;
+            let formula = card.formula(part, names);
+            let asked = if holds == Holds::Goal { "goal" } else { "clause" };
+            let role = kind.roles[side];
+            (!holds.fits(reads)).then(|| {
+                format!("its {word} part is node {part}, {formula}, which is no {asked}; {role} must be one")
+            })
+        }
+    }
+}
+
+enum Root {
+    Goal,
+    Rule,
+    Line,
+}
+
+/// 7, 8, 9: a node that is not there, or reads otherwise.
+fn wrong_root(card: Card, at: usize, record: (usize, usize), root: Root, names: &Names) -> Why {
+    let (word, holds) = match root {
+        Root::Goal => ("the goal", Holds::Goal),
+        Root::Rule => ("the rule", Holds::Clause),
+        Root::Line => ("the line", Holds::Clause),
+    };
+    let node = usize::from(card.word(at));
+    let asked = if holds == Holds::Goal { "goal" } else { "clause" };
+    let words = if node >= card.nodes() {
+        format!("{word} is node {node}; there are nodes 0 to {}", card.nodes() - 1)
+    } else {
+        format!("{word} is node {node}, {}, which is no {asked}", card.formula(node, names))
+    };
+    Why::new(at, 2, record, words)
+}
+
+/// Why a sheet is refused with 12, 13, 14, 17, 18 or 19.
+pub fn sheet(card: Sound, sheet: &[u8], refusal: Refusal, names: &Names) -> Why {
+    if refusal.number == 12 {
+        return wrong_front(card, sheet);
+    }
+    let k = usize::from(sheet[3]);
+    let steps = &sheet[5..5 + k];
+    match refusal.place {
+        Place::Mark(i) => wrong_mark(card, sheet, usize::from(i)),
+        Place::Step(i) => wrong_step(card, steps, usize::from(i), names),
+        _ => Why::new(5, k, (5, k), undivided(card, steps, names)),
+    }
+}
+
+/// 12, in the order of 01.
+fn wrong_front(card: Sound, sheet: &[u8]) -> Why {
+    let n = sheet.len();
+    let front = |at: usize, len: usize, words: String| Why::new(at, len, (0, n.min(5)), words);
+    if n < 5 {
+        return front(n, 0, format!("the sheet has {}; its front alone has 5", count(n, "byte")));
+    }
+    let (says, k, t) =
+        (usize::from(sheet[0]) * 256 + usize::from(sheet[1]), usize::from(sheet[3]), usize::from(sheet[4]));
+    let asked = 5 + k + t;
+    if says != n {
+        return front(0, 2, format!("the length field says {says}, but there are {}", count(n, "byte")));
+    }
+    if sheet[2] != 1 {
+        return front(2, 1, format!("the version is {}; it must be 1", sheet[2]));
+    }
+    if t != card.lines() {
+        return front(4, 1, format!("T is {t}; the card has {}", count(card.lines(), "line")));
+    }
+    if n != asked {
+        return front(
+            3,
+            1,
+            format!("5 + k + T = 5 + {k} + {t} = {asked}, but the sheet has {}", count(n, "byte")),
+        );
+    }
+    front(3, 1, format!("k is {k}; the card allows {}", count(card.step_limit(), "step")))
+}
+
+fn wrong_mark(card: Sound, sheet: &[u8], line: usize) -> Why {
+    let k = usize::from(sheet[3]);
+    let (from, at) = (5 + k, 5 + k + line);
+    let mark = sheet[at];
+    let stands = sheet[5..from].contains(&((card.rules() + line) as u8));
+    let right = match (stands, card.line(line).must) {
+        (true, _) => "1: a step uses the line",
+        (false, 1) => "2: no step uses this must line, so a rest takes it",
+        (false, _) => "0: no step uses this may line",
+    };
+    Why::new(
+        at,
+        1,
+        (from, sheet.len() - from),
+        format!("the mark of line {line} is {mark}; it must be {right}"),
+    )
+}
+
+/// What is to be served, in words.
+pub fn serves(serves: Serves, uses: &[Use]) -> String {
+    match serves {
+        Serves::Goal => "the goal".to_string(),
+        Serves::Condition { step, count } => {
+            format!("condition {count} of step {step} ({})", uses[step].entry)
+        }
+    }
+}
+
+/// What a use serves, and on which sides of either ways.
+pub fn served(one: &Use, uses: &[Use]) -> String {
+    let sides: String = one.ways.iter().map(|&side| [", one way", ", the other way"][side]).collect();
+    serves(one.serves, uses) + &sides
+}
+
+fn wrong_step(card: Sound, steps: &[u8], at: usize, names: &Names) -> Why {
+    let Walk { uses, end } = walk(card, steps);
+    let record = (5, steps.len());
+    let Err(Stopped { stop, name, nesting, serves: whom, .. }) = end else {
+        return Why::new(5 + at, 1, record, String::from("the step is wrong"));
+    };
+    let wanted = format!("{} is wanted there for {}", names.word(name), serves(whom, &uses));
+    let (len, words) = match stop {
+        Stop::Missing => (0, format!("step {at} is missing: {wanted}")),
+        Stop::Extra => (1, format!("step {at} is one too many: all that is wanted is met before it")),
+        Stop::NoEntry { entries } => {
+            (1, format!("step {at} is entry {}, but {}; {wanted}", steps[at], entries_there(entries)))
+        }
+        Stop::Misfit { clause } => {
+            let entry = card.entry(usize::from(steps[at]));
+            let formula = card.formula(clause, names);
+            let gives =
+                card.head(clause).map_or("gives nothing".to_string(), |n| format!("gives {}", names.word(n)));
+            (1, format!("step {at} is {entry}, {formula}, which {gives}; {wanted}"))
+        }
+        Stop::Deep => {
+            let limit = card.nesting_limit();
+            (
+                1,
+                format!(
+                    "step {at} has nesting {nesting}, above the limit {limit}: it stands inside {}",
+                    count(nesting - 1, "use")
+                ),
+            )
+        }
+    };
+    Why::new(5 + at, len, record, words)
+}
+
+fn entries_there(entries: usize) -> String {
+    match entries {
+        0 => "there is none".to_string(),
+        n => format!("the last one there is {}", n - 1),
+    }
+}
+
+/// 19: what does not divide.
+fn undivided(card: Sound, steps: &[u8], names: &Names) -> String {
+    let Walk { uses, end } = walk(card, steps);
+    let found = end.ok().and_then(|way| amiss(card, &uses, &way));
+    let called = |number: usize| match card.entry(number) {
+        Entry::Line(i) => format!("line {i}, {},", card.formula(card.line(i).node, names)),
+        entry => format!("{entry}"),
+    };
+    match found {
+        Some(Amiss::Twice { number, steps: [one, other] }) => {
+            format!("{} is used at step {one} and again at step {other}", called(number))
+        }
+        Some(Amiss::Unused { line }) => {
+            format!("{} must be used, but no step uses it and no rest takes it", called(card.rules() + line))
+        }
+        Some(Amiss::LentOver { number }) => {
+            format!("{} is left over: no step uses it and no rest takes it", called(number))
+        }
+        Some(Amiss::OneSide { number, step }) => {
+            format!(
+                "{} is used at step {step} in one way, but the other way neither uses it nor has a rest",
+                called(number)
+            )
+        }
+        None => kit_planner::Refusal { number: 19, place: Place::Steps }.reason().to_string(),
+    }
+}

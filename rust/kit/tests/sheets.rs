@@ -1,0 +1,110 @@
+//! Sheets that the proved reader refuses: the reason told is one for this number, at this place.
+#[path = "../../tests/cards/mod.rs"]
+mod cards;
+
+use cards::{Draft, Random};
+use desk::card::Sound;
+use desk::names::Names;
+use desk::way::{amiss, walk, Stop};
+use desk::why::{self, Why};
+use kit_planner::{plan_sheet, Place, Refusal};
+use std::collections::BTreeMap;
+
+/// A sheet with this list and these marks.
+fn sheet(steps: &[u8], marks: &[u8]) -> Vec<u8> {
+    let length = (5 + steps.len() + marks.len()) as u16;
+    let front = [length.to_be_bytes()[0], length.to_be_bytes()[1], 1, steps.len() as u8, marks.len() as u8];
+    [&front[..], steps, marks].concat()
+}
+
+/// One thing changed in a sheet.
+fn damage(r: &mut Random, sheet_bytes: &[u8], entries: usize) -> Vec<u8> {
+    let k = usize::from(sheet_bytes[3]);
+    let (mut steps, mut marks) = (sheet_bytes[5..5 + k].to_vec(), sheet_bytes[5 + k..].to_vec());
+    match r.below(7) {
+        0 => {
+            let mut bytes = sheet_bytes.to_vec();
+            let at = r.below(5);
+            bytes[at] = bytes[at].wrapping_add(1 + r.below(255) as u8);
+            return bytes;
+        }
+        1 => return sheet_bytes[..r.below(sheet_bytes.len())].to_vec(),
+        2 if k > 0 => drop(steps.remove(r.below(k))),
+        3 => steps.insert(r.below(k + 1), r.below(entries + 2) as u8),
+        4 if !marks.is_empty() => {
+            let i = r.below(marks.len());
+            marks[i] = r.below(4) as u8;
+        }
+        _ if k > 0 => steps[r.below(k)] = r.below(entries + 2) as u8,
+        _ => {}
+    }
+    sheet(&steps, &marks)
+}
+
+/// The number that a walk's end stands for.
+fn walked(card: Sound, steps: &[u8]) -> Option<Refusal> {
+    let walked = walk(card, steps);
+    match walked.end {
+        Ok(way) => amiss(card, &walked.uses, &way).map(|_| Refusal { number: 19, place: Place::Steps }),
+        Err(stopped) => {
+            let number = match stopped.stop {
+                Stop::NoEntry { .. } | Stop::Misfit { .. } => 13,
+                Stop::Deep => 17,
+                Stop::Missing | Stop::Extra => 18,
+            };
+            Some(Refusal { number, place: Place::Step(stopped.step as u16) })
+        }
+    }
+}
+
+/// A reason of its own, not the number's, and bytes that are there or are missing at the end of their part.
+fn told(why: &Why, sheet: &[u8], refusal: Refusal) {
+    assert_ne!(why.words, refusal.reason());
+    let wrong = why.wrong.expect("some bytes are wrong");
+    assert!(wrong.at + wrong.len <= sheet.len(), "{wrong:?}");
+    let at = match refusal.place {
+        Place::Step(i) => 5 + usize::from(i),
+        Place::Mark(i) => 5 + usize::from(sheet[3]) + usize::from(i),
+        Place::Steps => 5,
+        _ => wrong.at.min(5),
+    };
+    assert_eq!(wrong.at, at, "{refusal}: {}", why.words);
+}
+
+#[test]
+fn every_refusal_has_its_reason() {
+    let r = &mut Random::new(1);
+    let names = Names::default();
+    let mut met: BTreeMap<u8, usize> = BTreeMap::new();
+    let mut undivided = Vec::new();
+    for _ in 0..20_000 {
+        let mut draft = Draft::sound(r, 4, 6);
+        let Ok(planned) = plan_sheet(&draft.bytes()) else { continue };
+        draft.d = draft.d.saturating_sub(u8::from(r.once_in(4)));
+        let bytes = draft.bytes();
+        let card = Sound::checked(&bytes).expect("it is sound");
+        for _ in 0..12 {
+            let entries = card.rules() + card.lines() + 2;
+            let sheet = damage(r, planned.as_bytes(), entries);
+            let refused = kit_planner::read(&bytes, &sheet).err();
+            *met.entry(refused.map_or(0, |refusal| refusal.number)).or_default() += 1;
+            let steps =
+                sheet.get(5..).map(|all| &all[..all.len().min(usize::from(sheet[3]))]).unwrap_or_default();
+            let Some(refusal) = refused else { continue };
+            let why = why::sheet(card, &sheet, refusal, &names);
+            told(&why, &sheet, refusal);
+            undivided.extend((refusal.number == 19).then_some(why.words));
+            if refusal.number != 12 {
+                assert_eq!(walked(card, steps), Some(refusal).filter(|refusal| refusal.number != 14));
+            }
+        }
+    }
+    for number in [0, 12, 13, 14, 17, 18, 19] {
+        assert!(met[&number] > 500, "{met:?}");
+    }
+    assert_eq!(met.len(), 7, "{met:?}");
+    for words in ["again at step", "must be used", "is left over", "in one way"] {
+        let n = undivided.iter().filter(|reason| reason.contains(words)).count();
+        assert!(n > 40, "{words}: {n} of {}", undivided.len());
+    }
+}
