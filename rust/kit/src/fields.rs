@@ -72,7 +72,7 @@ impl Field {
     /// All that is said of it, on one line.
     pub fn about(&self) -> String {
         let whose = format!("{} {}", self.part, self.name);
-        let note = if self.note.is_empty() { String::new() } else { format!(": {}", self.note) };
+        let note = if self.note.is_empty() { String::new() } else { format!("; {}", self.note) };
         format!("{}: {}{note}", whose.trim(), self.value)
     }
 }
@@ -125,7 +125,7 @@ pub fn card_fields(card: Card, names: &Names) -> Vec<Field> {
         let (at, part) = (card.node_at(i), Part::Node(i));
         let number = card.node(i).kind;
         let kind = card.kind(i).map_or("unknown", |kind| kind.word);
-        drawing.field(at, 1, part, "kind", format!("{number}: {kind}"));
+        drawing.field(at, 1, part, "kind", format!("{number}, {kind}"));
         drawing.field(at + 1, 2, part, "left", field_value(card, i, 0, names));
         drawing.field(at + 3, 2, part, "right", field_value(card, i, 1, names));
         drawing.note(part, format!("node {i} is {}, height {height}", formula(i)));
@@ -140,7 +140,7 @@ pub fn card_fields(card: Card, names: &Names) -> Vec<Field> {
     for i in (0..card.lines()).take_while(|&i| card.line_at(i) < card.bytes.len()) {
         let (line, part) = (card.line(i), Part::Line(i));
         drawing.field(at, 2, part, "node", format!("node {}: {}", line.node, formula(line.node)));
-        drawing.field(at + 2, 1, part, "mm", format!("{}: {}", line.must, must_word(line.must)));
+        drawing.field(at + 2, 1, part, "mm", format!("{}, {}", line.must, must_word(line.must)));
         drawing.note(part, format!("entry {}", card.rules() + i));
         at += 3;
     }
@@ -182,7 +182,7 @@ fn field_value(card: Card, i: usize, side: usize, names: &Names) -> String {
     let value = card.node(i).fields[side];
     let Some(kind) = card.kind(i) else { return value.to_string() };
     match kind.fields[side] {
-        Holds::Name => names.given(value).map_or(value.to_string(), |word| format!("{value}: {word}")),
+        Holds::Name => names.given(value).map_or(value.to_string(), |word| format!("{value}, {word}")),
         Holds::Nothing => format!("{value}, unused"),
         Holds::Goal | Holds::Clause => format!("node {value}, {}", kind.roles[side]),
     }
@@ -225,7 +225,7 @@ pub fn sheet_fields(card: Sound, sheet: &[u8], uses: &[Use], names: &Names) -> V
     }
     for i in 0..t {
         let mark = front.byte(5 + k + i);
-        drawing.field(5 + k + i, 1, Part::Mark(i), "", format!("{mark}: line {i} is {}", mark_word(mark)));
+        drawing.field(5 + k + i, 1, Part::Mark(i), "", format!("{mark}, line {i} is {}", mark_word(mark)));
     }
     drawing.behind(5 + k + t)
 }

@@ -62,7 +62,7 @@ impl Tree<'_> {
                 let name = self.names.word(one.name);
                 let clause = self.card.formula(one.clause, self.names);
                 let recipe = if clause == name { String::new() } else { format!(", {clause}") };
-                let words = format!("{name} by {}{recipe} [step {step}]", one.entry);
+                let words = format!("{name} by {} [step {step}]{recipe}", one.entry);
                 let roles = (0..conditions.len()).map(|count| format!("condition {count}"));
                 (Sort::Use(one.entry), words, roles.zip(conditions).collect())
             }

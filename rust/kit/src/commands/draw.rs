@@ -47,7 +47,9 @@ impl<'a> Shown<'a> {
         refusal: Option<(Refusal, Why)>,
     ) -> Shown<'a> {
         let wrong = refusal.as_ref().and_then(|(_, why)| why.wrong).map(|wrong| (wrong.at, wrong.len));
-        let title = format!("{of} {}, {}", label(file), count(bytes.len(), "byte"));
+        let told =
+            refusal.as_ref().map_or(String::new(), |(found, why)| format!(", {}", refused(*found, why, of)));
+        let title = format!("{of} {}, {}{told}", label(file), count(bytes.len(), "byte"));
         Shown { of, file: label(file), drawn: Drawn { title, bytes, fields, wrong }, refusal }
     }
 }
@@ -136,7 +138,7 @@ fn shown_json(shown: &Shown) -> Json {
             .with("value", field.value.as_str())
             .with("note", Some(field.note.as_str()).filter(|note| !note.is_empty()))
     };
-    let begin = object().with("is", shown.of).with("file", shown.file.as_str()).with("length", bytes.len());
+    let begin = object().with("is", shown.of).with("file", shown.file.as_str()).with("size", bytes.len());
     let begin = begin.with("fields", Json::list(fields.iter().map(field)));
     match &shown.refusal {
         Some((refusal, why)) => refusal_json(begin, *refusal, why, shown.of),
