@@ -1,5 +1,5 @@
 //! The drawing: every byte of a card or sheet in order, by field, with what it is. Any bytes can be drawn.
-use crate::card::{Card, Sound, FRONT};
+use crate::card::{Card, FRONT};
 use crate::kinds::Holds;
 use crate::names::Names;
 use crate::way::Use;
@@ -199,7 +199,7 @@ pub fn mark_word(mark: u8) -> &'static str {
 }
 
 /// The fields of a sheet. Steps that the walk reached are told with what they use.
-pub fn sheet_fields(card: Sound, sheet: &[u8], uses: &[Use], names: &Names) -> Vec<Field> {
+pub fn sheet_fields(card: Card, sheet: &[u8], uses: &[Use], names: &Names) -> Vec<Field> {
     let mut drawing = Drawing { bytes: sheet, fields: Vec::new() };
     let front = Card::new(sheet);
     let (length, k, t) = (front.length(), usize::from(front.byte(3)), usize::from(front.byte(4)));

@@ -45,24 +45,12 @@ pub fn card(bytes: &[u8], refusal: Refusal, names: &Names) -> Why {
         (4, _) => out_of_range(card),
         (5, _) => wrong_counts(card),
         (6, Place::Node(i)) => wrong_node(card, usize::from(i), names),
-        (7, _) => wrong_root(card, 7, (0, FRONT), Root::Goal, names),
+        (7, _) => wrong_root(card, "the goal", 7, (0, FRONT), names),
         (8, Place::Rule(i)) => {
             let at = card.rule_at(usize::from(i));
-            wrong_root(card, at, (at, 2), Root::Rule, names)
+            wrong_root(card, "the rule", at, (at, 2), names)
         }
-        (9, Place::Line(i)) => {
-            let at = card.line_at(usize::from(i));
-            let must = card.byte(at + 2);
-            match must {
-                0 | 1 => wrong_root(card, at, (at, 3), Root::Line, names),
-                _ => Why::new(
-                    at + 2,
-                    1,
-                    (at, 3),
-                    format!("its must/may byte is {must}; it must be 1 (must) or 0 (may)"),
-                ),
-            }
-        }
+        (9, Place::Line(i)) => wrong_line(card, card.line_at(usize::from(i)), names),
         _ => Why { wrong: None, words: no_way(card) },
     }
 }
@@ -88,12 +76,8 @@ fn wrong_length(card: Card) -> Why {
         return Why::front(0, 2, there);
     }
     if lent < says {
-        return Why::new(
-            lent,
-            0,
-            (0, FRONT),
-            format!("{there}: {} missing at the end", count(says - lent, "byte")),
-        );
+        let short = count(says - lent, "byte");
+        return Why::new(lent, 0, (0, FRONT), format!("{there}: {short} missing at the end"));
     }
     let over = count(lent - says, "byte");
     Why::new(says, lent - says, (says, (lent - says).min(16)), format!("{there}: {over} too many"))
@@ -187,27 +171,31 @@ fn wrong_field(card: Card, i: usize, side: usize, names: &Names) -> Option<Strin
     }
 }
 
-enum Root {
-    Goal,
-    Rule,
-    Line,
+/// Whether a node is there and reads as asked.
+fn fits(card: Card, node: usize, holds: Holds) -> bool {
+    node < card.nodes() && card.kind(node).is_some_and(|kind| holds.fits(kind.reads))
 }
 
 /// 7, 8, 9: a node that is not there, or reads otherwise.
-fn wrong_root(card: Card, at: usize, record: (usize, usize), root: Root, names: &Names) -> Why {
-    let (word, holds) = match root {
-        Root::Goal => ("the goal", Holds::Goal),
-        Root::Rule => ("the rule", Holds::Clause),
-        Root::Line => ("the line", Holds::Clause),
-    };
+fn wrong_root(card: Card, word: &str, at: usize, record: (usize, usize), names: &Names) -> Why {
     let node = usize::from(card.word(at));
-    let asked = if holds == Holds::Goal { "goal" } else { "clause" };
+    let asked = if word == "the goal" { "goal" } else { "clause" };
     let words = if node >= card.nodes() {
         format!("{word} is node {node}; there are nodes 0 to {}", card.nodes() - 1)
     } else {
         format!("{word} is node {node}, {}, which is no {asked}", card.formula(node, names))
     };
     Why::new(at, 2, record, words)
+}
+
+/// 9: the node, then the must/may byte.
+fn wrong_line(card: Card, at: usize, names: &Names) -> Why {
+    let must = card.byte(at + 2);
+    if !fits(card, usize::from(card.word(at)), Holds::Clause) {
+        return wrong_root(card, "the line", at, (at, 3), names);
+    }
+    let words = format!("its must/may byte is {must}; it must be 1 (must) or 0 (may)");
+    Why::new(at + 2, 1, (at, 3), words)
 }
 
 /// Why a sheet is refused with 12, 13, 14, 17, 18 or 19.

@@ -138,7 +138,7 @@ impl Damage<'_> {
 
 fn damaged(seed: u64) -> Vec<Damaged> {
     let r = &mut Random::new(seed);
-    let bytes = if seed % 3 == 0 {
+    let bytes = if seed.is_multiple_of(3) {
         let (rules, lines, nodes) = (r.below(20), r.below(20), 8 + r.below(60));
         Draft::sized(r, rules, lines, nodes, 8).bytes()
     } else {

@@ -55,7 +55,7 @@ fn every_byte_of_a_sheet_is_drawn() {
             sheet[4] = card.lines() as u8;
         }
         let steps = sheet.get(5..).unwrap_or_default();
-        whole(&sheet, &sheet_fields(card, &sheet, &walk(card, steps).uses, &names));
+        whole(&sheet, &sheet_fields(*card, &sheet, &walk(card, steps).uses, &names));
     }
 }
 

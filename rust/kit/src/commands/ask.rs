@@ -60,13 +60,13 @@ pub fn plan(label: &str, bytes: &[u8], manner: Manner) -> Told {
     Told { long, line, json, tally: Tally::Good, sheet: Some(sheet.as_bytes().to_vec()) }
 }
 
-/// Rows in columns; a long cell pushes the rest of its row to the right.
+/// Rows in columns, behind an empty line; a long cell pushes the rest of its row to the right.
 fn columns(rows: &[Vec<String>]) -> String {
     const WIDEST: usize = 40;
     let width =
         |i: usize| rows.iter().map(|row| row[i].chars().count()).filter(|&w| w <= WIDEST).max().unwrap_or(0);
     let widths: Vec<usize> = (0..rows.first().map_or(0, Vec::len)).map(width).collect();
-    let mut text = String::new();
+    let mut text = String::from(if rows.is_empty() { "" } else { "\n" });
     for row in rows {
         let cells: Vec<String> =
             row.iter().zip(&widths).map(|(cell, &width)| format!("{cell:<width$}")).collect();
@@ -85,12 +85,7 @@ fn steps_told(card: Sound, uses: &[Use], manner: Manner) -> String {
             format!("for {}", served(one, uses)),
         ]
     };
-    let rows: Vec<Vec<String>> = uses.iter().map(row).collect();
-    if rows.is_empty() {
-        String::new()
-    } else {
-        format!("\n{}", columns(&rows))
-    }
+    columns(&uses.iter().map(row).collect::<Vec<_>>())
 }
 
 fn lines_told(card: Sound, marks: &[u8], manner: Manner) -> String {
@@ -99,16 +94,11 @@ fn lines_told(card: Sound, marks: &[u8], manner: Manner) -> String {
         let formula = card.formula(line.node, manner.names);
         vec![format!("line {i}"), must_word(line.must).to_string(), formula, mark_word(mark).to_string()]
     };
-    let rows: Vec<Vec<String>> = marks.iter().enumerate().map(row).collect();
-    if rows.is_empty() {
-        String::new()
-    } else {
-        format!("\n{}", columns(&rows))
-    }
+    columns(&marks.iter().enumerate().map(row).collect::<Vec<_>>())
 }
 
 /// A name by number and, where it has one, its word.
-pub fn name_json(number: u16, manner: Manner) -> Json {
+fn name_json(number: u16, manner: Manner) -> Json {
     object().with("name", number).with("word", manner.names.given(number))
 }
 

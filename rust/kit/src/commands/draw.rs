@@ -10,7 +10,7 @@ use crate::names::Names;
 use crate::paint::Paint;
 use crate::picture::{svg, Drawn};
 use crate::tree::Tree;
-use crate::way::{walk, Walk};
+use crate::way::{walk, Use, Walk};
 use crate::why::{self, count, Why};
 use kit_planner::Refusal;
 use std::ffi::OsStr;
@@ -57,24 +57,29 @@ impl<'a> Shown<'a> {
 /// `kit show`
 pub fn show(options: &Options, names: &Names) -> Result<u8, Trouble> {
     let manner = manner(options, names);
-    let card_bytes = read(&options.files[0])?;
-    let sheet_bytes = options.files.get(1).map(|file| read(file)).transpose()?;
-    let mut all = Vec::new();
-    let fields = card_fields(Card::new(&card_bytes), names);
-    let sound = Sound::checked(&card_bytes);
-    let refusal = sound.as_ref().err().map(|&found| (found, why::card(&card_bytes, found, names)));
-    all.push(Shown::new("card", &options.files[0], &card_bytes, fields, refusal));
-    if let (Ok(card), Some(bytes)) = (sound, &sheet_bytes) {
-        let found = kit_planner::read(&card_bytes, bytes).err();
-        let refusal = found.map(|found| (found, why::sheet(card, bytes, found, names)));
-        let steps = bytes.get(5..).unwrap_or_default();
-        let steps = &steps[..steps.len().min(usize::from(Card::new(bytes).byte(3)))];
-        let fields = sheet_fields(card, bytes, &walk(card, steps).uses, names);
-        all.push(Shown::new("sheet", &options.files[1], bytes, fields, refusal));
+    let bytes = read(&options.files[0])?;
+    let fields = card_fields(Card::new(&bytes), names);
+    let sound = Sound::checked(&bytes);
+    let refusal = sound.err().map(|found| (found, why::card(&bytes, found, names)));
+    let mut all = vec![Shown::new("card", &options.files[0], &bytes, fields, refusal)];
+    let sheet = options.files.get(1).map(|file| read(file)).transpose()?;
+    if let Some(sheet) = &sheet {
+        let (uses, refusal) = sound.map_or((Vec::new(), None), |card| read_against(card, sheet, names));
+        let fields = sheet_fields(Card::new(&bytes), sheet, &uses, names);
+        all.push(Shown::new("sheet", &options.files[1], sheet, fields, refusal));
     }
     let refused = all.iter().any(|shown| shown.refusal.is_some());
     put(options, &shown(options, all, manner))?;
     Ok(u8::from(refused))
+}
+
+/// The uses that a sheet's steps reach, and its refusal.
+fn read_against(card: Sound, sheet: &[u8], names: &Names) -> (Vec<Use>, Option<(Refusal, Why)>) {
+    let found = kit_planner::read(card.bytes, sheet).err();
+    let refusal = found.map(|found| (found, why::sheet(card, sheet, found, names)));
+    let steps = sheet.get(5..).unwrap_or_default();
+    let k = steps.len().min(usize::from(Card::new(sheet).byte(3)));
+    (walk(card, &steps[..k]).uses, refusal)
 }
 
 fn shown(options: &Options, all: Vec<Shown>, manner: Manner) -> String {
@@ -84,7 +89,8 @@ fn shown(options: &Options, all: Vec<Shown>, manner: Manner) -> String {
         return svg(&title, &drawn);
     }
     if options.has("--json") {
-        return format!("{}\n", Json::list(all.iter().map(shown_json)));
+        let sound = all[0].refusal.is_none();
+        return format!("{}\n", Json::list(all.iter().map(|shown| shown_json(shown, sound))));
     }
     all.iter().map(|shown| drawing(shown, manner.paint)).collect::<Vec<_>>().join("\n")
 }
@@ -126,7 +132,8 @@ fn under(field: &Field, wrong: Option<(usize, usize)>) -> String {
     marks.collect::<Vec<_>>().join(" ").trim_end().to_string()
 }
 
-fn shown_json(shown: &Shown) -> Json {
+/// A sheet is not read against a card that is refused.
+fn shown_json(shown: &Shown, sound: bool) -> Json {
     let Drawn { bytes, fields, .. } = &shown.drawn;
     let field = |field: &Field| {
         object()
@@ -142,7 +149,8 @@ fn shown_json(shown: &Shown) -> Json {
     let begin = begin.with("fields", Json::list(fields.iter().map(field)));
     match &shown.refusal {
         Some((refusal, why)) => refusal_json(begin, *refusal, why, shown.of),
-        None => begin.with("answer", if shown.of == "card" { "sound" } else { "accepted" }),
+        None if shown.of == "card" => begin.with("answer", "sound"),
+        None => begin.with("answer", if sound { "accepted" } else { "not read" }),
     }
 }
 
