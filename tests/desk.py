@@ -181,6 +181,23 @@ def pictures(kit, write):
         check((ROOT / path).read_bytes() == text, f"{path} is not what kit {' '.join(words)} draws")
 
 
+def manual(kit):
+    """The synopsis of kit.1 is what the pages of help begin with, and the page tells every option that they tell."""
+    page = (ROOT / "man/kit.1").read_text()
+    plain = re.sub(r"\\f[BIR]", "", page).replace("\\-", "-")
+    synopsis = re.search(r"\.SH SYNOPSIS\n\.nf\n(.*?)\.fi\n", plain, re.S)[1]
+    dots = re.compile(r" ?\.\.+")
+    told = {dots.sub("", line) for line in synopsis.splitlines()}
+    for command in ("plan", "read", "check", "show", "tree", "card", "text"):
+        text = kit.out(command, "--help").decode()
+        usage = [line for line in text.splitlines() if line.startswith(f"kit {command} ")]
+        check(usage, f"{command} --help has no usage")
+        for line in usage:
+            check(dots.sub("", line) in told, f"kit.1 has another synopsis: {line}")
+        for option in set(re.findall(r"(?<![\w-])--?[a-z][a-z-]*", text)):
+            check(option in plain, f"kit.1 does not tell {option}")
+
+
 def both_forms(kit):
     """Each card and sheet of cards/ is what its text says, and each plan's sheet is the one stored."""
     for text in sorted(ROOT.glob("cards/**/*.txt")):
@@ -378,6 +395,7 @@ def main(program, write):
     both_forms(kit)
     stored_outputs(kit, write)
     pictures(kit, write)
+    manual(kit)
     lost_output(kit)
     wrong_usage(kit)
     streams(kit)

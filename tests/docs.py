@@ -17,13 +17,13 @@ import tempfile
 
 DEFINED = ("docs/PROOFS.md", "docs/GLOSSARY.md", "docs/ARCHITECTURE.md")
 CHANGES = "docs/CHANGES.md"
-CODE = ("crates/", "include/", "rust/", "tests/")
+CODE = ("crates/", "include/", "rust/", "tests/", "examples/", "man/")
 NOT_OURS = {".git", "target", "__pycache__"}
 KEYWORDS = set("requires ensures ghost let else match enum struct impl mut unsafe record data u8 u16 u32 u64 usize bool".split())
 
-ENDING = r"\.(?:antt|rt|rs|md|py|sh|h|c|txt|card|edit|toml)"
+ENDING = r"\.(?:antt|rt|rs|md|py|sh|h|c|txt|card|sheet|names|out|svg|edit|toml)"
 PATH = re.compile(rf"[\w.*·+-]*/[\w.*/·+-]*|[\w*-]+{ENDING}")
-BARE_PATH = re.compile(rf"(?<![\w/.:`])(?:(?:crates|docs|rust|tests|include|cards|\.ci)/[\w.*/·+-]*|[\w*/-]+{ENDING}\b)")
+BARE_PATH = re.compile(rf"(?<![\w/.:`])(?:(?:crates|docs|rust|tests|include|cards|examples|man|\.ci)/[\w.*/·+-]*|[\w*/-]+{ENDING}\b)")
 LINK = re.compile(r"\]\(([^)#:\s]+)")
 LETTER = r"[\w·′&\u2190-\u2bff-]"
 SIMPLE = rf"[^\W\d]{LETTER}*"

@@ -65,7 +65,7 @@ installs() {
     check "the library installed" cmp "$library" "$prefix/lib/libplanner_c.a"
     check "the header installed" cmp include/kit_planner.h "$prefix/include/kit_planner.h"
     check "the program installed" cmp rust/target/release/kit "$prefix/bin/kit"
-    check "the program can be run" test -x "$prefix/bin/kit"
+    same "the program can be run" "$("$prefix/bin/kit" --version)" "kit $(sed -n 's/^.define KIT_VERSION "\(.*\)"$/\1/p' include/kit_planner.h)"
     make --dry-run install PREFIX="$prefix" >"$folder/again"
     check "what is built is not built again" test -z "$(grep -E '^(cargo|rt) ' "$folder/again")"
     check "make install for a package" make --silent install DESTDIR="$folder/stage" PREFIX=/opt/kit

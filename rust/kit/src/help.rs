@@ -79,7 +79,7 @@ drawn too, with carets under what is wrong (status 1).
 ";
 
 const TREE: &str = "\
-kit tree CARD [SHEET] [--dot | --svg] [-o FILE] [--names FILE] [--json]
+kit tree CARD [SHEET] [--svg | --dot] [-o FILE] [--names FILE] [--json]
 
 Draws the way of doing the job as an indented tree: what is needed, the entry used for it, and
 below it the entry's conditions; both, either way and lends. It is the plan's way, or that of a
@@ -118,7 +118,7 @@ Statements \"node ..\" (as kit text --nodes writes them) and \"bytes ..\" (kit t
 ";
 
 const TEXT: &str = "\
-kit text CARD [--nodes | --bytes] [-o TEXT] [--names FILE] [--json]
+kit text CARD [-o TEXT] [--nodes | --bytes] [--names FILE] [--json]
 
 Writes a sound card as a text card, with formulas: the same goal, rules, lines and limits.
 
