@@ -2,8 +2,8 @@
  *
  * Usage: plan CARD
  *
- * The exit status is 0 where the card is planned, 1 where it is refused, 2 where it could not be read. With the
- * library installed:
+ * The exit status is 0 where the card is planned, 1 where it is refused, 2 where it could not be read or told.
+ * With the library installed:
  *
  *   cc -std=c99 plan.c $(pkg-config --cflags --libs kit_planner) -o plan
  */
@@ -72,10 +72,13 @@ int main(int argc, char **argv) {
         return 2;
     }
     answer = kit_plan(card, len, sheet, sizeof sheet);
-    if (KIT_NUMBER(answer) != 0) {
+    if (KIT_NUMBER(answer) != 0)
         print_refusal(answer);
-        return 1;
+    else
+        print_sheet(card, sheet);
+    if (fflush(stdout) != 0) {
+        fprintf(stderr, "plan: standard output: %s\n", strerror(errno));
+        return 2;
     }
-    print_sheet(card, sheet);
-    return 0;
+    return KIT_NUMBER(answer) != 0;
 }

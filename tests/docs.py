@@ -193,7 +193,7 @@ class Document:
 
     def file(self, line, path):
         self.counts["files"] += 1
-        if not path.startswith("target/") and not self.tree.matching(path):
+        if "target" not in path.split("/")[:2] and not self.tree.matching(path):
             self.say(line, f"no such file: {path}")
 
     def name(self, line, name):
@@ -240,7 +240,7 @@ pub _▹_ : Colour → Colour → Colour
 
 `one_call` and `ONE_NUMBER` in include/one.h; `far-away` and `_▹_`; the crate `one`, the folder `specs`; `easel::stand`;
 no `requires`.
-Not names: `rt check plan`, `0x1f`, `00 0A`, `N passed, 0 failed`, `≡`, `&mut [u8]`, `k`, `1/100`, `target/bin/plan`, must/may, `a
+Not names: `rt check plan`, `0x1f`, `00 0A`, `N passed, 0 failed`, `≡`, `&mut [u8]`, `k`, `1/100`, `target/bin/plan`, rust/target/release/kit, must/may, `a
 b`.
 
 ```

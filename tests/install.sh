@@ -94,7 +94,7 @@ compiled() {
 
 # both FILES STATUS TEXT: what the examples print of these files, and their exit status
 both() {
-    local program
+    local program full
     for program in "$folder/c-example" "$folder/cargo/release/examples/plan"; do
         same "$program $1: status" "$(status "$program" ${1:+"$folder/$1"})" "$2"
         same "$program $1: output" "$(cat "$folder/out")" "$3"
@@ -126,6 +126,11 @@ examples() {
     both nothing 1 'refused 1 at card: fewer than 11 bytes'
     both missing 2 ''
     both '' 2 ''
+    local program full
+    for program in "$folder/c-example" "$folder/cargo/release/examples/plan"; do
+        full=$("$program" "$folder/sample" 2>&1 >/dev/full; echo "status $?")
+        check "$program to a full disk" test -z "${full##plan: standard output: No space left on device*status 2}"
+    done
 }
 
 # the program of kit_plan.3

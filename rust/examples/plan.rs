@@ -2,11 +2,11 @@
 //!
 //! Usage: plan CARD
 //!
-//! The exit status is 0 where the card is planned, 1 where it is refused, 2 where it could not be read.
+//! The exit status is 0 where the card is planned, 1 where it is refused, 2 where it could not be read or told.
 use kit_planner::{plan_sheet, Sheet, CARD_MAX};
 use std::env;
 use std::fs::File;
-use std::io::{self, Read};
+use std::io::{self, Read, Write};
 use std::path::{Path, PathBuf};
 use std::process::ExitCode;
 
@@ -29,14 +29,15 @@ fn entry(card: &[u8], entry: u8) -> String {
     }
 }
 
-fn print_sheet(card: &[u8], sheet: &Sheet) {
-    println!("planned, steps: {}", sheet.steps().len());
+fn print_sheet(out: &mut impl Write, card: &[u8], sheet: &Sheet) -> io::Result<()> {
+    writeln!(out, "planned, steps: {}", sheet.steps().len())?;
     for (i, &step) in sheet.steps().iter().enumerate() {
-        println!("step {i}: {}", entry(card, step));
+        writeln!(out, "step {i}: {}", entry(card, step))?;
     }
     for (i, mark) in sheet.marks().enumerate() {
-        println!("line {i}: {mark}");
+        writeln!(out, "line {i}: {mark}")?;
     }
+    Ok(())
 }
 
 fn main() -> ExitCode {
@@ -52,12 +53,15 @@ fn main() -> ExitCode {
             return ExitCode::from(2);
         }
     };
-    match plan_sheet(&card) {
-        Ok(sheet) => print_sheet(&card, &sheet),
-        Err(refusal) => {
-            println!("{refusal}");
-            return ExitCode::from(1);
-        }
+    let planned = plan_sheet(&card);
+    let mut out = io::stdout().lock();
+    let told = match &planned {
+        Ok(sheet) => print_sheet(&mut out, &card, sheet),
+        Err(refusal) => writeln!(out, "{refusal}"),
+    };
+    if let Err(error) = told.and_then(|()| out.flush()) {
+        eprintln!("plan: standard output: {error}");
+        return ExitCode::from(2);
     }
-    ExitCode::SUCCESS
+    ExitCode::from(u8::from(planned.is_err()))
 }

@@ -1,4 +1,5 @@
 -- The three demands, and what they rest on here.
+pub mod CheckedByRoom
 pub mod WrittenIsRead
 pub mod SamplesComeOut
 pub mod JoinedIsPlanned

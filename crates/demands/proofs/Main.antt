@@ -7,7 +7,7 @@ use Prim.Native.Nat.{ℕ, _+_, _≤_, _<_}
 use mathlib.Core.Path.{_≡_}
 use mathlib.Core.Logic.{_↔_, _⊎_}
 use mathlib.Core.Bool.{true}
-use mathlib.Core.List.{List}
+use mathlib.Core.List.{List, []}
 use lib.ListN.{length, take}
 use Rattle.calculus.specs.Steps.{steps, stands}
 use Rattle.calculus.specs.Job.{Derivable, Listed}
@@ -15,11 +15,11 @@ use Rattle.calculus.specs.Walk.{ItemsDivide}
 use Rattle.calculus.specs.Ways.{ListsNameWays}
 use Rattle.calculus.proofs.ListsNameWays.{job-lists-name-ways}
 use Rattle.card.specs.Format.{Bytes, ruleCount, lineCount, stepLimit}
-use Rattle.card.specs.Verdict.{sound, step, steps as whole-steps}
-use Rattle.card.specs.Fault.{Sound}
+use Rattle.card.specs.Verdict.{Where, sound, fault, sheet, step, steps as whole-steps}
+use Rattle.card.specs.Fault.{firstFault, Sound}
 use Rattle.card.specs.Decode.{jobOf}
 use Rattle.card.proofs.StepsFitAByte.{steps-fit}
-use Rattle.planning.specs.Plan.{PlanVerdict, planned, roomOf, Planning, PlanDecided, Carries}
+use Rattle.planning.specs.Plan.{PlanVerdict, planned, refused as not-planned, roomOf, Planning, PlanDecided, Carries}
 use Rattle.planner.proofs.PlannedExactly.{plan-decided, plan-determined, planned-exactly, planned-sheet}
 use Rattle.sheet_front.specs.Front.{stepsOf, sheetFault}
 use Rattle.trace.specs.Steps.{stepsFault, WrongStep, ExtraStep}
@@ -29,6 +29,7 @@ use Rattle.reader.proofs.AcceptedExactly.{read-decided, read-determined, accept
 use Rattle.reader.proofs.StepsRefused.{thirteen-told, seventeen-told, eighteen-told, nineteen-told}
 use Rattle.bench.specs.Bench.{JoinVerdict, joined, Joining, JoinDecided, sourceOf, SourceDecided}
 use Rattle.bench.proofs.BenchDecided.{join-decided, join-determined, source-decided}
+use Rattle.demands.proofs.CheckedByRoom as CheckedByRoom
 use Rattle.demands.proofs.WrittenIsRead as WrittenIsRead
 use Rattle.demands.proofs.JoinedIsPlanned as JoinedIsPlanned
 
@@ -49,6 +50,14 @@ plan-decides-once = plan-determined
 
 pub read-decides-once : {bs sh : List ℕ} {a b : ReadVerdict} → Reading bs sh a → Reading bs sh b → a ≡ b
 read-decides-once = read-determined
+
+-- Lent an empty buffer the planner only checks: a sound card is told by 10, any other by its own fault. A caller's check goes by this.
+module _ {bs new : List ℕ} {a : PlanVerdict} where
+  pub sound-told : Planning bs [] a new → (a ≡ not-planned 10 sheet) ↔ Sound bs
+  sound-told = CheckedByRoom.ten-if-sound
+
+  pub fault-told : {n : ℕ} {w : Where} → firstFault bs ≡ fault n w → Planning bs [] a new → a ≡ not-planned n w
+  fault-told = CheckedByRoom.fault-if-faulty
 
 -- Demand 2. "Given room for the longest sheet its limits allow, a sound card is planned if and only if Figure 1 of document 000 derives
 -- its goal, with its rules, from all must lines and any of the may lines, within its limits on nesting and steps;
@@ -122,7 +131,7 @@ pub source-decides : (a b : List ℕ) (i : ℕ) → SourceDecided a b i (sourceO
 source-decides = source-decided
 
 -- "If both cards have lists within limits that together fit 255 steps, an unrefused join can be planned."
-pub join-is-planned : {a b old new sheet after : List ℕ} {n : ℕ} {l m : List ℕ} {v : PlanVerdict} → Joining a b old (joined n) new
-    → Listed (jobOf a) l → Listed (jobOf b) m → length l + length m ≤ 255 → roomOf (take n new) ≤ length sheet
-    → Planning (take n new) sheet v after → (k : ℕ) × (v ≡ planned k)
-join-is-planned j x y short room p = JoinedIsPlanned.joined-is-planned j x y short room p
+pub join-is-planned : {a b old new room after : List ℕ} {n : ℕ} {l m : List ℕ} {v : PlanVerdict} → Joining a b old (joined n) new
+    → Listed (jobOf a) l → Listed (jobOf b) m → length l + length m ≤ 255 → roomOf (take n new) ≤ length room
+    → Planning (take n new) room v after → (k : ℕ) × (v ≡ planned k)
+join-is-planned j x y short fits p = JoinedIsPlanned.joined-is-planned j x y short fits p
