@@ -251,6 +251,7 @@ def failing_files(kit, folder):
         fails(kit, f"{words}, a missing file", words[0], str(folder / "missing"), "-o", str(kept))
     with open("/dev/full", "wb") as full:
         fails(kit, "a sheet whose plan cannot be told", "plan", sample, "-o", str(kept), stdout=full)
+        fails(kit, "a card that cannot be told", "card", "cards/sample.txt", "-o", str(kept), "--json", stdout=full)
     done = kit.run("plan", "cards/short.card", "-o", str(kept))
     check(done.returncode == 1, "a refused plan")
     done = kit.run("card", "cards/broken/refused-6.txt", "-o", str(kept))
@@ -270,7 +271,8 @@ def failing_files(kit, folder):
 def wrong_usage(kit):
     for words in ([], ["fly"], ["plan"], ["plan", "a", "--svg"], ["show", "a", "b", "c"], ["text", "--nodes", "--bytes", "a"], ["plan", "-j", "0", "a"],
                   ["plan", "a", "-o"], ["read", "cards/sample.card"], ["read", "-", "-"], ["check", "-", "--names", "-"], ["tree", "--svg", "--dot", "a"],
-                  ["plan", "cards", "-o", "cards/pump.card"], ["check", "docs"], ["card", "-o", "x", "--json=1", "y"]):
+                  ["plan", "cards", "-o", "cards/pump.card"], ["check", "docs"], ["card", "-o", "x", "--json=1", "y"],
+                  ["plan", "cards/sample.card", "-o", "-", "--json"], ["card", "cards/sample.txt", "-o", "-", "--json"]):
         check(not fails(kit, words, *words).stdout, f"{words}: something was printed")
 
 

@@ -176,7 +176,12 @@ impl Options {
                 return Err(format!("{one} and {other} do not go together"));
             }
         }
-        Ok(())
+        let bytes = matches!(self.command, Command::Plan | Command::Card)
+            && self.output.as_deref().is_some_and(is_stream);
+        match bytes && self.has("--json") {
+            true => Err("-o - writes bytes, so --json does not go with it".to_string()),
+            false => Ok(()),
+        }
     }
 }
 

@@ -91,14 +91,3 @@ impl Holds {
         }
     }
 }
-
-impl Reads {
-    /// In words.
-    pub fn words(self) -> &'static str {
-        match (self.goal, self.clause) {
-            (true, true) => "a goal and a clause",
-            (true, false) => "a goal, no clause",
-            _ => "a clause, no goal",
-        }
-    }
-}

@@ -77,12 +77,15 @@ fn columns(rows: &[Vec<String>]) -> String {
 
 fn steps_told(card: Sound, uses: &[Use], manner: Manner) -> String {
     let row = |one: &Use| {
+        let (name, clause) = (manner.names.word(one.name), card.formula(one.clause, manner.names));
+        let recipe = if clause == name { String::new() } else { format!("by {clause}") };
+        let step = format!("step {}", one.step);
         vec![
-            format!("step {}", one.step),
+            step,
             one.entry.to_string(),
-            card.formula(one.clause, manner.names),
-            format!("gives {}", manner.names.word(one.name)),
+            format!("gives {name}"),
             format!("for {}", served(one, uses)),
+            recipe,
         ]
     };
     columns(&uses.iter().map(row).collect::<Vec<_>>())

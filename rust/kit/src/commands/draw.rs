@@ -24,10 +24,7 @@ fn manner<'a>(options: &Options, names: &'a Names) -> Manner<'a> {
 
 /// To the file given, or standard output.
 fn put(options: &Options, text: &str) -> Result<(), Trouble> {
-    match &options.output {
-        Some(file) => write(file, text.as_bytes()),
-        None => print(text.as_bytes()),
-    }
+    write(options.output.as_deref().unwrap_or(OsStr::new("-")), text.as_bytes())
 }
 
 /// A drawn card or sheet, and its refusal.

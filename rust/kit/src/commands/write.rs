@@ -3,12 +3,14 @@ use super::ask;
 use super::told::{about, Manner};
 use crate::args::Options;
 use crate::card::{Card, Sound};
-use crate::fields::must_word;
-use crate::files::{label, print, read, read_text, write, Trouble};
+use crate::fields::{hex, must_word};
+use crate::files::{is_stream, label, print, read, read_text, write, Pending, Trouble};
 use crate::json::{object, Json};
 use crate::names::Names;
 use crate::paint::Paint;
 use crate::text::{as_bytes, as_formulas, as_nodes, parse};
+use kit_planner::Refusal;
+use std::ffi::OsStr;
 use std::io::{self, IsTerminal};
 
 /// `kit card`
@@ -16,27 +18,36 @@ pub fn card(options: &Options, names: &Names) -> Result<u8, Trouble> {
     let file = &options.files[0];
     let text = read_text(file)?;
     let parsed = parse(&text, names).map_err(|mistake| Trouble(mistake.told(&label(file), &text)))?;
-    let manner = Manner { names: &parsed.names, paint: Paint::of_output() };
-    if let Err(found) = kit_planner::check(&parsed.bytes).map_err(|found| (found, options.has("--as-is"))) {
-        if !found.1 {
-            let told = ask::refused(&label(file), &parsed.bytes, found.0, manner);
-            let text = if options.has("--json") { format!("{}\n", told.json) } else { told.long };
-            print(text.as_bytes())?;
-            return Ok(1);
+    match kit_planner::check(&parsed.bytes) {
+        Err(found) if !options.has("--as-is") => refused(options, &parsed.bytes, found, &parsed.names),
+        _ => put(options, &parsed.bytes).map(|()| 0),
+    }
+}
+
+/// A card's refusal, told instead of what was asked for.
+fn refused(options: &Options, bytes: &[u8], found: Refusal, names: &Names) -> Result<u8, Trouble> {
+    let manner = Manner { names, paint: Paint::of_output() };
+    let told = ask::refused(&label(&options.files[0]), bytes, found, manner);
+    let text = if options.has("--json") { format!("{}\n", told.json) } else { told.long };
+    print(text.as_bytes())?;
+    Ok(told.tally.status())
+}
+
+/// The card to its file, when all the rest is done; or its bytes to standard output.
+fn put(options: &Options, bytes: &[u8]) -> Result<(), Trouble> {
+    let told = options.has("--json").then(|| format!("{}\n", written_json(options, bytes)));
+    match (&options.output, told) {
+        (Some(output), told) if !is_stream(output) => {
+            let pending = Pending::write(output, bytes)?;
+            print(told.unwrap_or_default().as_bytes())?;
+            pending.put()
         }
-    }
-    match &options.output {
-        Some(output) => write(output, &parsed.bytes)?,
-        None if options.has("--json") => {}
-        None if io::stdout().is_terminal() => {
-            return Err(Trouble("kit: a card is bytes: give it a file with -o, or a pipe\n".to_string()));
+        (None, Some(told)) => print(told.as_bytes()),
+        (None, None) if io::stdout().is_terminal() => {
+            Err(Trouble("kit: a card is bytes: give it a file with -o, or a pipe\n".to_string()))
         }
-        None => print(&parsed.bytes)?,
+        _ => print(bytes),
     }
-    if options.has("--json") {
-        print(format!("{}\n", written_json(options, &parsed.bytes)).as_bytes())?;
-    }
-    Ok(0)
 }
 
 /// What was written.
@@ -49,35 +60,25 @@ fn written_json(options: &Options, bytes: &[u8]) -> Json {
         .with("nodes", card.nodes())
         .with("rules", card.rules())
         .with("lines", card.lines())
-        .with("bytes", crate::fields::hex(bytes))
+        .with("bytes", hex(bytes))
 }
 
 /// `kit text`
 pub fn text(options: &Options, names: &Names) -> Result<u8, Trouble> {
-    let file = label(&options.files[0]);
     let bytes = read(&options.files[0])?;
     let text = if options.has("--bytes") {
         as_bytes(&bytes, names)
     } else {
-        let card = match Sound::checked(&bytes) {
-            Ok(card) => card,
-            Err(found) => {
-                let told = ask::refused(&file, &bytes, found, Manner { names, paint: Paint::of_output() });
-                let text = if options.has("--json") { format!("{}\n", told.json) } else { told.long };
-                print(text.as_bytes())?;
-                return Ok(1);
+        match Sound::checked(&bytes) {
+            Err(found) => return refused(options, &bytes, found, names),
+            Ok(card) if options.has("--json") => {
+                format!("{}\n", text_json(&label(&options.files[0]), card, names))
             }
-        };
-        match (options.has("--nodes"), options.has("--json")) {
-            (_, true) => format!("{}\n", text_json(&file, card, names)),
-            (true, false) => as_nodes(card, names),
-            (false, false) => as_formulas(card, names),
+            Ok(card) if options.has("--nodes") => as_nodes(card, names),
+            Ok(card) => as_formulas(card, names),
         }
     };
-    match &options.output {
-        Some(output) => write(output, text.as_bytes())?,
-        None => print(text.as_bytes())?,
-    }
+    write(options.output.as_deref().unwrap_or(OsStr::new("-")), text.as_bytes())?;
     Ok(0)
 }
 

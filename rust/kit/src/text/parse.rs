@@ -10,8 +10,6 @@ use crate::names::Names;
 pub struct Parsed {
     pub bytes: Vec<u8>,
     pub names: Names,
-    /// Whether it was written as bytes.
-    pub raw: bool,
 }
 
 /// Parentheses are nested no deeper: formulas of a card are not.
@@ -158,11 +156,11 @@ pub fn parse(text: &str, known: &Names) -> Outcome<Parsed> {
     }
     let Parser { names, draft, raw } = parser;
     if let Some(bytes) = raw {
-        return Ok(Parsed { bytes, names, raw: true });
+        return Ok(Parsed { bytes, names });
     }
     let missing = if draft.goal.is_none() { "goal" } else { "limits" };
     match draft.bytes() {
-        Some(bytes) => Ok(Parsed { bytes, names, raw: false }),
+        Some(bytes) => Ok(Parsed { bytes, names }),
         None => Err(Mistake {
             line: last,
             column: 1,
