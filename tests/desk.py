@@ -141,7 +141,7 @@ def well_formed(words, done):
         picture(words, text)
     if "--dot" in words and done.returncode == 0:
         lines = text.splitlines()
-        row = re.compile(r'  (node \[.*\]|n\d+ \[label="([^"\\]|\\.)*", fillcolor="#\w+"\]|n\d+ -> n\d+ \[label="([^"\\]|\\.)*"\]);')
+        row = re.compile(r"""  (node \[.*\]|n\d+ \[label="[^"\\]*", fillcolor="#\w+"\]|n\d+ -> n\d+ \[label="[^"\\]*"\]);""")
         check(lines[0] == "digraph way {" and lines[-1] == "}" and all(row.fullmatch(x) for x in lines[1:-1]), f"{words}: no graph")
 
 
@@ -374,6 +374,7 @@ def long_card(kit, folder):
     for name in ("3-slow", "1-slow"):
         (folder / f"{name}.card").write_bytes(card)
     text, status = all_of(child, ours)
+    check(re.search(rb"\r\x1b\[K\S*1-slow\.card: planned", text), f"the progress stands before what is told: {text}")
     told = re.findall(rb"(\S+)\.card: planned, 2 steps", text)
     check([t.split(b"/")[-1] for t in told] == [b"1-slow", b"2", b"3-slow", b"4"], f"the order is another: {text}")
     check(status == 0 and b"4 cards: 4 planned, 0 refused, 0 errors" in text, f"the summary: {text}")

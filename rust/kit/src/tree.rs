@@ -100,22 +100,16 @@ impl Tree<'_> {
         text
     }
 
-    /// A graph for Graphviz.
+    /// A graph for Graphviz. No word of a card has a quotation mark or a backslash.
     pub fn dot(&self) -> String {
-        let quoted = |text: &str| text.replace('\\', "\\\\").replace('"', "\\\"");
         let mut text = String::from("digraph way {\n  node [shape=box, style=filled, fontname=monospace];\n");
         let rows = self.rows();
         for (i, row) in rows.iter().enumerate() {
-            let _ = writeln!(
-                text,
-                "  n{i} [label=\"{}\", fillcolor=\"{}\"];",
-                quoted(&row.words),
-                colour(row.sort)
-            );
+            let _ = writeln!(text, "  n{i} [label=\"{}\", fillcolor=\"{}\"];", row.words, colour(row.sort));
         }
         for (i, row) in rows.iter().enumerate() {
             if let Some(above) = row.under {
-                let _ = writeln!(text, "  n{above} -> n{i} [label=\"{}\"];", quoted(&row.role));
+                let _ = writeln!(text, "  n{above} -> n{i} [label=\"{}\"];", row.role);
             }
         }
         text + "}\n"
