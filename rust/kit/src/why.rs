@@ -76,8 +76,8 @@ fn wrong_length(card: Card) -> Why {
         return Why::front(0, 2, there);
     }
     if lent < says {
-        let short = count(says - lent, "byte");
-        return Why::new(lent, 0, (0, FRONT), format!("{there}: {short} missing at the end"));
+        let (short, last) = (count(says - lent, "byte"), lent.min(8));
+        return Why::new(lent, 0, (lent - last, last), format!("{there}: {short} missing at the end"));
     }
     let over = count(lent - says, "byte");
     Why::new(says, lent - says, (says, (lent - says).min(16)), format!("{there}: {over} too many"))

@@ -210,3 +210,37 @@ fn every_refusal_is_found_in_its_field() {
     assert_eq!(met.len(), 26, "{met:?}");
     assert!(met.values().all(|&n| n > 50), "{met:?}");
 }
+
+/// The offsets of the bytes that the carets of a long answer stand under.
+fn carets(answer: &str) -> Vec<usize> {
+    let lines: Vec<&str> = answer.lines().collect();
+    let mut found = Vec::new();
+    for (row, under) in lines.iter().zip(&lines[1..]).filter(|(_, under)| under.contains('^')) {
+        let start: usize = row[..6].trim().parse().unwrap();
+        let columns = under.match_indices("^^").map(|(column, _)| column - 8);
+        found.extend(columns.map(|column| start + column / 3));
+    }
+    found
+}
+
+#[test]
+fn carets_stand_under_the_wrong_bytes() {
+    let file = env::temp_dir().join(format!("kit-carets-{}.card", process::id()));
+    let kit = |flag: &[&str]| {
+        let output =
+            Command::new(env!("CARGO_BIN_EXE_kit")).arg("check").args(flag).arg(&file).output().unwrap();
+        assert_eq!(output.status.code(), Some(1));
+        String::from_utf8(output.stdout).unwrap()
+    };
+    for damaged in (0..12).flat_map(damaged) {
+        fs::write(&file, &damaged.bytes).unwrap();
+        let json = kit(&["--json"]);
+        let (at, len) = (number(&json, "offset").unwrap(), number(&json, "length").unwrap());
+        let told = kit(&[]);
+        let shown: Vec<usize> = (at..at + len.clamp(1, 16)).collect();
+        assert_eq!(carets(&told), shown, "{}: {told}", damaged.what);
+        let reason = format!("\"reason\":\"{}\"", told.lines().nth(1).unwrap());
+        assert!(json.contains(&reason), "{json}: {told}");
+    }
+    fs::remove_file(&file).unwrap();
+}

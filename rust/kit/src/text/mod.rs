@@ -1,6 +1,7 @@
 //! Text cards: one statement a line, read and written.
 mod draft;
 mod parse;
+mod statement;
 mod tokens;
 mod write;
 

@@ -1,6 +1,7 @@
 //! Statements and formulas.
 use super::draft::{Draft, LINE_LIMIT, NAME_LIMIT, NESTING_LIMIT, RULE_LIMIT, STEP_LIMIT};
-use super::tokens::{can_name, tokens, Token};
+use super::statement::{Outcome, Statement};
+use super::tokens::can_name;
 use super::Mistake;
 use crate::card::{Line, Node};
 use crate::kinds::{self, Holds};
@@ -15,87 +16,12 @@ pub struct Parsed {
 /// Parentheses are nested no deeper: formulas of a card are not.
 const DEPTH_LIMIT: usize = 64;
 
-/// A statement's tokens, and where the next one stands.
-struct Statement<'a> {
-    line: usize,
-    tokens: Vec<Token<'a>>,
-    next: usize,
-    end: usize,
-}
-
 /// A formula's node and where it is written.
 #[derive(Clone, Copy)]
 struct Part {
     node: usize,
     from: usize,
     to: usize,
-}
-
-type Outcome<T> = Result<T, Mistake>;
-
-impl<'a> Statement<'a> {
-    fn new(line: usize, text: &'a str) -> Outcome<Statement<'a>> {
-        let tokens = tokens(line, text)?;
-        let end = tokens.last().map_or(1, |t| t.column + t.width());
-        Ok(Statement { line, tokens, next: 0, end })
-    }
-
-    fn peek(&self) -> Option<&'a str> {
-        self.tokens.get(self.next).map(|t| t.text)
-    }
-
-    fn column(&self) -> usize {
-        self.tokens.get(self.next).map_or(self.end, |t| t.column)
-    }
-
-    fn mistake<T>(&self, from: usize, to: usize, words: String) -> Outcome<T> {
-        Err(Mistake { line: self.line, column: from, width: to.saturating_sub(from).max(1), words })
-    }
-
-    /// A mistake about the last token taken.
-    fn wrong<T>(&self, words: String) -> Outcome<T> {
-        let token = &self.tokens[self.next - 1];
-        self.mistake(token.column, token.column + token.width(), words)
-    }
-
-    /// The next token, or that it is missing.
-    fn take(&mut self, what: &str) -> Outcome<&'a str> {
-        let Some(token) = self.tokens.get(self.next) else {
-            return self.mistake(self.end, self.end + 1, format!("{what} is missing"));
-        };
-        self.next += 1;
-        Ok(token.text)
-    }
-
-    fn expect(&mut self, word: &str) -> Outcome<()> {
-        let what = format!("\"{word}\"");
-        match self.take(&what)? {
-            text if text == word => Ok(()),
-            text => self.wrong(format!("\"{text}\" is not expected here, but {what} is")),
-        }
-    }
-
-    /// A number of at most so much.
-    fn number(&mut self, what: &str, most: usize) -> Outcome<usize> {
-        let text = self.take(what)?;
-        if !text.bytes().all(|b| b.is_ascii_digit()) {
-            return self.wrong(format!("\"{text}\" is no number: {what} is expected here"));
-        }
-        match text.parse() {
-            Ok(n) if n <= most => Ok(n),
-            _ => self.wrong(format!("{text} is too much: {what} goes to {most}")),
-        }
-    }
-
-    fn ended(&mut self) -> Outcome<()> {
-        match self.tokens.get(self.next) {
-            None => Ok(()),
-            Some(token) => {
-                self.next += 1;
-                self.wrong(format!("\"{}\" is not expected here: the statement ends before it", token.text))
-            }
-        }
-    }
 }
 
 /// A parser's state: the card so far, and the names that it knows from the first line on.
