@@ -90,7 +90,10 @@ fn every_refusal_has_its_reason() {
             *met.entry(refused.map_or(0, |refusal| refusal.number)).or_default() += 1;
             let steps =
                 sheet.get(5..).map(|all| &all[..all.len().min(usize::from(sheet[3]))]).unwrap_or_default();
-            let Some(refusal) = refused else { continue };
+            let Some(refusal) = refused else {
+                assert_eq!(walked(card, steps), None);
+                continue;
+            };
             let why = why::sheet(card, &sheet, refusal, &names);
             told(&why, &sheet, refusal);
             undivided.extend((refusal.number == 19).then_some(why.words));
