@@ -10,6 +10,7 @@ DESTDIR =
 VERSION := $(shell sed -n 's/^.define KIT_VERSION "\(.*\)"$$/\1/p' include/kit_planner.h)
 ARCHIVE := target/staticlib/libplanner_c.a
 KIT := rust/target/release/kit
+PROVED := $(shell find crates crates.txt -type f)
 SOURCES := $(shell find rust/src rust/kit rust/build.rs rust/Cargo.toml -type f)
 # Pages that say no more than where their text is.
 LINKS := kit_read kit_join kit_source kit_check kit_reason
@@ -24,8 +25,9 @@ unexport KIT_PLANNER_LIB_DIR
 
 all: $(ARCHIVE) $(KIT)
 
-$(ARCHIVE):
+$(ARCHIVE): $(PROVED)
 	rt staticlib planner_c
+	touch $@
 
 $(KIT): $(ARCHIVE) $(SOURCES)
 	cargo build --release --offline --manifest-path rust/Cargo.toml --target-dir rust/target -p kit

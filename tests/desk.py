@@ -111,7 +111,8 @@ def stored():
         path = sheet.relative_to(ROOT).with_suffix("").as_posix()
         card = OTHER_CARD.get(int(path.split("-")[-1]), "pump")
         files = f"cards/{card}.card", f"{path}.sheet"
-        yield f"{path}.out", [words for command in ("read", "tree", "show") for words in of_sheet(command, *files)]
+        drawn = [["show", *files, "--svg", *NAMES], ["tree", *files, "--svg", *NAMES], ["tree", *files, "--dot", *NAMES]]
+        yield f"{path}.out", [words for command in ("read", "tree", "show") for words in of_sheet(command, *files)] + drawn
     yield "cards/folders.out", list(of_folders())
 
 
@@ -188,6 +189,10 @@ def manual(kit):
     synopsis = re.search(r"\.SH SYNOPSIS\n\.nf\n(.*?)\.fi\n", plain, re.S)[1]
     dots = re.compile(r" ?\.\.+")
     told = {dots.sub("", line) for line in synopsis.splitlines()}
+    shown = re.search(r"\n\n((?:    .*\n)+)", kit.out("card", "--help").decode())[1]
+    example = re.search(r"\.SS Text cards\n.*?\.EX\n(.*?)\.EE\n", page, re.S)[1]
+    cards = {kit.out("card", "-", input=text.encode()) for text in (shown, example)}
+    check(len(cards) == 1, "the text cards of kit.1 and of kit card --help are not the same")
     for command in ("plan", "read", "check", "show", "tree", "card", "text"):
         text = kit.out(command, "--help").decode()
         usage = [line for line in text.splitlines() if line.startswith(f"kit {command} ")]
@@ -249,6 +254,8 @@ def failing_files(kit, folder):
         fails(kit, f"{words}, a folder", *words, "-o", str(folder))
         fails(kit, f"{words}, a full disk", *words, "-o", "/dev/full")
         fails(kit, f"{words}, a missing file", words[0], str(folder / "missing"), "-o", str(kept))
+        for place in (f"{folder}/new/", ""):
+            check(not fails(kit, f"{words}, no file", *words, "-o", place).stdout, f"{words}: told before it failed")
     with open("/dev/full", "wb") as full:
         fails(kit, "a sheet whose plan cannot be told", "plan", sample, "-o", str(kept), stdout=full)
         fails(kit, "a card that cannot be told", "card", "cards/sample.txt", "-o", str(kept), "--json", stdout=full)
@@ -262,10 +269,37 @@ def failing_files(kit, folder):
     kit.out("plan", sample, "-o", str(kept))
     check(kept.read_bytes() == (ROOT / "cards/sample.sheet").read_bytes(), "the sheet is written")
     check(kept.stat().st_mode & 0o777 == 0o640, "who may read it has not changed")
-    link = folder / "link"
-    link.symlink_to(kept)
+    link, ahead = folder / "link", folder / ("long" * 60)
+    link.symlink_to("kept.sheet")
     kit.out("card", "cards/sample.txt", "-o", str(link))
     check(link.is_symlink() and kept.read_bytes() == (ROOT / sample).read_bytes(), "a link is followed")
+    link.unlink()
+    link.symlink_to(ahead)
+    kit.out("card", "cards/sample.txt", "-o", str(link))
+    check(link.is_symlink() and ahead.read_bytes() == kept.read_bytes(), "a link to nothing yet, and a long name")
+    fails(kit, "a card over itself", "plan", str(kept), "-o", str(kept))
+    fails(kit, "a names file over itself", "text", sample, "--names", "cards/depot.names", "-o", "cards/depot.names")
+    odd = os.fsdecode(os.fsencode(folder) + b"/\xff.sheet")
+    kit.out("plan", sample, "-o" + odd)
+    check(os.path.exists(odd), "a name that is no UTF-8")
+
+
+def cut_off(kit, folder):
+    """A pipe that is closed while sheets are written leaves whole sheets and nothing else."""
+    card = (ROOT / "cards/pump.card").read_bytes()
+    for i in range(400):
+        (folder / f"{i}.card").write_bytes(card)
+    sheets = folder / "sheets"
+    sheets.mkdir()
+    for _ in range(10):
+        child = subprocess.Popen([kit.program, "plan", str(folder), "-o", str(sheets)], stdout=subprocess.PIPE, stderr=subprocess.PIPE)
+        child.stdout.readline()
+        child.stdout.close()
+        child.stderr.read()
+        child.stderr.close()
+        check(child.wait(60) in (0, 2), "a closed pipe among many")
+        wrong = [f.name for f in sheets.iterdir() if f.read_bytes() != (ROOT / "cards/pump.sheet").read_bytes()]
+        check(not wrong and all(f.suffix == ".sheet" for f in sheets.iterdir()), f"left over: {wrong}")
 
 
 def wrong_usage(kit):
@@ -288,7 +322,12 @@ def streams(kit):
     done = kit.run("card", "-", input=b"goal done\n\xff\n")
     check((done.returncode, done.stderr) == (2, b"-:2:1: this is no UTF-8 text\n"), f"{done}")
     long = kit.run("check", "-", input=card + bytes(200_000))
-    check(long.returncode == 1 and b"refused 2" in long.stdout, "a long file")
+    check(long.returncode == 1 and b"refused 2" in long.stdout and b"more than 65535 bytes" in long.stdout, "a long file")
+    long = kit.run("card", "-", input=text + b"# comment\n" * 1_700_000 + b"must 7\n")
+    check(long.returncode == 2 and not long.stdout and b"at most 16777216 bytes" in long.stderr, "a text that is too long")
+    for words in (["check", "-"], ["card", "-"], ["read", "cards/sample.card", "-"]):
+        done = fails(kit, f"{words} without standard input", *words, stdin=None, preexec_fn=lambda: os.close(0))
+        check(b"standard input: it is closed" in done.stderr, f"{words}: {done.stderr}")
     words = kit.out("plan", "cards/pump.card", "--names", "cards/pump.txt")
     check(words == kit.out("plan", "cards/pump.card", *NAMES), "the names of a text card")
     check(b"shaft" in words and b"101" not in words, "words for numbers")
@@ -336,8 +375,9 @@ def colours(kit):
     for words in (["plan", "cards/sample.card"], ["check", "cards/broken/refused-6.card"], ["show", "cards/sample.card"], ["tree", "cards/sample.card"]):
         coloured, _ = all_of(*on_terminal(kit, words, env=plain))
         check(b"\x1b[" in coloured, f"{words}: no colour on a terminal")
-        kept_plain, _ = all_of(*on_terminal(kit, words, env={**plain, "NO_COLOR": "1"}))
-        check(b"\x1b[" not in kept_plain, f"{words}: colour with NO_COLOR")
+        for value in ("1", ""):
+            kept_plain, _ = all_of(*on_terminal(kit, words, env={**plain, "NO_COLOR": value}))
+            check(b"\x1b[" not in kept_plain, f"{words}: colour with NO_COLOR")
         done = kit.run(*words, env=plain)
         check(b"\x1b[" not in done.stdout, f"{words}: colour in a pipe")
         check(re.sub(rb"\x1b\[[\d;]*m", b"", coloured).replace(b"\r", b"") == done.stdout, f"{words}: other words on a terminal")
@@ -388,8 +428,8 @@ def many_cards(kit, folder):
     for sheet in ROOT.glob("cards/*.sheet"):
         check((folder / sheet.name).read_bytes() == sheet.read_bytes(), f"{sheet.name} among many")
     check(len(list(folder.iterdir())) == 4, "a sheet for each planned card")
-    done = kit.run("read", "cards", str(folder))
-    check(done.returncode == 2 and b"4 accepted" in done.stdout, "cards of one folder with sheets of another")
+    told = kit.out("read", "cards", str(folder))
+    check(told.endswith(b"4 cards: 4 accepted, 0 refused, 0 errors\n"), "cards of one folder with sheets of another")
     fails(kit, "two cards, one sheet", "plan", "cards/pump.card", "cards/pump.card", "-o", str(folder))
 
 
@@ -403,7 +443,7 @@ def main(program, write):
     wrong_usage(kit)
     streams(kit)
     colours(kit)
-    for test in (failing_files, odd_names, long_card, many_cards):
+    for test in (failing_files, cut_off, odd_names, long_card, many_cards):
         with tempfile.TemporaryDirectory() as folder:
             test(kit, pathlib.Path(folder))
     print(f"desk.py: {passed} checks passed")

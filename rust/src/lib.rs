@@ -34,15 +34,33 @@ compile_error!(concat!(
 use core::fmt;
 
 /// This package's version, which is the header's too.
+///
+/// ```
+/// assert!(kit_planner::VERSION.split('.').count() == 3);
+/// ```
 pub const VERSION: &str = env!("CARGO_PKG_VERSION");
 
 /// The longest card's length.
+///
+/// ```
+/// // 512 nodes, 64 rules and 64 lines behind the front
+/// assert_eq!(kit_planner::CARD_MAX, 11 + 5 * 512 + 2 * 64 + 3 * 64);
+/// ```
 pub const CARD_MAX: usize = 2891;
 
 /// The longest sheet's length, so room for any sheet.
+///
+/// ```
+/// // 255 steps and 64 marks behind the front
+/// assert_eq!(kit_planner::SHEET_MAX, 5 + 255 + 64);
+/// ```
 pub const SHEET_MAX: usize = 324;
 
 /// Room for any joined card.
+///
+/// ```
+/// assert_eq!(kit_planner::ROOM_TO_JOIN, kit_planner::CARD_MAX);
+/// ```
 pub const ROOM_TO_JOIN: usize = CARD_MAX;
 
 extern "C" {
@@ -60,6 +78,11 @@ extern "C" {
 }
 
 /// What a refusal speaks of. Each index counts from 0.
+///
+/// ```
+/// let place = kit_planner::Place::Line(2);
+/// assert_eq!(place.to_string(), "line 2");
+/// ```
 #[derive(Clone, Copy, Debug, PartialEq, Eq)]
 #[non_exhaustive]
 pub enum Place {
@@ -82,6 +105,11 @@ pub enum Place {
 }
 
 /// A refusal: its number, 1 to 19, and its place.
+///
+/// ```
+/// let refusal = kit_planner::check(&[0; 10]).unwrap_err();
+/// assert_eq!((refusal.number, refusal.place), (1, kit_planner::Place::Card));
+/// ```
 #[derive(Clone, Copy, Debug, PartialEq, Eq)]
 pub struct Refusal {
     /// What is wrong, 1 to 19; [`Refusal::reason`] has it in words.
@@ -91,6 +119,10 @@ pub struct Refusal {
 }
 
 /// One of two cards.
+///
+/// ```
+/// assert_eq!(kit_planner::Which::First.to_string(), "the first card");
+/// ```
 #[derive(Clone, Copy, Debug, PartialEq, Eq)]
 pub enum Which {
     /// The first.
@@ -100,6 +132,13 @@ pub enum Which {
 }
 
 /// A refusal over two cards.
+///
+/// ```
+/// let card = [0, 19, 1, 0, 1, 0, 1, 0, 0, 4, 8, 1, 0, 2, 0, 0, 0, 0, 1];
+/// let refusal = kit_planner::join(&card, &[], &mut []).unwrap_err();
+/// assert_eq!(refusal.card, Some(kit_planner::Which::Second));
+/// assert_eq!(refusal.refusal.number, 1);
+/// ```
 #[derive(Clone, Copy, Debug, PartialEq, Eq)]
 pub struct BenchRefusal {
     /// The card whose own it is: `None` for 10, 15 and 16, which are neither's.
@@ -109,6 +148,10 @@ pub struct BenchRefusal {
 }
 
 /// What has become of a line.
+///
+/// ```
+/// assert_eq!(kit_planner::Mark::Left.to_string(), "left on the tray");
+/// ```
 #[derive(Clone, Copy, Debug, PartialEq, Eq)]
 #[non_exhaustive]
 pub enum Mark {
@@ -121,6 +164,13 @@ pub enum Mark {
 }
 
 /// The sheet of a planned card.
+///
+/// ```
+/// // The goal is done, and nothing lies on the tray.
+/// let sheet = kit_planner::plan_sheet(&[0, 16, 1, 0, 0, 0, 1, 0, 0, 0, 0, 3, 0, 0, 0, 0])?;
+/// assert_eq!(sheet.as_bytes(), [0, 5, 1, 0, 0]);
+/// # Ok::<(), kit_planner::Refusal>(())
+/// ```
 #[derive(Clone, PartialEq, Eq)]
 pub struct Sheet {
     /// Those behind the sheet are 0, so equal sheets have equal bytes.

@@ -1,6 +1,7 @@
 //! The command line.
 use crate::files::{is_stream, label};
 use std::ffi::{OsStr, OsString};
+use std::os::unix::ffi::OsStrExt;
 
 #[derive(Clone, Copy, Debug, PartialEq, Eq)]
 pub enum Command {
@@ -81,7 +82,7 @@ pub fn parse(words: Vec<OsString>) -> Result<Asked, String> {
     let first = words.next().ok_or("no command is given")?;
     let word = label(&first);
     match word.as_str() {
-        "--help" | "-h" | "help" => return Ok(Asked::Help(None)),
+        "--help" | "-h" => return Ok(Asked::Help(None)),
         "--version" | "-V" => return Ok(Asked::Version),
         _ => {}
     }
@@ -114,14 +115,13 @@ fn options(command: Command, words: Vec<OsString>) -> Result<Options, String> {
 
 /// An option and, where it stands in the same word, its value: `-j4`, `--names=FILE`.
 fn divided(word: &OsStr) -> (String, Option<OsString>) {
-    let text = word.to_string_lossy().into_owned();
-    if let Some((option, value)) = text.split_once('=').filter(|_| text.starts_with("--")) {
-        return (option.to_string(), Some(value.into()));
-    }
-    if !text.starts_with("--") && text.chars().count() > 2 && text.is_char_boundary(2) {
-        return (text[..2].to_string(), Some(text[2..].into()));
-    }
-    (text, None)
+    let bytes = word.as_bytes();
+    let cut = match bytes.starts_with(b"--") {
+        true => bytes.iter().position(|&b| b == b'=').map(|at| (at, at + 1)),
+        false => Some((2, 2)).filter(|_| bytes.len() > 2),
+    };
+    let (option, value) = cut.map_or((bytes, None), |(end, from)| (&bytes[..end], Some(&bytes[from..])));
+    (label(OsStr::from_bytes(option)), value.map(|value| OsStr::from_bytes(value).to_os_string()))
 }
 
 impl Options {

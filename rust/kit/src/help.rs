@@ -44,8 +44,8 @@ kit read CARD SHEET [CARD SHEET ..] [-j N] [--names FILE] [--json]
 kit read FOLDER [FOLDER] [-j N] [--names FILE] [--json]
 
 Checks each sheet against its card: accepted with the number of its steps, or the refusal, where
-it is and why. A folder stands for its files NAME.card, each with the file NAME.sheet beside it or
-in the second folder.
+it is and why. A folder stands for its files NAME.sheet, each read against NAME.card beside it; of
+two folders the first has the cards, the second the sheets.
 
     -j N          so many at a time
     --names FILE  words for numbers
@@ -97,13 +97,15 @@ kit card TEXT [-o CARD] [--as-is] [--names FILE] [--json]
 
 Writes the bytes of a text card. One statement a line; # begins a comment:
 
-    name seal 101                   a word for a name's number, 0 to 999
-    limits nesting 4 steps 8        how deep uses may nest, and how many steps there may be
-    goal (pump both rest)           what is to come out
-    rule ((2 of seal) gives pump)   may be used any number of times
-    must seal                       a line of the tray that is used, or a rest takes it
-    must seal times 3               three such lines
-    may (body gives pump)           a line of the tray that may be used
+    name seal 101                   # a word for a name's number, 0 to 999
+    name body 102
+    name pump 103
+    limits nesting 4 steps 8        # how deep uses may nest, and how many steps there may be
+    goal (pump both rest)           # what is to come out
+    rule ((2 of seal) gives pump)   # may be used any number of times
+    must seal                       # a line of the tray that is used, or a rest takes it
+    must seal times 3               # three such lines
+    may (body gives pump)           # a line of the tray that may be used
 
 Formulas: a word or a number (a name), rest, done, (G both H), (G either way H), (lend D to G),
 (G gives D), and (3 of G) for so many. Whatever has parts has parentheses.

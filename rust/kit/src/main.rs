@@ -1,6 +1,6 @@
 //! `kit`: see, write, check and explain cards.
 use desk::args::{self, Asked};
-use desk::files::{print, Trouble};
+use desk::files::{end, print, Trouble};
 use desk::{commands, help};
 use std::env;
 use std::io::{self, Write};
@@ -20,5 +20,6 @@ fn main() {
         let _ = io::stderr().write_all(words.as_bytes());
         2
     });
+    end();
     exit(i32::from(status));
 }

@@ -9,7 +9,7 @@ pub struct Paint(pub bool);
 impl Paint {
     /// For standard output: a terminal, and no NO_COLOR in the environment.
     pub fn of_output() -> Paint {
-        let kept_plain = env::var_os("NO_COLOR").is_some_and(|value| !value.is_empty());
+        let kept_plain = env::var_os("NO_COLOR").is_some();
         Paint(io::stdout().is_terminal() && !kept_plain)
     }
 

@@ -1,16 +1,17 @@
 //! The drawing as a picture for the wall: a box for each field, as wide as it has bytes, coloured by part.
 use crate::fields::{Field, Part};
-use crate::svg::{shortened, Svg, LETTER};
+use crate::svg::{wrapped, Svg};
 
-/// Width of a byte, height of a row, and the most rows in a column of the picture.
+/// Width of a byte, height of a row, of a further line of its words, and the most height of a column of the picture.
 const BYTE: f64 = 30.0;
 const ROW: f64 = 24.0;
-const ROWS: usize = 48;
-const TOP: f64 = 32.0;
+const LINE: f64 = 15.0;
+const COLUMN: f64 = 48.0 * ROW;
+const TOP: f64 = 20.0;
 const LEFT: f64 = 12.0;
 const OFFSET: f64 = 42.0;
 const GAP: f64 = 8.0;
-const LETTERS: usize = 60;
+const LETTERS: usize = 64;
 
 fn colour(part: Part) -> &'static str {
     match part {
@@ -35,18 +36,25 @@ fn heading(part: Part) -> &'static str {
     }
 }
 
-/// A card or sheet to be drawn: its title, bytes and fields, and the bytes that are wrong.
+/// A card or sheet to be drawn: its title, its refusal in words, its bytes and fields, and the bytes that are wrong.
 pub struct Drawn<'a> {
     pub title: String,
+    pub refusal: Option<String>,
     pub bytes: &'a [u8],
     pub fields: Vec<Field>,
     pub wrong: Option<(usize, usize)>,
 }
 
-/// A row of the picture: a heading, or the fields of a record.
-enum Row<'a> {
-    Heading(&'static str),
-    Record(&'a [Field]),
+/// A row of the picture: the fields of a record, none for a heading, and its words.
+struct Row<'a> {
+    record: &'a [Field],
+    words: Vec<String>,
+}
+
+impl Row<'_> {
+    fn height(&self) -> f64 {
+        ROW + LINE * (self.words.len() - 1) as f64
+    }
 }
 
 impl Drawn<'_> {
@@ -62,12 +70,30 @@ impl Drawn<'_> {
         for record in self.fields.chunk_by(|a, b| a.part == b.part && a.part.index().is_some()) {
             let part = record[0].part;
             if part.word() != before {
-                rows.push(Row::Heading(heading(part)));
+                rows.push(Row { record: &[], words: vec![heading(part).to_string()] });
                 before = part.word();
             }
-            rows.push(Row::Record(record));
+            rows.push(Row { record, words: wrapped(&row_words(record), LETTERS) });
         }
         rows
+    }
+
+    /// The rows divided into columns of about the same height.
+    fn columns(&self) -> Vec<Vec<Row<'_>>> {
+        let rows = self.rows();
+        let height: f64 = rows.iter().map(Row::height).sum();
+        let most = height / (height / COLUMN).ceil().max(1.0);
+        let mut columns = vec![Vec::new()];
+        let mut filled = 0.0;
+        for row in rows {
+            if filled >= most {
+                columns.push(Vec::new());
+                filled = 0.0;
+            }
+            filled += row.height();
+            columns.last_mut().expect("there is one").push(row);
+        }
+        columns
     }
 }
 
@@ -76,16 +102,19 @@ pub fn svg(title: &str, drawn: &[Drawn]) -> String {
     let mut svg = Svg::default();
     let mut left = LEFT;
     for one in drawn {
-        let rows = one.rows();
-        let columns = rows.len().div_ceil(ROWS).max(1);
-        for (i, column) in rows.chunks(rows.len().div_ceil(columns).max(1)).enumerate() {
+        for (i, column) in one.columns().iter().enumerate() {
             let title = if i == 0 { one.title.clone() } else { format!("{}, continued", one.title) };
-            svg.words(left, 20.0, "head", &shortened(&title, LETTERS));
-            let mut reach = left + LETTER * title.chars().count().min(LETTERS) as f64;
-            for (j, row) in column.iter().enumerate() {
-                reach = reach.max(draw_row(&mut svg, one, row, left, TOP + ROW * j as f64));
+            let mut reach = svg.words((left, TOP), "head", &wrapped(&title, LETTERS));
+            let mut top = reach.1 + 12.0 - LINE;
+            if let Some(refusal) = one.refusal.as_ref().filter(|_| i == 0) {
+                let told = svg.words((left, top + LINE), "bad", &wrapped(refusal, LETTERS));
+                (reach.0, top) = (reach.0.max(told.0), told.1 + 12.0 - LINE);
             }
-            left = reach + 4.0 * GAP;
+            for row in column {
+                reach.0 = reach.0.max(draw_row(&mut svg, one, row, left, top));
+                top += row.height();
+            }
+            left = reach.0 + 4.0 * GAP;
         }
     }
     svg.done(title)
@@ -93,24 +122,18 @@ pub fn svg(title: &str, drawn: &[Drawn]) -> String {
 
 /// Draws a row and tells how far it reaches.
 fn draw_row(svg: &mut Svg, drawn: &Drawn, row: &Row, left: f64, top: f64) -> f64 {
-    let record = match row {
-        Row::Record(record) => record,
-        Row::Heading(words) => {
-            svg.words(left + OFFSET, top + 16.0, "dim", words);
-            return left + OFFSET + LETTER * words.chars().count() as f64;
-        }
-    };
-    svg.words(left, top + 16.0, "dim", &record[0].at.to_string());
     let mut x = left + OFFSET;
-    for field in *record {
+    let Some(first) = row.record.first() else {
+        return svg.words((x, top + 16.0), "dim", &row.words).0;
+    };
+    svg.words((left, top + 16.0), "dim", &[first.at.to_string()]);
+    for field in row.record {
         let width = BYTE * field.len as f64;
         let fill = if drawn.is_wrong(field) { "#ff9d94" } else { colour(field.part) };
         svg.block((x, top), (width, ROW - 4.0), fill, &field.hex(drawn.bytes), &field.about());
         x += width;
     }
-    let words = shortened(&row_words(record), LETTERS);
-    svg.words(x + GAP, top + 16.0, "", &words);
-    x + GAP + LETTER * words.chars().count() as f64
+    svg.words((x + GAP, top + 16.0), "", &row.words).0
 }
 
 /// What a row says: of a node its formula, of a rule or line its entry and formula, of others their field and value.

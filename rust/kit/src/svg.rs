@@ -27,12 +27,18 @@ pub fn escaped(text: &str) -> String {
     out
 }
 
-/// At most so many letters; what is cut ends in three dots.
-pub fn shortened(text: &str, most: usize) -> String {
-    match text.chars().count() > most {
-        true => text.chars().take(most.saturating_sub(1)).chain(['…']).collect(),
-        false => text.to_string(),
+/// Lines of at most so many letters, divided at spaces where there are some.
+pub fn wrapped(text: &str, most: usize) -> Vec<String> {
+    let mut lines = vec![String::new()];
+    for word in text.split(' ') {
+        let long = |line: &String| line.chars().count() + 1 + word.chars().count() > most;
+        match lines.last_mut().filter(|line| line.is_empty() || !long(line)) {
+            Some(line) if line.is_empty() => line.push_str(word),
+            Some(line) => *line += &format!(" {word}"),
+            None => lines.push(word.to_string()),
+        }
     }
+    lines
 }
 
 impl Default for Svg {
@@ -47,29 +53,33 @@ impl Svg {
         self.height = self.height.max(y);
     }
 
-    /// A box with its words in the middle, and all of them where they are pointed at.
-    pub fn block(
-        &mut self,
-        (x, y): (f64, f64),
-        (width, height): (f64, f64),
-        fill: &str,
-        words: &str,
-        title: &str,
-    ) {
-        let (text, title) = (escaped(words), escaped(title));
+    /// A box with its words in the middle, and more of them where it is pointed at.
+    pub fn block(&mut self, at: (f64, f64), size: (f64, f64), fill: &str, words: &str, title: &str) {
+        let (x, y) = at;
+        let (width, height) = size;
+        let (middle, base) = (x + width / 2.0, y + height / 2.0 + 4.0);
         let _ = writeln!(
             self.body,
-            "<g><title>{title}</title><rect x=\"{x}\" y=\"{y}\" width=\"{width}\" height=\"{height}\" fill=\"{fill}\" \
-             stroke=\"#333\"/><text x=\"{}\" y=\"{}\" text-anchor=\"middle\">{text}</text></g>",
-            x + width / 2.0,
-            y + height / 2.0 + 4.0
+            "<g><title>{}</title>\
+             <rect x=\"{x}\" y=\"{y}\" width=\"{width}\" height=\"{height}\" fill=\"{fill}\" stroke=\"#333\"/>\
+             <text x=\"{middle}\" y=\"{base}\" text-anchor=\"middle\">{}</text></g>",
+            escaped(title),
+            escaped(words)
         );
         self.reach(x + width, y + height);
     }
 
-    pub fn words(&mut self, x: f64, y: f64, class: &str, words: &str) {
-        let _ = writeln!(self.body, "<text x=\"{x}\" y=\"{y}\" class=\"{class}\">{}</text>", escaped(words));
-        self.reach(x + LETTER * words.chars().count() as f64, y + 4.0);
+    /// Lines of words below each other; how far they reach.
+    pub fn words(&mut self, (x, y): (f64, f64), class: &str, lines: &[String]) -> (f64, f64) {
+        let mut reach = (x, y);
+        for (i, line) in lines.iter().enumerate() {
+            let y = y + 15.0 * i as f64;
+            let _ =
+                writeln!(self.body, "<text x=\"{x}\" y=\"{y}\" class=\"{class}\">{}</text>", escaped(line));
+            reach = (reach.0.max(x + LETTER * line.chars().count() as f64), y + 15.0);
+            self.reach(reach.0, y + 4.0);
+        }
+        reach
     }
 
     /// A line down and then to the right.
@@ -85,7 +95,7 @@ impl Svg {
             "<?xml version=\"1.0\" encoding=\"UTF-8\"?>\n\
              <svg xmlns=\"http://www.w3.org/2000/svg\" width=\"{width}\" height=\"{height}\" viewBox=\"0 0 {width} {height}\">\n\
              <title>{}</title>\n\
-             <style>text {{ font: 12px monospace; fill: #111 }} .dim {{ fill: #666 }} .head {{ font-weight: bold }}</style>\n\
+             <style>text {{ font: 12px monospace; fill: #111 }} .dim {{ fill: #666 }} .head {{ font-weight: bold }} .bad {{ fill: #b3261e }}</style>\n\
              <rect width=\"100%\" height=\"100%\" fill=\"#fff\"/>\n{}</svg>\n",
             escaped(title),
             self.body

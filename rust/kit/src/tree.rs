@@ -3,7 +3,7 @@ use crate::card::{Entry, Sound};
 use crate::json::{object, Json};
 use crate::names::Names;
 use crate::paint::Paint;
-use crate::svg::{shortened, Svg, LETTER};
+use crate::svg::{Svg, LETTER};
 use crate::way::{Use, Way};
 use std::fmt::Write;
 
@@ -23,6 +23,16 @@ pub struct Row {
     pub role: String,
     pub sort: Sort,
     pub words: String,
+}
+
+impl Row {
+    /// Its words, with its role before them.
+    fn told(&self) -> String {
+        match self.role.as_str() {
+            "" => self.words.clone(),
+            role => format!("{role}: {}", self.words),
+        }
+    }
 }
 
 /// A walk that reached its end.
@@ -119,21 +129,17 @@ impl Tree<'_> {
     pub fn svg(&self, title: &str) -> String {
         const ROW: f64 = 30.0;
         const INDENT: f64 = 28.0;
-        const TOP: f64 = 36.0;
         let mut svg = Svg::default();
-        svg.words(12.0, 20.0, "head", title);
+        svg.words((12.0, 20.0), "head", &[title.to_string()]);
         let left = |depth: usize| 12.0 + INDENT * depth as f64;
         for (i, row) in self.rows().iter().enumerate() {
-            let (x, y) = (left(row.depth), TOP + ROW * i as f64);
+            let (x, y) = (left(row.depth), 36.0 + ROW * i as f64);
             if let Some(above) = row.under {
-                let from = (left(row.depth - 1) + INDENT / 2.0, TOP + ROW * above as f64 + 22.0);
+                let from = (left(row.depth - 1) + INDENT / 2.0, 36.0 + ROW * above as f64 + 22.0);
                 svg.elbow(from, (x, y + 11.0));
             }
-            let role = if row.role.is_empty() { String::new() } else { format!("{}: ", row.role) };
-            let whole = format!("{role}{}", row.words);
-            let words = shortened(&whole, 90);
-            let width = LETTER * (words.chars().count() + 2) as f64;
-            svg.block((x, y), (width, 22.0), colour(row.sort), &words, &whole);
+            let width = LETTER * (row.told().chars().count() + 2) as f64;
+            svg.block((x, y), (width, 22.0), colour(row.sort), &row.told(), &row.told());
         }
         svg.done(title)
     }
@@ -150,7 +156,8 @@ impl Tree<'_> {
             Way::Need { step, .. } => {
                 let one = &self.uses[*step];
                 let begin = begin.with("is", "use").with("step", *step).with("entry", one.number);
-                begin.with("kind", one.entry.word()).with("index", one.entry.index()).with("name", one.name)
+                let begin = begin.with("kind", one.entry.word()).with("index", one.entry.index());
+                begin.with("name", one.name).with("word", self.names.given(one.name))
             }
             Way::Lend { number, .. } => begin.with("is", "lend").with("entry", *number),
             _ => begin.with("is", words.clone()),

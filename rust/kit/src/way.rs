@@ -177,7 +177,7 @@ pub enum Amiss {
     /// A must line that no step uses and no rest takes.
     Unused { line: usize },
     /// A lent clause likewise.
-    LentOver { number: usize },
+    LentOver { number: usize, clause: usize },
     /// One side of an either way uses it at this step; the other does not, and has no rest for it.
     OneSide { number: usize, step: usize },
 }
@@ -215,10 +215,10 @@ fn spend(uses: &[Use], way: &Way) -> Result<Spent, Amiss> {
         }
         Way::Both(parts) => beside(spend(uses, &parts[0])?, spend(uses, &parts[1])?),
         Way::Either(parts) => instead(spend(uses, &parts[0])?, spend(uses, &parts[1])?),
-        Way::Lend { number, goal, .. } => {
+        Way::Lend { number, clause, goal } => {
             let mut spent = spend(uses, goal)?;
             match spent.items.remove(number) {
-                None if !spent.rest => Err(Amiss::LentOver { number: *number }),
+                None if !spent.rest => Err(Amiss::LentOver { number: *number, clause: *clause }),
                 _ => Ok(spent),
             }
         }

@@ -1,5 +1,6 @@
 //! The one reason behind a refusal, and the bytes it is about. Number and place are the proved call's; here they are put into words.
-use crate::card::{Card, Entry, Sound, FRONT, HEIGHT_LIMIT};
+use crate::card::{Card, Sound, FRONT, HEIGHT_LIMIT};
+use crate::files::MOST;
 use crate::kinds::Holds;
 use crate::names::Names;
 use crate::way::{amiss, walk, Amiss, Serves, Stop, Stopped, Use, Walk};
@@ -56,11 +57,17 @@ pub fn card(bytes: &[u8], refusal: Refusal, names: &Names) -> Why {
 }
 
 fn no_way(card: Card) -> String {
-    let (nesting, steps) = (card.nesting_limit(), card.step_limit());
-    format!(
-        "the goal cannot be had from these lines and rules with nesting {nesting} and {}",
-        count(steps, "step")
-    )
+    let (nesting, steps) = (card.nesting_limit(), count(card.step_limit(), "step"));
+    let lines = "each line used at most once and every must line used or taken by a rest";
+    format!("no way meets the goal with {lines}, within nesting {nesting} and {steps}")
+}
+
+/// A formula in parentheses, which it may have already.
+fn within(formula: &str) -> String {
+    match formula.starts_with('(') {
+        true => formula.to_string(),
+        false => format!("({formula})"),
+    }
 }
 
 /// So many of them, in words.
@@ -68,10 +75,18 @@ pub fn count(n: usize, word: &str) -> String {
     format!("{n} {word}{}", if n == 1 { "" } else { "s" })
 }
 
+/// How many bytes there are. Of a longer file only so many are read as show that it is too long.
+pub fn bytes_there(n: usize) -> String {
+    match n < MOST {
+        true => count(n, "byte"),
+        false => format!("more than {} bytes", MOST - 1),
+    }
+}
+
 /// 2: the length field, or bytes missing or too many behind a front that agrees with itself.
 fn wrong_length(card: Card) -> Why {
     let (says, lent) = (card.length(), card.bytes.len());
-    let there = format!("the length field says {says}, but there are {}", count(lent, "byte"));
+    let there = format!("the length field says {says}, but there are {}", bytes_there(lent));
     if says != card.formula_length() {
         return Why::front(0, 2, there);
     }
@@ -79,8 +94,8 @@ fn wrong_length(card: Card) -> Why {
         let (short, last) = (count(says - lent, "byte"), lent.min(8));
         return Why::new(lent, 0, (lent - last, last), format!("{there}: {short} missing at the end"));
     }
-    let over = count(lent - says, "byte");
-    Why::new(says, lent - says, (says, (lent - says).min(16)), format!("{there}: {over} too many"))
+    let over = lent - says;
+    Why::new(says, over, (says, over.min(16)), format!("{there}; the card ends before byte {says}"))
 }
 
 /// 4: the first of P, T, N and d that is.
@@ -96,7 +111,7 @@ fn out_of_range(card: Card) -> Why {
     Why::front(at, len, format!("{word} is {value}; it must be {least} to {most}"))
 }
 
-/// 5: the count that would make the card sound if it were another, where there is just one; else the length.
+/// 5: the count that would make the card sound if it were another, where there is just one; else all of P, T and N.
 fn wrong_counts(card: Card) -> Why {
     let (nodes, rules, lines) = (card.nodes(), card.rules(), card.lines());
     let asked = card.formula_length();
@@ -113,7 +128,7 @@ fn wrong_counts(card: Card) -> Why {
     let mut mended: Vec<Why> = mended.collect();
     match mended.len() {
         1 => mended.remove(0),
-        _ => Why::front(0, 2, sum),
+        _ => Why::front(3, 4, sum),
     }
 }
 
@@ -157,15 +172,18 @@ fn wrong_field(card: Card, i: usize, side: usize, names: &Names) -> Option<Strin
             .then(|| format!("its {word} field is {value}; a {} has nothing there, so 0", kind.word)),
         Holds::Goal | Holds::Clause => {
             let part = usize::from(value);
+            if i == 0 {
+                return Some(format!("its {word} part is node {part}; node 0 can have no parts"));
+            }
             if part >= i {
                 return Some(format!("its {word} part is node {part}; a part must be lower than {i}"));
             }
             let reads = card.kind(part)?.reads;
-            let formula = card.formula(part, names);
+            let formula = within(&card.formula(part, names));
             let asked = if holds == Holds::Goal { "goal" } else { "clause" };
             let role = kind.roles[side];
             (!holds.fits(reads)).then(|| {
-                format!("its {word} part is node {part}, {formula}, which is no {asked}; {role} must be one")
+                format!("its {word} part is node {part} {formula}, which is no {asked}; {role} must be one")
             })
         }
     }
@@ -183,7 +201,7 @@ fn wrong_root(card: Card, word: &str, at: usize, record: (usize, usize), names: 
     let words = if node >= card.nodes() {
         format!("{word} is node {node}; there are nodes 0 to {}", card.nodes() - 1)
     } else {
-        format!("{word} is node {node}, {}, which is no {asked}", card.formula(node, names))
+        format!("{word} is node {node} {}, which is no {asked}", within(&card.formula(node, names)))
     };
     Why::new(at, 2, record, words)
 }
@@ -207,8 +225,8 @@ pub fn sheet(card: Sound, sheet: &[u8], refusal: Refusal, names: &Names) -> Why 
     let steps = &sheet[5..5 + k];
     match refusal.place {
         Place::Mark(i) => wrong_mark(card, sheet, usize::from(i)),
-        Place::Step(i) => wrong_step(card, steps, usize::from(i), names),
-        _ => Why::new(5, k, (5, k), undivided(card, steps, names)),
+        Place::Step(i) => wrong_step(card, steps, usize::from(i), refusal, names),
+        _ => Why::new(5, k, (5, k), undivided(card, steps, refusal, names)),
     }
 }
 
@@ -275,11 +293,11 @@ pub fn served(one: &Use, uses: &[Use]) -> String {
     serves(one.serves, uses) + &sides
 }
 
-fn wrong_step(card: Sound, steps: &[u8], at: usize, names: &Names) -> Why {
+fn wrong_step(card: Sound, steps: &[u8], at: usize, refusal: Refusal, names: &Names) -> Why {
     let Walk { uses, end } = walk(card, steps);
     let record = (5, steps.len());
     let Err(Stopped { stop, name, nesting, serves: whom, .. }) = end else {
-        return Why::new(5 + at, 1, record, String::from("the step is wrong"));
+        return Why::new(5 + at, 1, record, refusal.reason().to_string());
     };
     let wanted = format!("{} is wanted there for {}", names.word(name), serves(whom, &uses));
     let (len, words) = match stop {
@@ -290,10 +308,10 @@ fn wrong_step(card: Sound, steps: &[u8], at: usize, names: &Names) -> Why {
         }
         Stop::Misfit { clause } => {
             let entry = card.entry(usize::from(steps[at]));
-            let formula = card.formula(clause, names);
+            let formula = within(&card.formula(clause, names));
             let gives =
                 card.head(clause).map_or("gives nothing".to_string(), |n| format!("gives {}", names.word(n)));
-            (1, format!("step {at} is {entry}, {formula}, which {gives}; {wanted}"))
+            (1, format!("step {at} is {entry} {formula}, which {gives}; {wanted}"))
         }
         Stop::Deep => {
             let limit = card.nesting_limit();
@@ -317,29 +335,30 @@ fn entries_there(entries: usize) -> String {
 }
 
 /// 19: what does not divide.
-fn undivided(card: Sound, steps: &[u8], names: &Names) -> String {
+fn undivided(card: Sound, steps: &[u8], refusal: Refusal, names: &Names) -> String {
     let Walk { uses, end } = walk(card, steps);
-    let found = end.ok().and_then(|way| amiss(card, &uses, &way));
-    let called = |number: usize| match card.entry(number) {
-        Entry::Line(i) => format!("line {i}, {},", card.formula(card.line(i).node, names)),
-        entry => format!("{entry}"),
+    let called = |number: usize, clause: usize| {
+        format!("{} {}", card.entry(number), within(&card.formula(clause, names)))
     };
-    match found {
+    match end.ok().and_then(|way| amiss(card, &uses, &way)) {
         Some(Amiss::Twice { number, steps: [one, other] }) => {
-            format!("{} is used at step {one} and again at step {other}", called(number))
+            let entry = called(number, uses[one].clause);
+            format!("{entry} is used at step {one} and again at step {other}")
         }
         Some(Amiss::Unused { line }) => {
-            format!("{} must be used, but no step uses it and no rest takes it", called(card.rules() + line))
+            let entry = called(card.rules() + line, card.line(line).node);
+            format!("{entry} must be used, but no step uses it and no rest takes it")
         }
-        Some(Amiss::LentOver { number }) => {
-            format!("{} is left over: no step uses it and no rest takes it", called(number))
+        Some(Amiss::LentOver { number, clause }) => {
+            let entry = called(number, clause);
+            format!("{entry} is left over: no step inside its lend uses it and no rest there takes it")
         }
         Some(Amiss::OneSide { number, step }) => {
+            let entry = called(number, uses[step].clause);
             format!(
-                "{} is used at step {step} in one way, but the other way neither uses it nor has a rest",
-                called(number)
+                "{entry} is used at step {step} in one way, but the other way neither uses it nor has a rest"
             )
         }
-        None => kit_planner::Refusal { number: 19, place: Place::Steps }.reason().to_string(),
+        None => refusal.reason().to_string(),
     }
 }

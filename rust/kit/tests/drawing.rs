@@ -35,7 +35,7 @@ fn every_byte_of_a_card_is_drawn() {
         whole(&bytes, &fields);
         if i % 50 == 0 {
             let boxes = fields.len();
-            let drawn = Drawn { title: String::new(), bytes: &bytes, fields, wrong: None };
+            let drawn = Drawn { title: String::new(), refusal: None, bytes: &bytes, fields, wrong: None };
             assert_eq!(svg("", &[drawn]).matches("<rect x=").count(), boxes);
         }
     }

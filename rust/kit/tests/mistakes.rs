@@ -8,7 +8,7 @@ use std::{env, process};
 const FRONT: &str = "name seal 101\nname body 102\nlimits nesting 4 steps 8\ngoal seal\n";
 
 /// A line behind FRONT, the columns of the carets, and what is wrong there.
-const LINES: [(&str, (usize, usize), &str); 40] = [
+const LINES: [(&str, (usize, usize), &str); 42] = [
     ("must bodi", (6, 4), "\"bodi\" is no name"),
     ("must (seal gives bodi)", (18, 4), "\"bodi\" is no name"),
     ("rule (seal gives 1000)", (18, 4), "1000 is too much: a name goes to 999"),
@@ -78,7 +78,9 @@ const LINES: [(&str, (usize, usize), &str); 40] = [
         (1, 4),
         "\"muss\" begins no statement: name, limits, goal, rule, must, may, node, bytes do",
     ),
-    ("must seal!", (10, 1), "'!' cannot stand here"),
+    ("must seal!", (10, 1), "\"!\" cannot stand here"),
+    ("must seal\u{1b}[1m", (10, 1), "U+001B cannot stand here"),
+    ("must seal times 0", (17, 1), "0 times something is no line"),
     ("\tmust\tbodi", (7, 4), "\"bodi\" is no name"),
     ("node 5 rest", (6, 1), "node 1 is expected here"),
     ("node 1 both 0 1", (15, 1), "there is no node 1 yet"),
@@ -94,6 +96,7 @@ fn a_mistake_is_told_where_it_is() {
         let Err(mistake) = parse(&text, &Names::default()) else { panic!("{line:?} passes") };
         let under: String =
             line.chars().take(column - 1).map(|c| if c == '\t' { '\t' } else { ' ' }).collect();
+        let line = line.replace('\u{1b}', "\u{fffd}");
         let told = format!("desk.txt:5:{column}: {words}\n{line}\n{under}{}\n", "^".repeat(width));
         assert_eq!(mistake.told("desk.txt", &text), told);
     }
@@ -132,6 +135,18 @@ fn past_limits() -> Vec<(String, String)> {
         (format!("{front}must {}1\n", "(".repeat(100_000)), "3:70: parentheses are nested too deep".into()),
         ("bytes 0\n".into(), "1:7: \"0\" is no byte: two hex digits are".into()),
         ("bytes 00 0G\n".into(), "1:10: \"0G\" is no byte: two hex digits are".into()),
+        (
+            "limits nesting 1 steps 1\nbytes 00\n".into(),
+            "2:1: a card is written by \"bytes\" alone, or without".into(),
+        ),
+        (
+            "limits nesting 17 steps 1\nname 5\n".into(),
+            "1:16: 17 is too much: the nesting limit goes to 16".into(),
+        ),
+        (
+            "goal cup\nname 5\nname cup 7\n$".into(),
+            "2:6: \"5\" cannot be a name's word: it begins with no letter, or the format keeps it".into(),
+        ),
         ("bytes 00\ngoal 1\n".into(), "2:1: a card is written by \"bytes\" alone, or without".into()),
         (
             "node 0 name 1\nnode 1 0 gives 0\nnode 2 both 0 1\n".into(),
@@ -168,4 +183,15 @@ fn the_limits_themselves_are_kept() {
     let quantity = "limits nesting 0 steps 0\ngoal (128 of 0)\n";
     let bytes = parse(quantity, &Names::default()).expect("it has height 8").bytes;
     assert_eq!(bytes.len(), 11 + 5 * 8);
+}
+
+#[test]
+fn of_a_long_line_the_part_around_the_mistake_is_shown() {
+    let line = format!("must {}bodi {}", " ".repeat(1000), "x".repeat(1000));
+    let mistake = parse(&line, &Names::default()).err().expect("there is no such name");
+    let told = mistake.told("desk.txt", &line);
+    let lines: Vec<&str> = told.lines().collect();
+    assert_eq!(lines[0], "desk.txt:1:1006: \"bodi\" is no name");
+    assert_eq!(lines[1], format!("{}bodi {}", " ".repeat(80), "x".repeat(35)));
+    assert_eq!(lines[2], format!("{}^^^^", " ".repeat(80)));
 }

@@ -80,12 +80,9 @@ fn any_bytes_can_be_written() {
     for seed in 0..20_000 {
         let bytes = any_card(r);
         let text = as_bytes(&bytes, &words(seed));
-        let again = parse(&text, &Names::default());
-        match again {
-            Ok(again) => assert_eq!(again.bytes, bytes, "card {seed}"),
-            Err(_) => assert!(bytes.is_empty(), "card {seed}"),
-        }
+        assert_eq!(parsed(&text, &Names::default()), bytes, "card {seed}");
     }
+    assert_eq!(parsed(&as_bytes(&[], &Names::default()), &Names::default()), []);
 }
 
 /// What the program prints for this input.

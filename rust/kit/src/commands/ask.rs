@@ -3,7 +3,7 @@ use super::told::{about, refusal, Manner, Tally, Told};
 use crate::card::{Card, Sound};
 use crate::fields::{mark_word, must_word};
 use crate::json::{object, Json};
-use crate::way::{walk, Use};
+use crate::way::{walk, Serves, Use};
 use crate::why::{self, count, served};
 use kit_planner::Refusal;
 
@@ -17,8 +17,8 @@ pub fn check(label: &str, bytes: &[u8], manner: Manner) -> Told {
         count(card.nodes(), "node"),
         count(card.rules(), "rule"),
         count(card.lines(), "line"),
-        format!("nesting {}", card.nesting_limit()),
-        count(card.step_limit(), "step"),
+        format!("nesting limit {}", card.nesting_limit()),
+        format!("at most {}", count(card.step_limit(), "step")),
     ];
     let line = format!("{label}: {}: {}\n", manner.paint.good("sound"), counts.join(", "));
     let json = about(label)
@@ -106,6 +106,10 @@ fn name_json(number: u16, manner: Manner) -> Json {
 }
 
 fn step_json(card: Sound, one: &Use, uses: &[Use], manner: Manner) -> Json {
+    let (step, condition) = match one.serves {
+        Serves::Goal => (None, None),
+        Serves::Condition { step, count } => (Some(step), Some(count)),
+    };
     object()
         .with("step", one.step)
         .with("entry", one.number)
@@ -115,6 +119,8 @@ fn step_json(card: Sound, one: &Use, uses: &[Use], manner: Manner) -> Json {
         .with("gives", name_json(one.name, manner))
         .with("nesting", one.nesting)
         .with("serves", served(one, uses))
+        .with("for_step", step)
+        .with("condition", condition)
 }
 
 fn line_json(card: Sound, i: usize, mark: u8, manner: Manner) -> Json {

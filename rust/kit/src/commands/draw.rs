@@ -4,14 +4,14 @@ use super::told::{about, refusal_json, refused, Manner, Tally, Told};
 use crate::args::Options;
 use crate::card::{Card, Sound};
 use crate::fields::{card_fields, sheet_fields, Field};
-use crate::files::{label, print, read, write, Trouble};
+use crate::files::{label, print, read, write, Trouble, MOST};
 use crate::json::{object, Json};
 use crate::names::Names;
 use crate::paint::Paint;
 use crate::picture::{svg, Drawn};
 use crate::tree::Tree;
 use crate::way::{walk, Use, Walk};
-use crate::why::{self, count, Why};
+use crate::why::{self, bytes_there, count, Why};
 use kit_planner::Refusal;
 use std::ffi::OsStr;
 use std::fmt::Write;
@@ -44,10 +44,10 @@ impl<'a> Shown<'a> {
         refusal: Option<(Refusal, Why)>,
     ) -> Shown<'a> {
         let wrong = refusal.as_ref().and_then(|(_, why)| why.wrong).map(|wrong| (wrong.at, wrong.len));
-        let told =
-            refusal.as_ref().map_or(String::new(), |(found, why)| format!(", {}", refused(*found, why, of)));
-        let title = format!("{of} {}, {}{told}", label(file), count(bytes.len(), "byte"));
-        Shown { of, file: label(file), drawn: Drawn { title, bytes, fields, wrong }, refusal }
+        let title = format!("{of} {}, {}", label(file), bytes_there(bytes.len()));
+        let told = |(found, why): &(Refusal, Why)| format!("{}: {}", refused(*found, why, of), why.words);
+        let drawn = Drawn { title, refusal: refusal.as_ref().map(told), bytes, fields, wrong };
+        Shown { of, file: label(file), drawn, refusal }
     }
 }
 
@@ -63,7 +63,11 @@ pub fn show(options: &Options, names: &Names) -> Result<u8, Trouble> {
     if let Some(sheet) = &sheet {
         let (uses, refusal) = sound.map_or((Vec::new(), None), |card| read_against(card, sheet, names));
         let fields = sheet_fields(Card::new(&bytes), sheet, &uses, names);
-        all.push(Shown::new("sheet", &options.files[1], sheet, fields, refusal));
+        let mut shown = Shown::new("sheet", &options.files[1], sheet, fields, refusal);
+        if sound.is_err() {
+            shown.drawn.title += ", not read: its card is refused";
+        }
+        all.push(shown);
     }
     let refused = all.iter().any(|shown| shown.refusal.is_some());
     put(options, &shown(options, all, manner))?;
@@ -109,23 +113,24 @@ fn drawing(shown: &Shown, paint: Paint) -> String {
         let name = format!("{first:<11}{second:<7}");
         let name = paint.part(field.part.word(), &name);
         let _ = writeln!(text, "{:>6}  {:<8}{name}{value}", field.at, field.hex(bytes));
-        if shown.drawn.is_wrong(field) {
-            let _ = writeln!(text, "{:>6}  {}", "", paint.bad(&under(field, shown.drawn.wrong)));
+        let under = under(field, shown.drawn.wrong);
+        if !under.is_empty() {
+            let _ = writeln!(text, "{:>6}  {}", "", paint.bad(&under));
         }
     }
-    let _ = writeln!(text, "{:>6}  end", bytes.len());
-    if let Some((refusal, why)) = &shown.refusal {
-        let head = refused(*refusal, why, shown.of);
-        let _ = writeln!(text, "\n{}: {}", paint.bad(&head), why.words);
+    let _ = writeln!(text, "{:>6}  {}", bytes.len(), if bytes.len() < MOST { "end" } else { "and more" });
+    if let Some(refusal) = &shown.drawn.refusal {
+        let _ = writeln!(text, "\n{}", paint.bad(refusal));
     }
     text
 }
 
-/// Carets under the wrong bytes of a field.
+/// Carets under the wrong bytes of a field; one behind its last where bytes are missing there.
 fn under(field: &Field, wrong: Option<(usize, usize)>) -> String {
+    let end = field.at + field.len;
     let (at, len) = wrong.unwrap_or_default();
-    let marks =
-        (field.at..field.at + field.len).map(|i| if (at..at + len).contains(&i) { "^^" } else { "  " });
+    let marked = |i: usize| (at..at + len).contains(&i) && i < end || wrong == Some((i, 0)) && i == end;
+    let marks = (field.at..=end).map(|i| if marked(i) { "^^" } else { "  " });
     marks.collect::<Vec<_>>().join(" ").trim_end().to_string()
 }
 
@@ -167,6 +172,7 @@ pub fn tree(options: &Options, names: &Names) -> Result<u8, Trouble> {
     if told.tally != Tally::Good {
         return not_drawn(options, told);
     }
+    let given = sheet.is_some();
     let sheet = sheet.or(told.sheet).unwrap_or_default();
     let card = Sound::checked(&bytes).map_err(|found| Trouble::new(&file, found))?;
     let Walk { uses, end } = walk(card, &sheet[5..5 + usize::from(sheet[3])]);
@@ -178,7 +184,9 @@ pub fn tree(options: &Options, names: &Names) -> Result<u8, Trouble> {
     } else if options.has("--dot") {
         tree.dot()
     } else if options.has("--json") {
-        format!("{}\n", about(&file).with("k", uses.len()).with("way", tree.json()))
+        let answer = if given { "accepted" } else { "planned" };
+        let begin = about(&file).with("sheet", options.files.get(1).map(|file| label(file)));
+        format!("{}\n", begin.with("answer", answer).with("k", uses.len()).with("way", tree.json()))
     } else {
         tree.text(manner.paint)
     };

@@ -3,7 +3,7 @@ use super::ask;
 use super::told::{about, error, Manner, Tally, Told};
 use crate::args::{Command, Options};
 use crate::batch;
-use crate::files::{cards_in, is_stream, label, print, read, Pending, Trouble};
+use crate::files::{files_in, is_stream, label, print, read, Pending, Trouble};
 use crate::json::{object, Json};
 use crate::names::Names;
 use crate::paint::Paint;
@@ -55,7 +55,7 @@ fn cards(files: &[OsString]) -> Result<(Vec<Task>, bool), Trouble> {
     for file in files {
         if Path::new(file).is_dir() {
             many = true;
-            found.extend(cards_in(file)?.into_iter().map(|path| Task::new(path, None)));
+            found.extend(files_in(file, "card")?.into_iter().map(|path| Task::new(path, None)));
         } else {
             found.push(Task::new(file, None));
         }
@@ -63,23 +63,18 @@ fn cards(files: &[OsString]) -> Result<(Vec<Task>, bool), Trouble> {
     Ok((found, many))
 }
 
-/// NAME.sheet in this folder, for NAME.card.
-fn sheet_in(folder: &OsStr, card: &Path) -> OsString {
-    Path::new(folder).join(card.with_extension("sheet").file_name().unwrap_or_default()).into()
+/// The file of the same name with another ending, in this folder.
+fn beside(folder: &OsStr, file: &Path, ending: &str) -> OsString {
+    Path::new(folder).join(file.with_extension(ending).file_name().unwrap_or_default()).into()
 }
 
-/// Cards with their sheets: one after the other, or all of a folder with those beside them or in a second folder.
+/// Cards with their sheets in turn; or each NAME.sheet of a folder with NAME.card beside it, or in a first folder.
 fn pairs(files: &[OsString]) -> Result<(Vec<Task>, bool), Trouble> {
     let folder = |file: &OsString| Path::new(file).is_dir();
-    if let [cards, rest @ ..] = files {
-        if folder(cards) && (rest.is_empty() || rest.len() == 1 && folder(&rest[0])) {
-            let sheets = rest.first().unwrap_or(cards);
-            let pair = |card: PathBuf| {
-                let sheet = sheet_in(sheets, &card);
-                Task::new(card, Some(sheet))
-            };
-            return Ok((cards_in(cards)?.into_iter().map(pair).collect(), true));
-        }
+    if files.len() <= 2 && files.iter().all(folder) {
+        let (cards, sheets) = (&files[0], &files[files.len() - 1]);
+        let pair = |sheet: PathBuf| Task::new(beside(cards, &sheet, "card"), Some(sheet.into()));
+        return Ok((files_in(sheets, "sheet")?.into_iter().map(pair).collect(), true));
     }
     if files.len() % 2 == 1 || files.iter().any(folder) {
         let usage =
@@ -105,7 +100,7 @@ fn place_sheets(output: Option<&OsString>, tasks: &mut [Task], many: bool) -> Re
     }
     let mut seen = BTreeSet::new();
     for task in tasks {
-        let place = sheet_in(output, Path::new(&task.card));
+        let place = beside(output, Path::new(&task.card), "sheet");
         if !seen.insert(place.clone()) {
             return Err(Trouble::new(&label(&place), "two of the cards would have this sheet"));
         }

@@ -56,7 +56,10 @@ pub fn carets(bytes: &[u8], wrong: Wrong, paint: Paint) -> String {
     const ROW: usize = 16;
     let (from, len) = wrong.record;
     let shown = &bytes[from.min(bytes.len())..(from + len).min(bytes.len())];
-    let marked = wrong.at..wrong.at + wrong.len.max(1);
+    let marked = match wrong.len {
+        0 => wrong.at..wrong.at + 1,
+        len => wrong.at..(wrong.at + len).min(from + shown.len()),
+    };
     let mut text = String::new();
     let rows = (shown.len() + 1).div_ceil(ROW);
     for row in 0..rows {

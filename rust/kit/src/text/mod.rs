@@ -1,4 +1,6 @@
 //! Text cards: one statement a line, read and written.
+use crate::files::plain;
+
 mod draft;
 mod parse;
 mod statement;
@@ -18,13 +20,20 @@ pub struct Mistake {
     pub words: String,
 }
 
+/// Letters of a line that are shown, and how many of them before what is wrong.
+const SHOWN: usize = 120;
+const BEFORE: usize = 80;
+
 impl Mistake {
-    /// As `FILE:7:12: words`, with the line and a caret under what is wrong.
+    /// As `FILE:7:12: words`, with the line, or its part around what is wrong, and carets under that.
     pub fn told(&self, file: &str, text: &str) -> String {
         let Mistake { line, column, width, words } = self;
-        let shown = text.lines().nth(line - 1).unwrap_or("").trim_end_matches('\r');
-        let under: String =
-            shown.chars().take(column - 1).map(|c| if c == '\t' { '\t' } else { ' ' }).collect();
-        format!("{file}:{line}:{column}: {words}\n{shown}\n{under}{}\n", "^".repeat((*width).max(1)))
+        let whole: Vec<char> = plain(text.lines().nth(line - 1).unwrap_or("")).chars().collect();
+        let from = if column - 1 > BEFORE { column - 1 - BEFORE } else { 0 };
+        let shown: String = whole[from..].iter().take(SHOWN).collect();
+        let before = whole[from..].iter().take(column - 1 - from);
+        let under: String = before.map(|&c| if c == '\t' { '\t' } else { ' ' }).collect();
+        let carets = "^".repeat((*width).clamp(1, SHOWN - (column - 1 - from)));
+        format!("{file}:{line}:{column}: {words}\n{shown}\n{under}{carets}\n")
     }
 }

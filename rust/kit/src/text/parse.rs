@@ -40,20 +40,31 @@ fn lines(text: &str) -> impl Iterator<Item = (usize, &str)> {
 
 /// The names that a text gives, beside those known before. Its other statements are left alone.
 pub fn names_of(text: &str, known: &Names) -> Outcome<Names> {
-    let mut names = known.clone();
-    for (number, line) in lines(text) {
-        let mut statement = Statement::new(number, line)?;
-        match statement.peek() {
-            Some("name") => name(&mut statement, &mut names)?,
-            Some(word) if !STATEMENTS.contains(&word) => {
-                statement.next = 1;
-                return statement
-                    .wrong(format!("\"{word}\" begins no statement: {} do", STATEMENTS.join(", ")));
-            }
-            _ => {}
-        }
+    match gathered(text, known) {
+        (names, None) => Ok(names),
+        (_, Some(mistake)) => Err(mistake),
     }
-    Ok(names)
+}
+
+/// All names that are rightly given, and the first mistake.
+fn gathered(text: &str, known: &Names) -> (Names, Option<Mistake>) {
+    let mut names = known.clone();
+    let mut first = None;
+    for (number, line) in lines(text) {
+        let begun = Statement::new(number, line).and_then(|mut statement| match statement.peek() {
+            Some("name") => name(&mut statement, &mut names),
+            _ => known_statement(&mut statement),
+        });
+        first = first.or(begun.err());
+    }
+    (names, first)
+}
+
+/// Nothing, or what begins a statement.
+fn known_statement(statement: &mut Statement) -> Outcome<()> {
+    let Some(word) = statement.peek().filter(|word| !STATEMENTS.contains(word)) else { return Ok(()) };
+    statement.next = 1;
+    statement.wrong(format!("\"{word}\" begins no statement: {} do", STATEMENTS.join(", ")))
 }
 
 /// `name WORD NUMBER`
@@ -70,40 +81,42 @@ fn name(statement: &mut Statement, names: &mut Names) -> Outcome<()> {
     statement.ended()
 }
 
-/// The card that a text writes.
+/// The card that a text writes, or its first mistake.
 pub fn parse(text: &str, known: &Names) -> Outcome<Parsed> {
-    let names = names_of(text, known)?;
+    let (names, first) = gathered(text, known);
+    let parsed = with_names(text, names);
+    match (first, parsed) {
+        (Some(first), Err(other)) if other.line < first.line => Err(other),
+        (Some(first), _) => Err(first),
+        (None, parsed) => parsed,
+    }
+}
+
+fn with_names(text: &str, names: Names) -> Outcome<Parsed> {
     let mut parser = Parser { names, draft: Draft::default(), raw: None };
     let mut last = 1;
     for (number, line) in lines(text) {
-        let mut statement = Statement::new(number, line)?;
-        parser.statement(&mut statement)?;
+        parser.statement(&mut Statement::new(number, line)?)?;
         last = number;
     }
     let Parser { names, draft, raw } = parser;
-    if let Some(bytes) = raw {
-        return Ok(Parsed { bytes, names });
-    }
     let missing = if draft.goal.is_none() { "goal" } else { "limits" };
-    match draft.bytes() {
+    match raw.or_else(|| draft.bytes()) {
         Some(bytes) => Ok(Parsed { bytes, names }),
-        None => Err(Mistake {
-            line: last,
-            column: 1,
-            width: 1,
-            words: format!("the card has no \"{missing}\" statement"),
-        }),
+        None => {
+            let words = format!("the card has no \"{missing}\" statement");
+            Err(Mistake { line: last, column: 1, width: 1, words })
+        }
     }
 }
 
 impl Parser {
     fn statement(&mut self, s: &mut Statement) -> Outcome<()> {
-        let Some(word) = s.peek() else { return Ok(()) };
-        if word == "name" {
-            return Ok(());
-        }
+        known_statement(s)?;
+        let Some(word) = s.peek().filter(|&word| word != "name") else { return Ok(()) };
         s.next = 1;
-        if word != "bytes" && self.raw.is_some() || word == "bytes" && !self.draft.is_empty() {
+        let begun = !self.draft.is_empty() || self.draft.limits.is_some();
+        if word != "bytes" && self.raw.is_some() || word == "bytes" && begun {
             return s.wrong("a card is written by \"bytes\" alone, or without".to_string());
         }
         match word {
@@ -154,6 +167,9 @@ impl Parser {
         if s.peek() == Some("times") {
             s.next += 1;
             times = s.number("the number of lines", LINE_LIMIT)?;
+            if times == 0 {
+                return s.wrong("0 times something is no line".to_string());
+            }
         }
         if self.draft.lines.len() + times > LINE_LIMIT {
             s.next = 1;

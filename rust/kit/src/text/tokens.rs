@@ -31,7 +31,9 @@ pub fn tokens(number: usize, line: &str) -> Result<Vec<Token<'_>>, Mistake> {
             c if c.is_whitespace() => 0,
             c if in_word(c) => rest.find(|c| !in_word(c)).unwrap_or(rest.len()),
             c => {
-                let words = format!("{c:?} cannot stand here");
+                let shown =
+                    if c.is_ascii_graphic() { format!("\"{c}\"") } else { format!("U+{:04X}", u32::from(c)) };
+                let words = format!("{shown} cannot stand here");
                 return Err(Mistake { line: number, column, width: 1, words });
             }
         };
@@ -46,9 +48,9 @@ pub fn tokens(number: usize, line: &str) -> Result<Vec<Token<'_>>, Mistake> {
 }
 
 /// Words of the format: no name can be one.
-pub const KEPT: [&str; 21] = [
+pub const KEPT: [&str; 20] = [
     "name", "limits", "nesting", "steps", "goal", "rule", "must", "may", "node", "bytes", "both", "either",
-    "way", "lend", "to", "gives", "rest", "done", "of", "times", "recipe",
+    "way", "lend", "to", "gives", "rest", "done", "of", "times",
 ];
 
 /// Whether it can be a name's word.

@@ -85,7 +85,7 @@ fn node(card: Sound, i: usize, names: &Names) -> String {
 
 /// Any bytes, a field a line, with what each is.
 pub fn as_bytes(bytes: &[u8], names: &Names) -> String {
-    let mut text = String::new();
+    let mut text = String::from(if bytes.is_empty() { "bytes\n" } else { "" });
     for field in card_fields(Card::new(bytes), names) {
         let hex = field.hex(bytes);
         let about = field.about();
