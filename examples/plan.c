@@ -12,7 +12,7 @@
 #include <stdio.h>
 #include <string.h>
 
-/* One byte more than the longest card, so that a longer file is refused as it would be in full. */
+/* One byte more than the longest card, so that a longer file is refused too. */
 #define ROOM (KIT_CARD_MAX + 1)
 
 static const char *const places[] = {"card", "node", "rule", "line", "sheet", "steps", "mark", "step"};

@@ -31,6 +31,21 @@ OTHER_CARD = {17: "shallow"}
 SVG = "{http://www.w3.org/2000/svg}"
 
 
+# what is told of the sample card without its last line, and drawn of it with 20 bytes behind
+CUT = """-: refused 2 at the card, byte 37
+the length field says 40, but there are 37 bytes: 3 bytes missing at the end
+
+    29  00 00 00 00 01 00 02 01
+                                ^^
+"""
+BEHIND = f"""    40  {"00 " * 15}00  behind the end       16 bytes
+        {"^^ " * 15}^^
+    56  00 00 00 00  behind the end       4 bytes
+        ^^ ^^ ^^ ^^
+    60  end
+"""
+
+
 class Wrong(Exception):
     """A check that failed."""
 
@@ -138,7 +153,7 @@ def well_formed(words, done):
     text = done.stdout.decode()
     if "--json" in words:
         check([json.loads(line, object_pairs_hook=once) for line in text.splitlines()], f"{words}: no JSON")
-    if "--svg" in words and done.returncode < 2 and text.startswith("<"):
+    if "--svg" in words and (words[0] == "show" or done.returncode == 0):
         picture(words, text)
     if "--dot" in words and done.returncode == 0:
         lines = text.splitlines()
@@ -156,8 +171,7 @@ def picture(words, text):
         sizes = [(float(g.find(SVG + "rect").get("width")), len(g.find(SVG + "text").text.split())) for g in boxes]
         check(all(width == 30 * count for width, count in sizes), f"{words}: a box is not to scale")
         files = [ROOT / w for w in words if w.endswith((".card", ".sheet"))]
-        there = [f.stat().st_size for f in files]
-        check(sum(count for _, count in sizes) in (sum(there), there[0]), f"{words}: bytes without a box")
+        check(sum(count for _, count in sizes) == sum(f.stat().st_size for f in files), f"{words}: bytes without a box")
 
 
 def stored_outputs(kit, write):
@@ -200,7 +214,7 @@ def manual(kit):
         for line in usage:
             check(dots.sub("", line) in told, f"kit.1 has another synopsis: {line}")
         for option in set(re.findall(r"(?<![\w-])--?[a-z][a-z-]*", text)):
-            check(option in plain, f"kit.1 does not tell {option}")
+            check(re.search(rf"\n\.BI? {option}[ \n]", plain), f"kit.1 does not tell {option}")
 
 
 def both_forms(kit):
@@ -240,7 +254,7 @@ def lost_output(kit):
         os.close(reader)
         fails(kit, f"{words} to a closed pipe", *words, stdout=writer)
         os.close(writer)
-        fails(kit, f"{words} without standard output", *words, stdout=None, preexec_fn=lambda: os.close(1))
+        fails(kit, f"{words} without standard output", *words, stdout=subprocess.DEVNULL, preexec_fn=lambda: os.close(1))
 
 
 def failing_files(kit, folder):
@@ -278,6 +292,10 @@ def failing_files(kit, folder):
     kit.out("card", "cards/sample.txt", "-o", str(link))
     check(link.is_symlink() and ahead.read_bytes() == kept.read_bytes(), "a link to nothing yet, and a long name")
     fails(kit, "a card over itself", "plan", str(kept), "-o", str(kept))
+    fails(kit, "a card among many over itself", "plan", str(kept), sample, "-o", str(folder))
+    check(kept.read_bytes() == (ROOT / sample).read_bytes(), "a card that was read is gone")
+    for place in ("/dev/stdout", "/dev/fd/1"):
+        check(kit.out("card", "cards/sample.txt", "-o", place) == (ROOT / sample).read_bytes(), f"{place} is a pipe")
     fails(kit, "a names file over itself", "text", sample, "--names", "cards/depot.names", "-o", "cards/depot.names")
     odd = os.fsdecode(os.fsencode(folder) + b"/\xff.sheet")
     kit.out("plan", sample, "-o" + odd)
@@ -297,7 +315,7 @@ def cut_off(kit, folder):
         child.stdout.close()
         child.stderr.read()
         child.stderr.close()
-        check(child.wait(60) in (0, 2), "a closed pipe among many")
+        check(child.wait(60) == 2, "a closed pipe among many")
         wrong = [f.name for f in sheets.iterdir() if f.read_bytes() != (ROOT / "cards/pump.sheet").read_bytes()]
         check(not wrong and all(f.suffix == ".sheet" for f in sheets.iterdir()), f"left over: {wrong}")
 
@@ -306,6 +324,7 @@ def wrong_usage(kit):
     for words in ([], ["fly"], ["plan"], ["plan", "a", "--svg"], ["show", "a", "b", "c"], ["text", "--nodes", "--bytes", "a"], ["plan", "-j", "0", "a"],
                   ["plan", "a", "-o"], ["read", "cards/sample.card"], ["read", "-", "-"], ["check", "-", "--names", "-"], ["tree", "--svg", "--dot", "a"],
                   ["plan", "cards", "-o", "cards/pump.card"], ["check", "docs"], ["card", "-o", "x", "--json=1", "y"],
+                  ["read", "cards", "cards/pump.sheet"], ["check", "--", "--help"], ["plan", "-j", "+4", "cards/sample.card"],
                   ["plan", "cards/sample.card", "-o", "-", "--json"], ["card", "cards/sample.txt", "-o", "-", "--json"]):
         check(not fails(kit, words, *words).stdout, f"{words}: something was printed")
 
@@ -323,10 +342,15 @@ def streams(kit):
     check((done.returncode, done.stderr) == (2, b"-:2:1: this is no UTF-8 text\n"), f"{done}")
     long = kit.run("check", "-", input=card + bytes(200_000))
     check(long.returncode == 1 and b"refused 2" in long.stdout and b"more than 65535 bytes" in long.stdout, "a long file")
+    check(b" 65536  and more\n" in kit.run("show", "-", input=card + bytes(200_000)).stdout, "a long file drawn")
+    long = kit.run("read", "cards/sample.card", "-", input=bytes(200_000))
+    check(b"says 0, but there are more than 65535 bytes" in long.stdout, "a long sheet")
+    check(kit.run("check", "-", input=card[:-3]).stdout.decode() == CUT, "a card that is cut off")
+    check(BEHIND in kit.run("show", "-", input=card + bytes(20)).stdout.decode(), "bytes behind a card")
     long = kit.run("card", "-", input=text + b"# comment\n" * 1_700_000 + b"must 7\n")
     check(long.returncode == 2 and not long.stdout and b"at most 16777216 bytes" in long.stderr, "a text that is too long")
     for words in (["check", "-"], ["card", "-"], ["read", "cards/sample.card", "-"]):
-        done = fails(kit, f"{words} without standard input", *words, stdin=None, preexec_fn=lambda: os.close(0))
+        done = fails(kit, f"{words} without standard input", *words, stdin=subprocess.DEVNULL, preexec_fn=lambda: os.close(0))
         check(b"standard input: it is closed" in done.stderr, f"{words}: {done.stderr}")
     words = kit.out("plan", "cards/pump.card", "--names", "cards/pump.txt")
     check(words == kit.out("plan", "cards/pump.card", *NAMES), "the names of a text card")
@@ -351,7 +375,8 @@ def odd_names(kit, folder):
 def on_terminal(kit, words, **more):
     """What it writes where both its outputs are a terminal, and its exit status."""
     ours, theirs = pty.openpty()
-    child = subprocess.Popen([kit.program, *words], stdin=subprocess.DEVNULL, stdout=theirs, stderr=theirs, cwd=ROOT, **more)
+    more = {"cwd": ROOT, **more}
+    child = subprocess.Popen([kit.program, *words], stdin=subprocess.DEVNULL, stdout=theirs, stderr=theirs, **more)
     os.close(theirs)
     return child, ours
 
@@ -381,6 +406,11 @@ def colours(kit):
         done = kit.run(*words, env=plain)
         check(b"\x1b[" not in done.stdout, f"{words}: colour in a pipe")
         check(re.sub(rb"\x1b\[[\d;]*m", b"", coloured).replace(b"\r", b"") == done.stdout, f"{words}: other words on a terminal")
+    with tempfile.TemporaryDirectory() as folder:
+        file = f"{folder}/drawn"
+        for words in (["show", "cards/sample.card", "-o", file], ["tree", "cards/sample.card", "-o", file]):
+            all_of(*on_terminal(kit, words, env=plain))
+            check(b"\x1b" not in pathlib.Path(file).read_bytes(), f"{words}: colour in a file")
     text, status = all_of(*on_terminal(kit, ["card", "cards/sample.txt"]))
     check(status == 2 and text.startswith(b"kit: a card is bytes"), "no bytes on a terminal")
 
@@ -404,8 +434,17 @@ def long_card(kit, folder):
     (folder / "4.card").write_bytes(card)
     sheets = folder / "sheets"
     sheets.mkdir()
-    child, ours = on_terminal(kit, ["plan", "-j", "1", str(folder), "-o", str(sheets)], env={**os.environ, "NO_COLOR": "1"})
-    seen(ours, rb"0 of 4 told, .*1-slow.card since \d+ s")
+    child, ours = on_terminal(kit, ["plan", "-j", "1", ".", "-o", "sheets"], env={**os.environ, "NO_COLOR": "1"}, cwd=folder)
+    try:
+        held_up_none(child, ours, folder, sheets)
+    finally:
+        child.kill()
+
+
+def held_up_none(child, ours, folder, sheets):
+    card = (ROOT / "cards/sample.card").read_bytes()
+    line = seen(ours, rb"0 of 4 told, \d+ s with \./1-slow.card")
+    check(all(len(part) < 80 for part in line.split(b"\r\x1b[K")), f"the progress is more than a line: {line}")
     # both wait to be read, so two cards are at hand though one at a time was asked for; and the others are written meanwhile
     end = time.monotonic() + 60
     while not (sheets / "4.sheet").exists() and time.monotonic() < end:
@@ -428,6 +467,9 @@ def many_cards(kit, folder):
     for sheet in ROOT.glob("cards/*.sheet"):
         check((folder / sheet.name).read_bytes() == sheet.read_bytes(), f"{sheet.name} among many")
     check(len(list(folder.iterdir())) == 4, "a sheet for each planned card")
+    for card in ROOT.glob("cards/*.card"):
+        (folder / card.name).write_bytes(card.read_bytes())
+    check(kit.run("plan", str(folder), "-o", str(folder)).returncode == 1, "sheets beside their cards")
     told = kit.out("read", "cards", str(folder))
     check(told.endswith(b"4 cards: 4 accepted, 0 refused, 0 errors\n"), "cards of one folder with sheets of another")
     fails(kit, "two cards, one sheet", "plan", "cards/pump.card", "cards/pump.card", "-o", str(folder))

@@ -88,7 +88,8 @@ pages() {
 # compiled SOURCE PROGRAM: as C99 by what pkg-config says
 compiled() {
     local flags
-    read -ra flags < <(PKG_CONFIG_PATH=$prefix/lib/pkgconfig pkg-config --cflags --libs kit_planner)
+    # pkg-config escapes what is in a path, for a shell to read
+    eval "flags=($(PKG_CONFIG_PATH=$prefix/lib/pkgconfig pkg-config --cflags --libs kit_planner))"
     check "$1 compiles" gcc -std=c99 -Wall -Wextra -pedantic -Werror "$1" "${flags[@]}" -o "$2"
 }
 

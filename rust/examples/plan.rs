@@ -10,7 +10,7 @@ use std::io::{self, Read, Write};
 use std::path::{Path, PathBuf};
 use std::process::ExitCode;
 
-/// The file's beginning: one byte more than the longest card, so that a longer file is refused as it would be in full.
+/// The file's beginning: one byte more than the longest card, so that a longer file is refused too.
 fn read_file(name: &Path) -> io::Result<Vec<u8>> {
     let mut card = Vec::new();
     File::open(name)?.take(CARD_MAX as u64 + 1).read_to_end(&mut card)?;

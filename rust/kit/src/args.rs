@@ -187,7 +187,7 @@ impl Options {
 
 fn jobs(value: &OsStr) -> Result<usize, String> {
     match value.to_string_lossy().parse() {
-        Ok(n) if (1..=256).contains(&n) => Ok(n),
+        Ok(n) if (1..=256).contains(&n) && value.as_bytes()[0] != b'+' => Ok(n),
         _ => Err(format!("-j wants a number from 1 to 256, not \"{}\"", label(value))),
     }
 }

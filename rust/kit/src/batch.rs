@@ -12,12 +12,15 @@ use std::time::{Duration, Instant};
 const LONG: Duration = Duration::from_secs(1);
 /// Whatever is set aside, there are no more threads than this.
 const THREADS: usize = 256;
+/// Letters of the progress line, so that it stays one line.
+const WIDTH: usize = 78;
 /// The planner takes 461 KB of it on the deepest cards.
 const STACK: usize = 4 << 20;
 
+/// A card is begun; or ended, with its result and whether its worker has stopped too.
 enum News<T> {
     Begun(usize),
-    Ended(usize, Option<T>),
+    Ended(usize, Option<T>, bool),
 }
 
 type Work<T> = dyn Fn(usize) -> T + Send + Sync;
@@ -44,7 +47,7 @@ impl<T> Queue<T> {
             }
             let done = catch_unwind(AssertUnwindSafe(|| (self.work)(i))).ok();
             let aside = self.states[i].swap(ENDED, Ordering::AcqRel) == ASIDE;
-            if news.send(News::Ended(i, done)).is_err() || aside {
+            if news.send(News::Ended(i, done, aside)).is_err() || aside {
                 return;
             }
         }
@@ -80,15 +83,20 @@ pub fn run<T: Send + 'static>(
         Progress { next: Instant::now() + LONG, label, shown: false, terminal: io::stderr().is_terminal() };
     let mut desk = Desk { queue, news: channel(), running: Vec::new(), threads: 0, progress };
     for _ in 0..jobs.min(count) {
-        desk.begin()?;
+        match desk.begin() {
+            Err(trouble) if desk.threads == 0 => return Err(trouble),
+            Err(_) => break,
+            Ok(()) => {}
+        }
     }
     let mut results: Vec<Option<Option<T>>> = (0..count).map(|_| None).collect();
     let mut next = 0;
     while next < count {
         match desk.news.1.recv_timeout(Duration::from_millis(100)) {
             Ok(News::Begun(i)) => desk.running.push(Running { i, since: Instant::now() }),
-            Ok(News::Ended(i, done)) => {
+            Ok(News::Ended(i, done, stopped)) => {
                 desk.running.retain(|running| running.i != i);
+                desk.threads -= usize::from(stopped);
                 results[i] = Some(done);
             }
             Err(RecvTimeoutError::Timeout) => {}
@@ -150,9 +158,10 @@ impl Progress<'_> {
         self.next = now + Duration::from_millis(100);
         let longest = running.iter().max_by_key(|running| running.since.elapsed());
         let longest = longest.map_or(String::new(), |r| {
-            format!(", {} since {} s", (self.label)(r.i), r.since.elapsed().as_secs())
+            format!(", {} s with {}", r.since.elapsed().as_secs(), (self.label)(r.i))
         });
-        let _ = write!(io::stderr(), "\r\x1b[Kkit: {done} of {count} told{longest}");
+        let line: String = format!("kit: {done} of {count} told{longest}").chars().take(WIDTH).collect();
+        let _ = write!(io::stderr(), "\r\x1b[K{line}");
         self.shown = true;
     }
 

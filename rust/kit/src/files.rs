@@ -19,7 +19,7 @@ impl Trouble {
 
 /// A length field has two bytes, so no card or sheet of more is right: what stands behind is not read.
 pub const MOST: usize = 65_536;
-/// No text is longer: the longest card with comments has some thousand lines.
+/// A longer text is refused. That of any card, drawn by its bytes, is shorter.
 const MOST_TEXT: usize = 1 << 24;
 
 /// What stands for standard input, or output.
@@ -132,28 +132,28 @@ impl Pending {
     /// Writes the bytes beside the place. A place that is there and no plain file, a device for one, is written at once.
     pub fn write(path: &OsStr, bytes: &[u8]) -> Result<Pending, Trouble> {
         let told = |error: io::Error| Trouble::new(&label(path), error);
-        let place = place(path)?;
-        match fs::metadata(&place) {
+        match fs::metadata(path) {
             Ok(found) if found.is_dir() => return Err(Trouble::new(&label(path), "it is a folder")),
             Ok(found) if !found.is_file() => {
-                let file = OpenOptions::new().write(true).open(&place);
+                let file = OpenOptions::new().write(true).open(path);
                 file.and_then(|mut file| file.write_all(bytes)).map_err(told)?;
-                return Ok(Pending { beside: None, place });
+                return Ok(Pending { beside: None, place: PathBuf::new() });
             }
             _ => {}
         }
+        let place = place(path)?;
         let (file, beside) = create_beside(&place).map_err(told)?;
         let pending = Pending { beside: Some(beside), place };
         pending.fill(file, bytes).map_err(told)?;
         Ok(pending)
     }
 
-    /// The bytes, and who may read or write the file that stood there.
+    /// Who may read or write the file that stood there, and the bytes.
     fn fill(&self, mut file: File, bytes: &[u8]) -> io::Result<()> {
-        file.write_all(bytes)?;
         if let Ok(found) = fs::metadata(&self.place) {
             file.set_permissions(found.permissions())?;
         }
+        file.write_all(bytes)?;
         file.sync_all()
     }
 
@@ -184,7 +184,7 @@ impl Drop for Pending {
 fn place(path: &OsStr) -> Result<PathBuf, Trouble> {
     let mut place = PathBuf::from(path);
     if path.is_empty() || path.as_encoded_bytes().ends_with(b"/") {
-        return Err(Trouble::new(&label(path), "it names no file"));
+        return Err(Trouble(format!("kit: \"{}\" names no file\n", label(path))));
     }
     for _ in 0..40 {
         match fs::read_link(&place) {
@@ -222,13 +222,18 @@ pub fn write(path: &OsStr, bytes: &[u8]) -> Result<(), Trouble> {
 }
 
 /// What is written may be none of what is read.
-pub fn apart<'a>(output: &OsStr, mut inputs: impl Iterator<Item = &'a OsString>) -> Result<(), Trouble> {
-    let Ok(there) = fs::canonicalize(output) else { return Ok(()) };
-    let same = |input: &&OsString| fs::canonicalize(input).is_ok_and(|path| path == there && path.is_file());
-    match inputs.find(same) {
-        Some(_) => Err(Trouble::new(&label(output), "it is read, so it cannot be written")),
+pub fn apart<'a>(outputs: &[&OsString], inputs: impl Iterator<Item = &'a OsString>) -> Result<(), Trouble> {
+    let there = |path: &&OsString| fs::canonicalize(path).ok().filter(|_| !is_stream(path));
+    let read: BTreeSet<PathBuf> = inputs.filter_map(|path| there(&path)).collect();
+    match outputs.iter().find(|path| there(path).is_some_and(|path| path.is_file() && read.contains(&path))) {
+        Some(path) => Err(Trouble::new(&label(path), "it is read, so it cannot be written")),
         None => Ok(()),
     }
+}
+
+/// Whether it is a folder, and not standard input.
+pub fn is_folder(path: &OsStr) -> bool {
+    !is_stream(path) && Path::new(path).is_dir()
 }
 
 /// The files of a folder with this ending, in order of name.

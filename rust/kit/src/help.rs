@@ -36,7 +36,8 @@ and what for; then each line of the tray with its mark in words. Or the refusal 
     --json        an object a card
 
 A folder stands for its files NAME.card. Several cards are told a line each, in the order given,
-with a summary at the end. A card that takes longer than a second does not hold up the others.
+with a summary at the end, and the exit status is the worst of all. A card that takes longer than
+a second does not hold up the others; on a terminal a line then tells how far it is.
 ";
 
 const READ: &str = "\
@@ -113,10 +114,10 @@ Formulas: a word or a number (a name), rest, done, (G both H), (G either way H),
 A mistake is told as FILE:LINE:COLUMN with the line and a caret (status 2), and nothing is written.
 Statements \"node ..\" (as kit text --nodes writes them) and \"bytes ..\" (kit text --bytes) are read too.
 
-    -o CARD       writes the file; else the bytes go to standard output
+    -o CARD       writes the file; else the bytes go to standard output, if that is no terminal
     --as-is       writes bytes that the check refuses, too
     --names FILE  more words
-    --json        tells what was written
+    --json        tells what was written; without -o it tells the bytes, and writes none
 ";
 
 const TEXT: &str = "\

@@ -9,7 +9,7 @@ pub enum Holds {
     Clause,
 }
 
-/// A kind of node. Its words stand before, between and behind its parts; `role` says what each part is to it.
+/// A kind of node: `around` has the words before its left part and before its right, `roles` what each part is to it.
 pub struct Kind {
     pub number: u8,
     pub word: &'static str,

@@ -1,11 +1,10 @@
 //! The drawing as a picture for the wall: a box for each field, as wide as it has bytes, coloured by part.
 use crate::fields::{Field, Part};
-use crate::svg::{wrapped, Svg};
+use crate::svg::{wrapped, Svg, LINE};
 
-/// Width of a byte, height of a row, of a further line of its words, and the most height of a column of the picture.
+/// Width of a byte, height of a row with one line of words, and the most height of a column of the picture.
 const BYTE: f64 = 30.0;
 const ROW: f64 = 24.0;
-const LINE: f64 = 15.0;
 const COLUMN: f64 = 48.0 * ROW;
 const TOP: f64 = 20.0;
 const LEFT: f64 = 12.0;

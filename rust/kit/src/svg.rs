@@ -2,14 +2,16 @@
 use std::fmt::Write;
 
 /// A picture on the way.
+#[derive(Default)]
 pub struct Svg {
     body: String,
     width: f64,
     height: f64,
 }
 
-/// The width of a letter of the picture's type, at its size.
+/// The width of a letter of the picture's type, at its size, and the height of a line.
 pub const LETTER: f64 = 7.2;
+pub const LINE: f64 = 15.0;
 
 /// Text as it may stand in a picture.
 pub fn escaped(text: &str) -> String {
@@ -41,12 +43,6 @@ pub fn wrapped(text: &str, most: usize) -> Vec<String> {
     lines
 }
 
-impl Default for Svg {
-    fn default() -> Svg {
-        Svg { body: String::new(), width: 0.0, height: 0.0 }
-    }
-}
-
 impl Svg {
     fn reach(&mut self, x: f64, y: f64) {
         self.width = self.width.max(x);
@@ -73,10 +69,10 @@ impl Svg {
     pub fn words(&mut self, (x, y): (f64, f64), class: &str, lines: &[String]) -> (f64, f64) {
         let mut reach = (x, y);
         for (i, line) in lines.iter().enumerate() {
-            let y = y + 15.0 * i as f64;
+            let y = y + LINE * i as f64;
             let _ =
                 writeln!(self.body, "<text x=\"{x}\" y=\"{y}\" class=\"{class}\">{}</text>", escaped(line));
-            reach = (reach.0.max(x + LETTER * line.chars().count() as f64), y + 15.0);
+            reach = (reach.0.max(x + LETTER * line.chars().count() as f64), y + LINE);
             self.reach(reach.0, y + 4.0);
         }
         reach

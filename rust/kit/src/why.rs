@@ -58,8 +58,8 @@ pub fn card(bytes: &[u8], refusal: Refusal, names: &Names) -> Why {
 
 fn no_way(card: Card) -> String {
     let (nesting, steps) = (card.nesting_limit(), count(card.step_limit(), "step"));
-    let lines = "each line used at most once and every must line used or taken by a rest";
-    format!("no way meets the goal with {lines}, within nesting {nesting} and {steps}")
+    let rules = "uses each part at most once, and every must line and lent part unless a rest takes it";
+    format!("no way within nesting {nesting} and {steps} meets the goal and {rules}")
 }
 
 /// A formula in parentheses, which it may have already.
@@ -226,6 +226,7 @@ pub fn sheet(card: Sound, sheet: &[u8], refusal: Refusal, names: &Names) -> Why 
     match refusal.place {
         Place::Mark(i) => wrong_mark(card, sheet, usize::from(i)),
         Place::Step(i) => wrong_step(card, steps, usize::from(i), refusal, names),
+        _ if k == 0 => Why { wrong: None, words: undivided(card, steps, refusal, names) },
         _ => Why::new(5, k, (5, k), undivided(card, steps, refusal, names)),
     }
 }
@@ -241,7 +242,7 @@ fn wrong_front(card: Sound, sheet: &[u8]) -> Why {
         (usize::from(sheet[0]) * 256 + usize::from(sheet[1]), usize::from(sheet[3]), usize::from(sheet[4]));
     let asked = 5 + k + t;
     if says != n {
-        return front(0, 2, format!("the length field says {says}, but there are {}", count(n, "byte")));
+        return front(0, 2, format!("the length field says {says}, but there are {}", bytes_there(n)));
     }
     if sheet[2] != 1 {
         return front(2, 1, format!("the version is {}; it must be 1", sheet[2]));

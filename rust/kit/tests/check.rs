@@ -221,6 +221,19 @@ fn every_refusal_is_found_in_its_field() {
     assert!(met.values().all(|&n| n > 50), "{met:?}");
 }
 
+#[test]
+fn of_two_parts_as_high_the_left_is_told() {
+    let mut draft = Draft::limits(0, 0);
+    draft.name(1);
+    (0..8).for_each(|i| drop(draft.add(4, i, i)));
+    let bytes = draft.bytes();
+    let refusal = kit_planner::check(&bytes).unwrap_err();
+    let why = desk::why::card(&bytes, refusal, &desk::names::Names::default());
+    let wrong = why.wrong.unwrap();
+    assert_eq!((refusal.number, wrong.at, wrong.len), (6, Card::new(&bytes).node_at(8) + 1, 2));
+    assert_eq!(why.words, "this both has height 9, at most 8: its left part, node 7, has height 8");
+}
+
 /// The offsets of the bytes that the carets of a long answer stand under.
 fn carets(answer: &str) -> Vec<usize> {
     let lines: Vec<&str> = answer.lines().collect();

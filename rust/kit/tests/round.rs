@@ -85,6 +85,26 @@ fn any_bytes_can_be_written() {
     assert_eq!(parsed(&as_bytes(&[], &Names::default()), &Names::default()), []);
 }
 
+/// Nodes that nobody would write: each twice as long as the one before, and 13,104 of them.
+#[test]
+fn a_broken_card_with_endless_formulas_can_be_written() {
+    let mut bytes = vec![255, 255, 1, 0, 0, 255, 255, 0, 0, 0, 0, 1, 0, 1, 0, 0];
+    for i in 0..13_104_u16 {
+        let [high, low] = i.to_be_bytes();
+        bytes.extend([4, high, low, high, low]);
+    }
+    bytes.truncate(65_535);
+    let text = as_bytes(&bytes, &Names::default());
+    assert!(text.len() < 4 << 20, "{} bytes", text.len());
+    assert_eq!(parsed(&text, &Names::default()), bytes);
+}
+
+#[test]
+fn a_formula_takes_the_first_of_equal_nodes() {
+    let bytes = parsed("limits nesting 0 steps 0\nnode 0 name 1\nnode 1 name 1\ngoal 1\n", &Names::default());
+    assert_eq!(bytes[7..9], [0, 0]);
+}
+
 /// What the program prints for this input.
 fn kit(args: &[&str], input: &[u8]) -> Vec<u8> {
     let mut command = Command::new(env!("CARGO_BIN_EXE_kit"));

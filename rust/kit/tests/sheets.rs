@@ -5,6 +5,7 @@ mod cards;
 use cards::{Draft, Random};
 use desk::card::Sound;
 use desk::names::Names;
+use desk::text::parse;
 use desk::way::{amiss, walk, Stop};
 use desk::why::{self, Why};
 use kit_planner::{plan_sheet, Place, Refusal};
@@ -17,8 +18,8 @@ fn sheet(steps: &[u8], marks: &[u8]) -> Vec<u8> {
     [&front[..], steps, marks].concat()
 }
 
-/// One thing changed in a sheet.
-fn damage(r: &mut Random, sheet_bytes: &[u8], entries: usize) -> Vec<u8> {
+/// One thing changed in a sheet, and where, if it is a byte of its front.
+fn damage(r: &mut Random, sheet_bytes: &[u8], entries: usize) -> (Vec<u8>, Option<usize>) {
     let k = usize::from(sheet_bytes[3]);
     let (mut steps, mut marks) = (sheet_bytes[5..5 + k].to_vec(), sheet_bytes[5 + k..].to_vec());
     match r.below(7) {
@@ -26,9 +27,9 @@ fn damage(r: &mut Random, sheet_bytes: &[u8], entries: usize) -> Vec<u8> {
             let mut bytes = sheet_bytes.to_vec();
             let at = r.below(5);
             bytes[at] = bytes[at].wrapping_add(1 + r.below(255) as u8);
-            return bytes;
+            return (bytes, Some(at));
         }
-        1 => return sheet_bytes[..r.below(sheet_bytes.len())].to_vec(),
+        1 => return (sheet_bytes[..r.below(sheet_bytes.len())].to_vec(), None),
         2 if k > 0 => drop(steps.remove(r.below(k))),
         3 => steps.insert(r.below(k + 1), r.below(entries + 2) as u8),
         4 if !marks.is_empty() => {
@@ -38,7 +39,7 @@ fn damage(r: &mut Random, sheet_bytes: &[u8], entries: usize) -> Vec<u8> {
         _ if k > 0 => steps[r.below(k)] = r.below(entries + 2) as u8,
         _ => {}
     }
-    sheet(&steps, &marks)
+    (sheet(&steps, &marks), None)
 }
 
 /// The number that a walk's end stands for.
@@ -60,7 +61,10 @@ fn walked(card: Sound, steps: &[u8]) -> Option<Refusal> {
 /// A reason of its own, not the number's, and bytes that are there or are missing at the end of their part.
 fn told(why: &Why, sheet: &[u8], refusal: Refusal) {
     assert_ne!(why.words, refusal.reason());
-    let wrong = why.wrong.expect("some bytes are wrong");
+    let Some(wrong) = why.wrong else {
+        assert_eq!((refusal.number, sheet[3]), (19, 0), "only no steps at all are told by no bytes");
+        return;
+    };
     assert!(wrong.at + wrong.len <= sheet.len(), "{wrong:?}");
     let at = match refusal.place {
         Place::Step(i) => 5 + usize::from(i),
@@ -85,7 +89,7 @@ fn every_refusal_has_its_reason() {
         let card = Sound::checked(&bytes).expect("it is sound");
         for _ in 0..12 {
             let entries = card.rules() + card.lines() + 2;
-            let sheet = damage(r, planned.as_bytes(), entries);
+            let (sheet, changed) = damage(r, planned.as_bytes(), entries);
             let refused = kit_planner::read(&bytes, &sheet).err();
             *met.entry(refused.map_or(0, |refusal| refusal.number)).or_default() += 1;
             let steps =
@@ -96,6 +100,9 @@ fn every_refusal_has_its_reason() {
             };
             let why = why::sheet(card, &sheet, refusal, &names);
             told(&why, &sheet, refusal);
+            if let (12, Some(at), Some(wrong)) = (refusal.number, changed, why.wrong) {
+                assert!((wrong.at..wrong.at + wrong.len).contains(&at), "{}", why.words);
+            }
             undivided.extend((refusal.number == 19).then_some(why.words));
             if refusal.number != 12 {
                 assert_eq!(walked(card, steps), Some(refusal).filter(|refusal| refusal.number != 14));
@@ -110,4 +117,58 @@ fn every_refusal_has_its_reason() {
         let n = undivided.iter().filter(|reason| reason.contains(words)).count();
         assert!(n > 40, "{words}: {n} of {}", undivided.len());
     }
+}
+
+/// The reason that is told of these steps on a text card, with marks that are all 1.
+fn reason(text: &str, steps: &[u8]) -> String {
+    let text = format!("limits nesting 2 steps 9\n{text}");
+    let bytes = parse(&text, &Names::default()).expect("the text is right").bytes;
+    let card = Sound::checked(&bytes).expect("it is sound");
+    let sheet = sheet(steps, &vec![1; card.lines()]);
+    let refusal = kit_planner::read(&bytes, &sheet).expect_err("it is refused");
+    format!("{}: {}", refusal.number, why::sheet(card, &sheet, refusal, &Names::default()).words)
+}
+
+#[test]
+fn reasons_in_words() {
+    let lends = "goal ((lend 1 to done) both (lend 2 to 2))\n";
+    assert_eq!(
+        reason("goal 1\nmust 1\n", &[7]),
+        "13: step 0 is entry 7, but the last one there is 0; 1 is wanted there for the goal"
+    );
+    assert_eq!(
+        reason("goal 1\n", &[7]),
+        "13: step 0 is entry 7, but there is none; 1 is wanted there for the goal"
+    );
+    assert_eq!(
+        reason("goal 1\nmay rest\n", &[0]),
+        "13: step 0 is line 0 (rest), which gives nothing; 1 is wanted there for the goal"
+    );
+    assert_eq!(reason("goal 1\nmust 1\n", &[]), "18: step 0 is missing: 1 is wanted there for the goal");
+    assert_eq!(
+        reason("goal 1\nmust 1\n", &[0, 0]),
+        "18: step 1 is one too many: all that is wanted is met before it"
+    );
+    assert_eq!(
+        reason("goal done\nmust 1\n", &[]),
+        "19: line 0 (1) must be used, but no step uses it and no rest takes it"
+    );
+    let over = "19: lent 0 (1) is left over: no step inside its lend uses it and no rest there takes it";
+    assert_eq!(reason(lends, &[0]), over);
+    let rules = "goal 1\nrule (2 gives 1)\nrule (3 gives 2)\nrule 3\n";
+    assert_eq!(
+        reason(rules, &[0, 1, 2]),
+        "17: step 2 has nesting 3, above the limit 2: it stands inside 2 uses"
+    );
+}
+
+#[test]
+fn what_a_use_serves_in_words() {
+    let text = "limits nesting 2 steps 9\ngoal ((1 either way 1) either way (2 both rest))\nmay 1\nmay (1 gives 2)\n";
+    let bytes = parse(text, &Names::default()).expect("the text is right").bytes;
+    let uses = walk(Sound::checked(&bytes).expect("it is sound"), &[0, 0, 1, 0]).uses;
+    let told: Vec<String> = uses.iter().map(|one| why::served(one, &uses)).collect();
+    let ways = ["the goal, one way, one way", "the goal, one way, the other way", "the goal, the other way"];
+    assert_eq!(told[..3], ways);
+    assert_eq!(told[3], "condition 0 of step 2 (line 1)");
 }

@@ -112,7 +112,7 @@ fn drawing(shown: &Shown, paint: Paint) -> String {
         };
         let name = format!("{first:<11}{second:<7}");
         let name = paint.part(field.part.word(), &name);
-        let _ = writeln!(text, "{:>6}  {:<8}{name}{value}", field.at, field.hex(bytes));
+        let _ = writeln!(text, "{:>6}  {:<6}  {name}{value}", field.at, field.hex(bytes));
         let under = under(field, shown.drawn.wrong);
         if !under.is_empty() {
             let _ = writeln!(text, "{:>6}  {}", "", paint.bad(&under));

@@ -3,7 +3,7 @@ use super::ask;
 use super::told::{about, error, Manner, Tally, Told};
 use crate::args::{Command, Options};
 use crate::batch;
-use crate::files::{files_in, is_stream, label, print, read, Pending, Trouble};
+use crate::files::{apart, files_in, is_folder, is_stream, label, print, read, Pending, Trouble};
 use crate::json::{object, Json};
 use crate::names::Names;
 use crate::paint::Paint;
@@ -43,7 +43,8 @@ impl Task {
 
     /// What is told where a file could not be read or written.
     fn failed(&self, Trouble(line): Trouble) -> Told {
-        let (label, words) = (self.label(), line.trim_end().trim_start_matches("kit: "));
+        let (label, words) = (self.label(), line.trim_end());
+        let words = words.strip_prefix("kit: ").unwrap_or(words);
         error(&label, self.begin(), words.strip_prefix(&format!("{label}: ")).unwrap_or(words))
     }
 }
@@ -53,7 +54,7 @@ fn cards(files: &[OsString]) -> Result<(Vec<Task>, bool), Trouble> {
     let mut found = Vec::new();
     let mut many = files.len() > 1;
     for file in files {
-        if Path::new(file).is_dir() {
+        if is_folder(file) {
             many = true;
             found.extend(files_in(file, "card")?.into_iter().map(|path| Task::new(path, None)));
         } else {
@@ -70,7 +71,7 @@ fn beside(folder: &OsStr, file: &Path, ending: &str) -> OsString {
 
 /// Cards with their sheets in turn; or each NAME.sheet of a folder with NAME.card beside it, or in a first folder.
 fn pairs(files: &[OsString]) -> Result<(Vec<Task>, bool), Trouble> {
-    let folder = |file: &OsString| Path::new(file).is_dir();
+    let folder = |file: &OsString| is_folder(file);
     if files.len() <= 2 && files.iter().all(folder) {
         let (cards, sheets) = (&files[0], &files[files.len() - 1]);
         let pair = |sheet: PathBuf| Task::new(beside(cards, &sheet, "card"), Some(sheet.into()));
@@ -92,7 +93,7 @@ fn place_sheets(output: Option<&OsString>, tasks: &mut [Task], many: bool) -> Re
         tasks[0].place = Some(output.clone());
         return Ok(());
     }
-    if !Path::new(output).is_dir() {
+    if !is_folder(output) {
         return Err(Trouble::new(
             &label(output),
             "for the sheets of several cards, -o wants a folder that is there",
@@ -147,6 +148,8 @@ pub fn run(options: &Options, names: Names) -> Result<u8, Trouble> {
     let read = options.command == Command::Read;
     let (mut tasks, many) = if read { pairs(&options.files)? } else { cards(&options.files)? };
     place_sheets(options.output.as_ref(), &mut tasks, many)?;
+    let places: Vec<&OsString> = tasks.iter().filter_map(|task| task.place.as_ref()).collect();
+    apart(&places, tasks.iter().map(|task| &task.card).chain(&options.names))?;
     let desk = Arc::new(Desk { command: options.command, tasks, names, paint: Paint::of_output() });
     let jobs = options.jobs.unwrap_or_else(|| available_parallelism().map_or(1, usize::from));
     match many {

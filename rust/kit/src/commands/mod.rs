@@ -6,7 +6,7 @@ mod told;
 mod write;
 
 use crate::args::{Command, Options};
-use crate::files::{apart, is_stream, label, read_text, Trouble};
+use crate::files::{apart, label, read_text, Trouble};
 use crate::names::Names;
 use crate::text;
 use std::ffi::OsStr;
@@ -20,8 +20,8 @@ fn names(path: Option<&OsStr>) -> Result<Names, Trouble> {
 
 /// Does what is asked; the exit status.
 pub fn run(options: &Options) -> Result<u8, Trouble> {
-    if let Some(output) = options.output.as_deref().filter(|output| !is_stream(output)) {
-        apart(output, options.files.iter().chain(&options.names))?;
+    if let Some(output) = &options.output {
+        apart(&[output], options.files.iter().chain(&options.names))?;
     }
     let names = names(options.names.as_deref())?;
     match options.command {

@@ -7,7 +7,6 @@ mod statement;
 mod tokens;
 mod write;
 
-pub use draft::Draft;
 pub use parse::{names_of, parse, Parsed};
 pub use write::{as_bytes, as_formulas, as_nodes};
 
@@ -29,7 +28,7 @@ impl Mistake {
     pub fn told(&self, file: &str, text: &str) -> String {
         let Mistake { line, column, width, words } = self;
         let whole: Vec<char> = plain(text.lines().nth(line - 1).unwrap_or("")).chars().collect();
-        let from = if column - 1 > BEFORE { column - 1 - BEFORE } else { 0 };
+        let from = (column - 1).saturating_sub(BEFORE);
         let shown: String = whole[from..].iter().take(SHOWN).collect();
         let before = whole[from..].iter().take(column - 1 - from);
         let under: String = before.map(|&c| if c == '\t' { '\t' } else { ' ' }).collect();

@@ -1,18 +1,10 @@
 //! A card as text.
 use crate::card::{Card, Sound};
-use crate::fields::card_fields;
+use crate::fields::{card_fields, must_word};
 use crate::kinds;
 use crate::names::Names;
 use std::collections::BTreeSet;
 use std::fmt::Write;
-
-/// `must` or `may`.
-fn word(must: u8) -> &'static str {
-    match must {
-        1 => "must",
-        _ => "may",
-    }
-}
 
 /// Which nodes goal, rules and lines are made of.
 fn reached(card: Sound) -> Vec<bool> {
@@ -64,7 +56,7 @@ fn roots(card: Sound, mut text: String, told: impl Fn(usize) -> String) -> Strin
     }
     for i in 0..card.lines() {
         let line = card.line(i);
-        let _ = writeln!(text, "{} {}", word(line.must), told(line.node));
+        let _ = writeln!(text, "{} {}", must_word(line.must), told(line.node));
     }
     text
 }
