@@ -327,6 +327,8 @@ def wrong_usage(kit):
                   ["read", "cards", "cards/pump.sheet"], ["check", "--", "--help"], ["plan", "-j", "+4", "cards/sample.card"],
                   ["plan", "cards/sample.card", "-o", "-", "--json"], ["card", "cards/sample.txt", "-o", "-", "--json"]):
         check(not fails(kit, words, *words).stdout, f"{words}: something was printed")
+    folder = fails(kit, "a folder and a sheet", "read", "cards", "cards/pump.sheet")
+    check(folder.stderr.startswith(b"kit: kit read wants"), "a folder and a sheet are told as wrong usage")
 
 
 def streams(kit):
