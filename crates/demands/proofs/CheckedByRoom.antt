@@ -8,26 +8,19 @@ use native.Mathlib.Omega.{arith}
 use lib.ListN.{length}
 use Rattle.card.specs.Verdict.{Where, fault, sheet}
 use Rattle.card.specs.Fault.{firstFault, Sound}
-use Rattle.card.proofs.FaultsInOrder.{sound-or-faulty, same-fault}
-use Rattle.card.proofs.FaultsInRange.{fault-in-range}
+use Rattle.card.proofs.FaultsInOrder.{sound-or-faulty}
 use Rattle.planning.specs.Plan.{PlanVerdict, refused, roomOf, Planning, faulty, short, underivable, planned-as}
-
-number : {n m : ℕ} {w v : Where} → refused n w ≡ refused m v → n ≡ m
-number e = cc
+use Rattle.planner.proofs.PlannedExactly.{plan-determined, fault-not-ten}
 
 no-room : (bs : List ℕ) → roomOf bs ≤ length {A = ℕ} [] → ⊥
 no-room bs h = omega arith
 
 pub ten-if-sound : {bs new : List ℕ} {a : PlanVerdict} → Planning bs [] a new → (a ≡ refused 10 sheet) ↔ Sound bs
-ten-if-sound {bs} (faulty p) =
-    (λ e. let r = fault-in-range bs p in let q = number e in absurd (omega arith), λ s. absurd (sound-or-faulty (s .faultless) p))
+ten-if-sound {bs} (faulty p) = (λ e. absurd (fault-not-ten bs p e), λ s. absurd (sound-or-faulty (s .faultless) p))
 ten-if-sound (short s h) = (λ e. s, λ t. refl)
 ten-if-sound {bs} (underivable s h u) = absurd (no-room bs h)
 ten-if-sound {bs} (planned-as s h l f) = absurd (no-room bs h)
 
 pub fault-if-faulty : {bs new : List ℕ} {a : PlanVerdict} {n : ℕ} {w : Where} → firstFault bs ≡ fault n w → Planning bs [] a new
     → a ≡ refused n w
-fault-if-faulty p (faulty q) = same-fault refused q p
-fault-if-faulty p (short s h) = absurd (sound-or-faulty (s .faultless) p)
-fault-if-faulty p (underivable s h u) = absurd (sound-or-faulty (s .faultless) p)
-fault-if-faulty p (planned-as s h l f) = absurd (sound-or-faulty (s .faultless) p)
+fault-if-faulty p q = plan-determined q (faulty p) .0

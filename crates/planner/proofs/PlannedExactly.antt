@@ -116,12 +116,13 @@ plan-decided (short s h) = is-refused {n = 10} (omega arith, omega arith) tt ref
 plan-decided (underivable s h u) = is-refused {n = 11} (omega arith, omega arith) tt refl
 plan-decided {bs} (planned-as s h l f) = is-planned (listed-short bs l (f .listed))
 
+-- 10 is no card's own fault.
+pub fault-not-ten : (bs : List ℕ) {n : ℕ} {w v : Where} → firstFault bs ≡ fault n w → refused n w ≡ refused 10 v → ⊥
+fault-not-ten bs {n} p e = let r = fault-in-range bs p in let q : n ≡ 10 = cc in omega arith
+
 -- With room for any sheet the answer is not 10.
 pub never-short : {bs old new : List ℕ} {a : PlanVerdict} → Bytes bs → roomForAny ≤ length old → Planning bs old a new → NeverShort a
-never-short {bs} b h (faulty p) = record { not-short = λ w e. let r = fault-in-range bs p in let q = number e in omega arith }
-  where
-    number : {n m : ℕ} {w v : Where} → refused n w ≡ refused m v → n ≡ m
-    number e = cc
+never-short {bs} b h (faulty p) = record { not-short = λ w e. fault-not-ten bs p e }
 never-short {bs} b h (short s g) = record { not-short = λ w e. omega (arith, sound-front bs s .lines, b .byte 10) }
 never-short b h (underivable s g u) = record { not-short = λ w e. let z : _≡_ {A = ℕ} 11 10 = cc in omega arith }
 never-short b h (planned-as s g l f) = record { not-short = λ w e. let z : _≡_ {A = ℕ} 0 1 = cc in omega arith }

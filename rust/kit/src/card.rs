@@ -6,8 +6,14 @@ use kit_planner::Refusal;
 /// Bytes of the front.
 pub const FRONT: usize = 11;
 
-/// No node is higher; a formula that is deeper is cut there.
+/// The format's limits. A formula that is higher is cut there.
 pub const HEIGHT_LIMIT: usize = 8;
+pub const NODE_LIMIT: usize = 512;
+pub const RULE_LIMIT: usize = 64;
+pub const LINE_LIMIT: usize = 64;
+pub const NESTING_LIMIT: usize = 16;
+pub const STEP_LIMIT: usize = 255;
+pub const NAME_LIMIT: usize = 999;
 
 /// The bytes of a card.
 #[derive(Clone, Copy)]

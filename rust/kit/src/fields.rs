@@ -1,5 +1,5 @@
 //! The drawing: every byte of a card or sheet in order, by field, with what it is. Any bytes can be drawn.
-use crate::card::{Card, FRONT, HEIGHT_LIMIT};
+use crate::card::{Card, FRONT, HEIGHT_LIMIT, NODE_LIMIT};
 use crate::kinds::Holds;
 use crate::names::Names;
 use crate::way::Use;
@@ -121,7 +121,7 @@ pub fn card_fields(card: Card, names: &Names) -> Vec<Field> {
     card_front(&mut drawing, card, names);
     let heights = card.heights();
     // on a broken card a formula can be as long as one likes: it is told where the format allows it
-    let told = |i: usize| i < 512 && heights.get(i).is_some_and(|&height| height <= HEIGHT_LIMIT);
+    let told = |i: usize| i < NODE_LIMIT && heights.get(i).is_some_and(|&height| height <= HEIGHT_LIMIT);
     let formula = |i: usize| if told(i) { card.formula(i, names) } else { format!("node {i}") };
     for (i, height) in heights.iter().enumerate() {
         let (at, part) = (card.node_at(i), Part::Node(i));

@@ -1,5 +1,7 @@
 //! The one reason behind a refusal, and the bytes it is about. Number and place are the proved call's; here they are put into words.
-use crate::card::{Card, Sound, FRONT, HEIGHT_LIMIT};
+use crate::card::{
+    Card, Sound, FRONT, HEIGHT_LIMIT, LINE_LIMIT, NAME_LIMIT, NESTING_LIMIT, NODE_LIMIT, RULE_LIMIT,
+};
 use crate::files::MOST;
 use crate::kinds::Holds;
 use crate::names::Names;
@@ -101,10 +103,10 @@ fn wrong_length(card: Card) -> Why {
 /// 4: the first of P, T, N and d that is.
 fn out_of_range(card: Card) -> Why {
     let fields = [
-        (3, 1, "P, the number of rules,", card.rules(), 0, 64),
-        (4, 1, "T, the number of lines,", card.lines(), 0, 64),
-        (5, 2, "N, the number of nodes,", card.nodes(), 1, 512),
-        (9, 1, "d, the nesting limit,", card.nesting_limit(), 0, 16),
+        (3, 1, "P, the number of rules,", card.rules(), 0, RULE_LIMIT),
+        (4, 1, "T, the number of lines,", card.lines(), 0, LINE_LIMIT),
+        (5, 2, "N, the number of nodes,", card.nodes(), 1, NODE_LIMIT),
+        (9, 1, "d, the nesting limit,", card.nesting_limit(), 0, NESTING_LIMIT),
     ];
     let wrong = fields.into_iter().find(|&(_, _, _, value, least, most)| value < least || value > most);
     let (at, len, word, value, least, most) = wrong.unwrap_or(fields[0]);
@@ -167,7 +169,8 @@ fn wrong_field(card: Card, i: usize, side: usize, names: &Names) -> Option<Strin
     let value = card.node(i).fields[side];
     let (holds, word) = (kind.fields[side], SIDES[side]);
     match holds {
-        Holds::Name => (value > 999).then(|| format!("its name is {value}; names go to 999")),
+        Holds::Name => (usize::from(value) > NAME_LIMIT)
+            .then(|| format!("its name is {value}; names go to {NAME_LIMIT}")),
         Holds::Nothing => (value != 0)
             .then(|| format!("its {word} field is {value}; a {} has nothing there, so 0", kind.word)),
         Holds::Goal | Holds::Clause => {

@@ -225,7 +225,9 @@ fn every_refusal_is_found_in_its_field() {
 fn of_two_parts_as_high_the_left_is_told() {
     let mut draft = Draft::limits(0, 0);
     draft.name(1);
-    (0..8).for_each(|i| drop(draft.add(4, i, i)));
+    for i in 0..8 {
+        draft.add(4, i, i);
+    }
     let bytes = draft.bytes();
     let refusal = kit_planner::check(&bytes).unwrap_err();
     let why = desk::why::card(&bytes, refusal, &desk::names::Names::default());

@@ -1,14 +1,7 @@
 //! A card on the way from text to bytes.
-use crate::card::{Line, Node, FRONT, HEIGHT_LIMIT};
+use crate::card::{Line, Node, FRONT, HEIGHT_LIMIT, NODE_LIMIT};
 use crate::kinds::{self, Holds, Reads};
 use std::collections::HashMap;
-
-pub const NODE_LIMIT: usize = 512;
-pub const RULE_LIMIT: usize = 64;
-pub const LINE_LIMIT: usize = 64;
-pub const NESTING_LIMIT: usize = 16;
-pub const STEP_LIMIT: usize = 255;
-pub const NAME_LIMIT: usize = 999;
 
 /// Nodes with their heights, roots and limits; always within the format's limits.
 #[derive(Default)]

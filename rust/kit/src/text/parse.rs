@@ -1,9 +1,9 @@
 //! Statements and formulas.
-use super::draft::{Draft, LINE_LIMIT, NAME_LIMIT, NESTING_LIMIT, RULE_LIMIT, STEP_LIMIT};
+use super::draft::Draft;
 use super::statement::{Outcome, Statement};
 use super::tokens::can_name;
 use super::Mistake;
-use crate::card::{Line, Node};
+use crate::card::{Line, Node, LINE_LIMIT, NAME_LIMIT, NESTING_LIMIT, RULE_LIMIT, STEP_LIMIT};
 use crate::kinds::{self, Holds};
 use crate::names::Names;
 
