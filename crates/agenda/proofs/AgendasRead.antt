@@ -1,16 +1,18 @@
 -- Readings of agendas: a list is read in one way, and what the task at the head asks of a reading.
 use Prim.Native.Nat.{ℕ, zero, suc}
 use mathlib.Core.Path.{_≡_, refl, sym, ap, ap₂, _∙_}
-use mathlib.Core.Logic.{_↔_}
+use mathlib.Core.Logic.{_↔_, _⊎_, inl, inr, ⊎-elim}
 use mathlib.Core.Bool.{Bool, true, false, _&&_, _||_, false≢true}
 use mathlib.Core.List.{List, [], _∷_, _++_, append-nil, append-assoc}
-use Rattle.calculus.specs.Formula.{Goal, Clause, atomᴳ, topᴳ, oneᴳ, zeroᴳ, tensor, atomᴰ, topᴰ, lolliᴰ, Fits, matched, residual, usable}
+use Rattle.calculus.specs.Formula.{Goal, Clause, atomᴳ, topᴳ, oneᴳ, zeroᴳ, tensor, oplus, atomᴰ, topᴰ, lolliᴰ, withᴰ, Fits, matched}
+use Rattle.calculus.specs.Formula.{residual, usable}
 use Rattle.calculus.specs.Items.{Items, ∅, _∪_, only, Empty, Splits}
 use Rattle.calculus.specs.Derivation.{Scope, clauseAt, linearAt, residualAt}
-use Rattle.calculus.specs.Inner.Summary.{Plus, Sum, sum-1, sum-⊤, sum-⊗, sum-rule, sum-item, Agree}
+use Rattle.calculus.specs.Inner.Summary.{Plus, Sum, sum-1, sum-⊤, sum-⊗, sum-⊕₁, sum-⊕₂, sum-rule, sum-item, Agree}
+use Rattle.calculus.specs.Steps.{leftChoice, rightChoice}
 use Rattle.calculus.proofs.SetLaws.{_≐_, _⟹_, table, same-path, only-self, only-at, empty-∅, only-plus}
 use Rattle.calculus.proofs.TraceExact.{unique}
-use Rattle.agenda.specs.Inner.Agenda.{Task, task, Agenda, Reads, reads-nil, reads-on, Alike, pushed}
+use Rattle.agenda.specs.Inner.Agenda.{Task, task, Agenda, Reads, reads-nil, reads-on, Alike, pushed, core}
 
 -- Laws of slack and of shares.
 or-assoc : (a b c : Bool) → ((a || b) || c) ≡ (a || (b || c))
@@ -245,29 +247,87 @@ reads-alone es t l U v =
         sum-at (o .list ∙ ap (λ (k : List ℕ). o .left ++ k) (e .0) ∙ append-nil (o .left)) (empty-right (o .items) (e .1))
         (o .either ∙ ap (λ (c : Bool). o .slack || c) (e .2) ∙ or-false (o .slack)) (o .sum)
 
-reads-matched : (es : Scope) (n : ℕ) (A : Agenda) (l : List ℕ) (U : Items) (v b : Bool)
-    → Reads es (task (matched b) n ∷ A) l U v ↔ ((b ≡ true) × Reads es A l U v)
-unfolding matched
-reads-matched es n A l U v true = (λ r. (refl, reads-1 es n A .alike l U v .0 r), λ x. reads-1 es n A .alike l U v .1 (x .1))
-reads-matched es n A l U v false = (λ r. absurd (reads-0 r), λ x. absurd (false≢true (x .0)))
+-- what is left of a clause in use, then the rest: what is left of its core, then its conditions, the one nearest the head first
+pub reads-core : (es : Scope) (fits : Fits) (a n : ℕ) (D : Clause) (A : Agenda)
+    → Alike es (task (residual fits a D) n ∷ A) (task (residual fits a (core D)) n ∷ pushed n D A)
+unfolding residual pushed core
+reads-core es fits a n (atomᴰ b) A = record { alike = λ l U v. (λ r. r, λ r. r) }
+reads-core es fits a n topᴰ A = record { alike = λ l U v. (λ r. r, λ r. r) }
+reads-core es fits a n (lolliᴰ G D) A = record {
+  alike = λ l U v.
+      let h = reads-⊗ es n (residual fits a D) G A .alike l U v in
+      let k = reads-core es fits a n D (task G n ∷ A) .alike l U v in
+      (λ r. k .0 (h .0 r), λ x. h .1 (k .1 x));
+}
+reads-core es fits a n (withᴰ D E) A = record { alike = λ l U v. (λ r. r, λ r. r) }
 
--- what is left of a clause in use, then the rest: its head fits, and its conditions are read, the one nearest the head first
-pub reads-conditions : (es : Scope) (fits : Fits) (a n : ℕ) (D : Clause) (A : Agenda) (l : List ℕ) (U : Items) (v : Bool)
-    → Reads es (task (residual fits a D) n ∷ A) l U v ↔ ((usable fits a D ≡ true) × Reads es (pushed n D A) l U v)
-unfolding residual usable pushed
-reads-conditions es fits a n (atomᴰ b) A l U v = reads-matched es n A l U v (fits b a)
-reads-conditions es fits a n topᴰ A l U v = (λ r. absurd (reads-0 r), λ x. absurd (false≢true (x .0)))
-reads-conditions es fits a n (lolliᴰ G D) A l U v =
-    let h = reads-⊗ es n (residual fits a D) G A .alike l U v in
-    let k = reads-conditions es fits a n D (task G n ∷ A) l U v in
-    (λ r. k .0 (h .0 r), λ x. h .1 (k .1 x))
+-- a clause and its core can be used for the same names
+pub core-usable : (fits : Fits) (a : ℕ) (D : Clause) → usable fits a (core D) ≡ usable fits a D
+unfolding usable core
+core-usable fits a (atomᴰ b) = refl
+core-usable fits a topᴰ = refl
+core-usable fits a (lolliᴰ G D) = core-usable fits a D
+core-usable fits a (withᴰ D E) = refl
+
+-- a head that fits, then the rest: the rest
+pub reads-head : (es : Scope) (fits : Fits) (a b n : ℕ) (A : Agenda) → fits b a ≡ true → Alike es (task (residual fits a (atomᴰ b)) n ∷ A) A
+unfolding residual matched
+reads-head es fits a b n A h = rw h (reads-1 es n A)
+
+-- A summary of ⊕ begins with a choice; the side taken follows.
+side-of : {n : ℕ} {es : Scope} {G H : Goal} {l : List ℕ} {U : Items} {v : Bool} → Sum n es (oplus G H) l U v
+    → ((m : List ℕ) × (l ≡ leftChoice ∷ m) × Sum n es G m U v) ⊎ ((m : List ℕ) × (l ≡ rightChoice ∷ m) × Sum n es H m U v)
+side-of (sum-⊕₁ {m} q x) = inl (m, q, x)
+side-of (sum-⊕₂ {m} q x) = inr (m, q, x)
+
+-- ⊕, then the rest: a choice, then the side taken and the rest
+pub reads-⊕ : (es : Scope) (n : ℕ) (G H : Goal) (A : Agenda) (l : List ℕ) (U : Items) (v : Bool)
+    → Reads es (task (oplus G H) n ∷ A) l U v
+    ↔ (((m : List ℕ) × (l ≡ leftChoice ∷ m) × Reads es (task G n ∷ A) m U v)
+    ⊎ ((m : List ℕ) × (l ≡ rightChoice ∷ m) × Reads es (task H n ∷ A) m U v))
+reads-⊕ es n G H A l U v = (λ r. to (on r), ⊎-elim (λ x. left (x .0) (x .1) (on (x .2))) (λ x. right (x .0) (x .1) (on (x .2))))
+  where
+    to : On es (task (oplus G H) n) A l U v
+        → ((m : List ℕ) × (l ≡ leftChoice ∷ m) × Reads es (task G n ∷ A) m U v)
+        ⊎ ((m : List ℕ) × (l ≡ rightChoice ∷ m) × Reads es (task H n ∷ A) m U v)
+    to o = ⊎-elim
+        (λ x. inl (x .0 ++ o .right, o .list ∙ ap (λ (k : List ℕ). k ++ o .right) (x .1), reads-on refl (o .items) (o .either) (x .2) (o .rest)))
+        (λ x. inr (x .0 ++ o .right, o .list ∙ ap (λ (k : List ℕ). k ++ o .right) (x .1), reads-on refl (o .items) (o .either) (x .2) (o .rest)))
+        (side-of (o .sum))
+
+    left : (m : List ℕ) → l ≡ leftChoice ∷ m → On es (task G n) A m U v → Reads es (task (oplus G H) n ∷ A) l U v
+    left m q o = reads-on (q ∙ ap (λ (k : List ℕ). leftChoice ∷ k) (o .list)) (o .items) (o .either) (sum-⊕₁ refl (o .sum)) (o .rest)
+
+    right : (m : List ℕ) → l ≡ rightChoice ∷ m → On es (task H n) A m U v → Reads es (task (oplus G H) n ∷ A) l U v
+    right m q o = reads-on (q ∙ ap (λ (k : List ℕ). rightChoice ∷ k) (o .list)) (o .items) (o .either) (sum-⊕₂ refl (o .sum)) (o .rest)
+
+-- only a clause with a head that fits is read
+pub reads-usable : (es : Scope) (fits : Fits) (a n : ℕ) (D : Clause) (A : Agenda) (l : List ℕ) (U : Items) (v : Bool)
+    → Reads es (task (residual fits a D) n ∷ A) l U v → usable fits a D ≡ true
+unfolding residual matched usable
+reads-usable es fits a n (atomᴰ b) A l U v r = matched-so (fits b a) r
+  where
+    matched-so : (c : Bool) → Reads es (task (matched c) n ∷ A) l U v → c ≡ true
+    matched-so true r = refl
+    matched-so false r = absurd (reads-0 r)
+reads-usable es fits a n topᴰ A l U v r = absurd (reads-0 r)
+reads-usable es fits a n (lolliᴰ G D) A l U v r =
+    reads-usable es fits a n D (task G n ∷ A) l U v (reads-⊗ es n (residual fits a D) G A .alike l U v .0 r)
+reads-usable es fits a n (withᴰ D E) A l U v r = ⊎-elim
+    (λ x. ap (λ (c : Bool). c || usable fits a E) (reads-usable es fits a n D A (x .0) U v (x .2)))
+    (λ x. or-true-right (usable fits a D) (reads-usable es fits a n E A (x .0) U v (x .2)))
+    (reads-⊕ es n (residual fits a D) (residual fits a E) A l U v .0 r)
+  where
+    or-true-right : (b : Bool) {c : Bool} → c ≡ true → (b || c) ≡ true
+    or-true-right true h = refl
+    or-true-right false h = h
 
 -- Takes es e U W: the use of e and then the items W come to U. A rule takes none; a line or lent clause is gone, so W does not hold it.
 pub data Takes (es : Scope) (e : ℕ) : Items → Items → Type 0 where
   takes-rule : {U : Items} → linearAt es e ≡ false → Takes es e U U
   takes-item : {U W : Items} → linearAt es e ≡ true → W e ≡ false → Plus U W e → Takes es e U W
 
--- A reading of a name and then A begins with a use: an entry whose head fits; then its conditions and A are read.
+-- A reading of a name and then A begins with a use: an entry with a head that fits; then what is left of it and A are read.
 pub record Used (es : Scope) (a n : ℕ) (A : Agenda) (l : List ℕ) (U : Items) (v : Bool) : Type 0 where
   pub entry : ℕ
   pub onward : List ℕ
@@ -275,7 +335,7 @@ pub record Used (es : Scope) (a n : ℕ) (A : Agenda) (l : List ℕ) (U : Items)
   pub list : l ≡ entry ∷ onward
   pub fits : usable (es .fits) a (clauseAt es entry) ≡ true
   pub takes : Takes es entry U others
-  pub rest : Reads es (pushed n (clauseAt es entry) A) onward others v
+  pub rest : Reads es (task (residualAt es a entry) n ∷ A) onward others v
 
 -- A summary of a name, taken apart.
 record Use (n : ℕ) (es : Scope) (a : ℕ) (l : List ℕ) (U : Items) (v : Bool) : Type 0 where
@@ -315,7 +375,7 @@ beside {e} {T} {O} (takes-item {U} {W} r h p) s = record {
   };
 }
 
--- a name, its conditions read, then the rest
+-- a name, what is left of its entry read, then the rest
 with-use : {n : ℕ} {es : Scope} {a e : ℕ} {A : Agenda} {m : List ℕ} {U W : Items} {v : Bool}
     → Takes es e U W → On es (task (residualAt es a e) n) A m W v → Reads es (task (atomᴳ a) (suc n) ∷ A) (e ∷ m) U v
 unfolding _∪_
@@ -333,7 +393,7 @@ with-use {e} (takes-item {U} {W} r h p) o =
     } in
     reads-on (ap (λ (k : List ℕ). e ∷ k) (o .list)) s (o .either) (sum-item r w (only-plus (o .mine) e) (o .sum)) (o .rest)
 
--- a name, then the rest: an entry whose head fits, then its conditions and the rest
+-- a name, then the rest: an entry with a head that fits, then what is left of it and the rest
 pub reads-use : (es : Scope) (a n : ℕ) (A : Agenda) (l : List ℕ) (U : Items) (v : Bool)
     → Reads es (task (atomᴳ a) (suc n) ∷ A) l U v ↔ Used es a n A l U v
 unfolding residualAt
@@ -343,21 +403,20 @@ reads-use es a n A l U v = (λ r. to (on r), from)
     to o =
         let u = use-of (o .sum) in
         let b = beside (u .takes) (o .items) in
-        let c = reads-conditions es (es .fits) a n (clauseAt es (u .entry)) A (u .onward ++ o .right) (b .all) v .0
-        (reads-on refl (b .items) (o .either) (u .sum) (o .rest)) in
+        let r : Reads es (task (residualAt es a (u .entry)) n ∷ A) (u .onward ++ o .right) (b .all) v =
+        reads-on refl (b .items) (o .either) (u .sum) (o .rest) in
         record {
           entry = u .entry;
           onward = u .onward ++ o .right;
           others = b .all;
           list = o .list ∙ ap (λ (k : List ℕ). k ++ o .right) (u .list);
-          fits = c .0;
+          fits = reads-usable es (es .fits) a n (clauseAt es (u .entry)) A (u .onward ++ o .right) (b .all) v r;
           takes = b .takes;
-          rest = c .1;
+          rest = r;
         }
 
     from : Used es a n A l U v → Reads es (task (atomᴳ a) (suc n) ∷ A) l U v
-    from u = reads-at (u .list) refl refl (with-use (u .takes)
-        (on (reads-conditions es (es .fits) a n (clauseAt es (u .entry)) A (u .onward) (u .others) v .1 (u .fits, u .rest))))
+    from u = reads-at (u .list) refl refl (with-use (u .takes) (on (u .rest)))
 
 no-nesting : {es : Scope} {a : ℕ} {l : List ℕ} {U : Items} {v : Bool} → Sum zero es (atomᴳ a) l U v → ⊥
 no-nesting x = elim x [ ]

@@ -7,10 +7,10 @@ use mathlib.Core.Logic.{_⊎_, inl, inr, ⊎-elim, ⊎-map, by-cases}
 use mathlib.Core.Bool.{Bool, true, false, cond, not, _||_, _&&_, false≢true}
 use mathlib.Core.List.{List, [], _∷_, _++_, append-nil, head-eq-of-cons-eq, tail-eq-of-cons-eq}
 use lib.ListN.{length, length-append}
-use Rattle.calculus.specs.Formula.{Goal, Clause, atomᴳ, topᴳ, with, lolliᴳ, usable}
+use Rattle.calculus.specs.Formula.{Goal, Clause, atomᴳ, topᴳ, with, oplus, lolliᴳ, usable}
 use Rattle.calculus.specs.Items.{Items, ∅, _∪_, _∖_, only, Empty, Within}
-use Rattle.calculus.specs.Derivation.{Scope, Entry, size, clauseAt, linearAt, lend}
-use Rattle.calculus.specs.Steps.{Before, here, there}
+use Rattle.calculus.specs.Derivation.{Scope, Entry, size, clauseAt, linearAt, residualAt, lend}
+use Rattle.calculus.specs.Steps.{leftChoice, rightChoice, Before, here, there}
 use Rattle.calculus.specs.Inner.Summary.{Without, spare, Covers, Sum, sum-⊸, Bounded}
 use Rattle.calculus.proofs.SetLaws.{covers, within-trans, empty-∅, empty-within, ∪-joins, join-left, join-right, only-without, only-plus}
 use Rattle.calculus.proofs.SetLaws.{∅-∪-within, ∪-swap, ∖-spread, ∖-gather, lent-within, lent-covers, lent-used}
@@ -18,11 +18,11 @@ use Rattle.calculus.proofs.SetLaws.{relend-within, relend-covers, used-out, use
 use Rattle.calculus.proofs.SetLaws.{before-use-within, before-use-covers}
 use Rattle.calculus.proofs.SummaryExact.{bounded-within, fresh}
 use Rattle.calculus.proofs.RenamingKeeps.{entry-past}
-use Rattle.agenda.specs.Inner.Agenda.{Task, task, Agenda, Reads, reads-nil, Alike, pushed}
+use Rattle.agenda.specs.Inner.Agenda.{Task, task, Agenda, Reads, reads-nil, Alike}
 use Rattle.agenda.specs.Inner.Order.{Floor, ends, Next, next-here, Chosen, none, step}
 use Rattle.agenda.specs.Inner.Sought.{Place, floored, unfloored, holding, past, eased, lead, pastLead, pastWith, lentPlace, spent}
 use Rattle.agenda.specs.Inner.Sought.{spending, pastUse, InWindow, Spares, Sought, None, Least, Trying, Raised}
-use Rattle.agenda.proofs.AgendasRead.{reads-unique, reads-same, reads-empty, reads-⊤, reads-alone, reads-use, reads-unnested, Used}
+use Rattle.agenda.proofs.AgendasRead.{reads-unique, reads-same, reads-empty, reads-⊤, reads-alone, reads-⊕, reads-use, reads-unnested, Used}
 use Rattle.agenda.proofs.AgendasRead.{Takes, takes-rule, takes-item}
 use Rattle.agenda.proofs.ListsOrdered.{before-both, before-behind, before-raised, raised-before, not-raised}
 use Rattle.agenda.proofs.ListsOrdered.{raised-higher, before-next, floor-given, floor-open, floor-none, floor-left, floor-past}
@@ -45,7 +45,7 @@ record Past (es : Scope) (a n : ℕ) (A : Agenda) (e : ℕ) (m : List ℕ) (U : 
   others : Items
   fits : usable (es .fits) a (clauseAt es e) ≡ true
   takes : Takes es e U others
-  rest : Reads es (pushed n (clauseAt es e) A) m others v
+  rest : Reads es (task (residualAt es a e) n ∷ A) m others v
 
 past-use : {es : Scope} {a n : ℕ} {A : Agenda} {e : ℕ} {m : List ℕ} {U : Items} {v : Bool}
     → Used es a n A (e ∷ m) U v → Past es a n A e m U v
@@ -56,8 +56,8 @@ past-use {es} {a} {n} {A} {e} {m} {U} {v} u =
       others = u .others;
       fits = subst (λ (x : ℕ). usable (es .fits) a (clauseAt es x) ≡ true) h (u .fits);
       takes = subst (λ (x : ℕ). Takes es x U (u .others)) h (u .takes);
-      rest = subst (λ (x : ℕ). Reads es (pushed n (clauseAt es x) A) m (u .others) v) h
-          (subst (λ (k : List ℕ). Reads es (pushed n (clauseAt es (u .entry)) A) k (u .others) v) t (u .rest));
+      rest = subst (λ (x : ℕ). Reads es (task (residualAt es a x) n ∷ A) m (u .others) v) h
+          (subst (λ (k : List ℕ). Reads es (task (residualAt es a (u .entry)) n ∷ A) k (u .others) v) t (u .rest));
     }
 
 -- the entry used is a rule or at hand
@@ -284,7 +284,7 @@ module _ (eligible : List ℕ → ℕ → Bool) where
   -- what is sought past the use of e
   sought-past : {es : Scope} {a n : ℕ} {A : Agenda} (p : Place) {e : ℕ} {m F : List ℕ} {f : ℕ} {U : Items} {v : Bool}
       → Next (e ∷ []) (p .given) (p .from) F f → Sought eligible es (task (atomᴳ a) (suc n) ∷ A) p (e ∷ m) U v
-      → (W : Items) × Sought eligible es (pushed n (clauseAt es e) A) (pastUse es p e F f) m W v
+      → (W : Items) × Sought eligible es (task (residualAt es a e) n ∷ A) (pastUse es p e F f) m W v
   sought-past {es} {a} {n} {A} p {e} {m} {U} {v} k s =
       let u = past-use (reads-use es a n A (e ∷ m) U v .0 (s .reads)) in
       let h : length (e ∷ m) ≤ p .room = s .short in (
@@ -300,7 +300,7 @@ module _ (eligible : List ℕ → ℕ → Bool) where
 
   -- past its use nothing is sought
   pub trying-next : {es : Scope} {a n : ℕ} {A : Agenda} {p : Place} {e : ℕ} {F : List ℕ} {f : ℕ} → Trying eligible es a (suc n) A p e
-      → Next (e ∷ []) (p .given) (p .from) F f → None eligible es (pushed n (clauseAt es e) A) (pastUse es p e F f)
+      → Next (e ∷ []) (p .given) (p .from) F f → None eligible es (task (residualAt es a e) n ∷ A) (pastUse es p e F f)
       → Trying eligible es a (suc n) A p (suc e)
   trying-next {p} t k h = trying-past t (λ m U v s. let r = sought-past p k s in h .none m (r .0) v (r .1))
 
@@ -309,7 +309,7 @@ module _ (eligible : List ℕ → ℕ → Bool) where
       → Trying eligible es a (suc n) A p e
       → usable (es .fits) a (clauseAt es e) ≡ true → (not (linearAt es e) || (p .strict ∪ p .lax) e) ≡ true → eligible (p .done) e ≡ true
       → 1 ≤ p .room → Next (e ∷ []) (p .given) (p .from) F f
-      → Least eligible es (pushed n (clauseAt es e) A) (pastUse es p e F f) l U v
+      → Least eligible es (task (residualAt es a e) n ∷ A) (pastUse es p e F f) l U v
       → Least eligible es (task (atomᴳ a) (suc n) ∷ A) p (e ∷ l) (spending es e U) v
   trying-found {es} {a} {n} {A} {p} {e} {F} {l} {f} {U} {v} t fits hand picked room k h = record {
     sought = record {
@@ -343,6 +343,128 @@ module _ (eligible : List ℕ → ℕ → Bool) where
         let g : e ≤ b .entry = t .trying (b .entry) (b .onward) U v (b .sought) in
         omega (arith, in-scope a es (b .entry) (takable (b .sought) .fits));
   }
+
+  -- ⊕ wants a step: a choice.
+  record Chose (es : Scope) (G : Goal) (n : ℕ) (A : Agenda) (p : Place) (c : ℕ) (l : List ℕ) (U : Items) (v : Bool) : Type 0 where
+    onward : List ℕ
+    list : l ≡ c ∷ onward
+    side : Reads es (task G n ∷ A) onward U v
+
+  chose : {es : Scope} {G H : Goal} {n : ℕ} {A : Agenda} {p : Place} {l : List ℕ} {U : Items} {v : Bool}
+      → Sought eligible es (task (oplus G H) n ∷ A) p l U v → Chose es G n A p leftChoice l U v ⊎ Chose es H n A p rightChoice l U v
+  chose {es} {G} {H} {n} {A} {l = l} {U} {v} s = ⊎-map
+      (λ x. record { onward = x .0; list = x .1; side = x .2 }) (λ x. record { onward = x .0; list = x .1; side = x .2 })
+      (reads-⊕ es n G H A l U v .0 (s .reads))
+
+  -- without room there is no list
+  pub choice-roomless : {es : Scope} {G H : Goal} {n : ℕ} {A : Agenda} {p : Place} → p .room ≡ 0 → None eligible es (task (oplus G H) n ∷ A) p
+  choice-roomless {p} h = record {
+    none = λ l U v s. let k : length l ≤ p .room = s .short in
+        ⊎-elim (λ c. omega (arith, ap length (c .list), k, h)) (λ c. omega (arith, ap length (c .list), k, h)) (chose s);
+  }
+
+  -- a side shut: no list sought at the agenda begins with the choice
+  pub record Shut (es : Scope) (A : Agenda) (p : Place) (c : ℕ) : Type 0 where
+    pub shut : (m : List ℕ) (U : Items) (v : Bool) → Sought eligible es A p (c ∷ m) U v → ⊥
+
+  -- with given steps ahead, or the least step of the floor, above it
+  pub shut-given : {es : Scope} {A : Agenda} {p : Place} {c x : ℕ} {F : List ℕ} → p .given ≡ x ∷ F → c < x → Shut es A p c
+  shut-given {p} {c} {x} e h = record {
+    shut = λ m U v s. let k : x ≤ c = floor-given (subst (λ (j : List ℕ). Floor (c ∷ m) j (p .from)) e (s .floor)) in omega arith;
+  }
+
+  pub shut-open : {es : Scope} {A : Agenda} {p : Place} {c : ℕ} → p .given ≡ [] → c < p .from → Shut es A p c
+  shut-open {p} {c} e h = record {
+    shut = λ m U v s. let k : p .from ≤ c = floor-open (subst (λ (j : List ℕ). Floor (c ∷ m) j (p .from)) e (s .floor)) in omega arith;
+  }
+
+  -- past a choice
+  abbrev pub pastChoice : Place → ℕ → List ℕ → ℕ → Place
+  pastChoice p c F f = past p (c ∷ []) F f (p .strict) (p .lax)
+
+  sought-side : {es : Scope} {G : Goal} {n : ℕ} {A B : Agenda} (p : Place) {c : ℕ} {m F : List ℕ} {f : ℕ} {U : Items} {v : Bool}
+      → Next (c ∷ []) (p .given) (p .from) F f → Sought eligible es B p (c ∷ m) U v → Reads es (task G n ∷ A) m U v
+      → Sought eligible es (task G n ∷ A) (pastChoice p c F f) m U v
+  sought-side p {c} {m} k s r =
+      let h : length (c ∷ m) ≤ p .room = s .short in
+      record { reads = r; window = s .window; short = omega arith; chosen = chosen-right (c ∷ []) (s .chosen); floor = floor-past m k (s .floor) }
+
+  module _ {es : Scope} {G H : Goal} {n : ℕ} {A : Agenda} {p : Place} where
+    -- what follows the choice is sought at the side
+    past-left : {m : List ℕ} {U : Items} {v : Bool} → Sought eligible es (task (oplus G H) n ∷ A) p (leftChoice ∷ m) U v → Reads es (task G n ∷ A) m U v
+    past-left {m} {U} {v} s = ⊎-elim
+        (λ c. subst (λ (k : List ℕ). Reads es (task G n ∷ A) k U v) (sym (tail-eq-of-cons-eq (c .list))) (c .side))
+        (λ c. absurd (omega (arith, head-eq-of-cons-eq (c .list)))) (chose s)
+
+    past-right : {m : List ℕ} {U : Items} {v : Bool} → Sought eligible es (task (oplus G H) n ∷ A) p (rightChoice ∷ m) U v → Reads es (task H n ∷ A) m U v
+    past-right {m} {U} {v} s = ⊎-elim (λ c. absurd (omega (arith, head-eq-of-cons-eq (c .list))))
+        (λ c. subst (λ (k : List ℕ). Reads es (task H n ∷ A) k U v) (sym (tail-eq-of-cons-eq (c .list))) (c .side)) (chose s)
+
+    -- past the choice nothing is sought
+    pub shut-left : {F : List ℕ} {f : ℕ} → Next (leftChoice ∷ []) (p .given) (p .from) F f
+        → None eligible es (task G n ∷ A) (pastChoice p leftChoice F f) → Shut es (task (oplus G H) n ∷ A) p leftChoice
+    shut-left k h = record { shut = λ m U v s. h .none m U v (sought-side p k s (past-left s)) }
+
+    pub shut-right : {F : List ℕ} {f : ℕ} → Next (rightChoice ∷ []) (p .given) (p .from) F f
+        → None eligible es (task H n ∷ A) (pastChoice p rightChoice F f) → Shut es (task (oplus G H) n ∷ A) p rightChoice
+    shut-right k h = record { shut = λ m U v s. h .none m U v (sought-side p k s (past-right s)) }
+
+    -- both sides are shut
+    pub choice-none : Shut es (task (oplus G H) n ∷ A) p leftChoice → Shut es (task (oplus G H) n ∷ A) p rightChoice → None eligible es (task (oplus G H) n ∷ A) p
+    choice-none x y = record {
+      none = λ l U v s. ⊎-elim
+          (λ c. x .shut (c .onward) U v (subst (λ (k : List ℕ). Sought eligible es (task (oplus G H) n ∷ A) p k U v) (c .list) s))
+          (λ c. y .shut (c .onward) U v (subst (λ (k : List ℕ). Sought eligible es (task (oplus G H) n ∷ A) p k U v) (c .list) s)) (chose s);
+    }
+
+    -- what is sought at the agenda, from the least list past a choice
+    side-sought : {c : ℕ} {m F : List ℕ} {f : ℕ} {B : Agenda} {U : Items} {v : Bool} → eligible (p .done) c ≡ true → 1 ≤ p .room
+        → Next (c ∷ []) (p .given) (p .from) F f → Sought eligible es B (pastChoice p c F f) m U v → Reads es (task (oplus G H) n ∷ A) (c ∷ m) U v
+        → Sought eligible es (task (oplus G H) n ∷ A) p (c ∷ m) U v
+    side-sought {m = m} e h k s r = record {
+      reads = r;
+      window = s .window;
+      short = let j : length m ≤ p .room - 1 = s .short in omega arith;
+      chosen = chosen-both (step e none) (s .chosen);
+      floor = floor-on k (s .floor);
+    }
+
+    -- the left side is solved
+    pub choice-left : {m F : List ℕ} {f : ℕ} {U : Items} {v : Bool} → eligible (p .done) leftChoice ≡ true → 1 ≤ p .room
+        → Next (leftChoice ∷ []) (p .given) (p .from) F f → Least eligible es (task G n ∷ A) (pastChoice p leftChoice F f) m U v
+        → Least eligible es (task (oplus G H) n ∷ A) p (leftChoice ∷ m) U v
+    choice-left {m} {U = U} {v} e h k l = record {
+      sought = side-sought e h k (l .sought) (reads-⊕ es n G H A (leftChoice ∷ m) U v .1 (inl (m, refl, l .sought .reads)));
+      least = λ j W w s. ⊎-elim (λ c. at j (c .onward) W w (c .list) s) (λ c. inr (later j (c .list))) (chose s);
+    }
+      where
+        at : (j i : List ℕ) (W : Items) (w : Bool) → j ≡ leftChoice ∷ i → Sought eligible es (task (oplus G H) n ∷ A) p j W w
+            → (j ≡ leftChoice ∷ m) ⊎ Before (leftChoice ∷ m) j
+        at j i W w q s =
+            let t = subst (λ (k : List ℕ). Sought eligible es (task (oplus G H) n ∷ A) p k W w) q s in
+            ⊎-map (λ z. q ∙ ap (λ (k : List ℕ). leftChoice ∷ k) z) (λ b. subst (Before (leftChoice ∷ m)) (sym q) (there b))
+            (l .least i W w (sought-side p k t (past-left t)))
+
+        later : (j : List ℕ) {i : List ℕ} → j ≡ rightChoice ∷ i → Before (leftChoice ∷ m) j
+        later j {i} q = subst (Before (leftChoice ∷ m)) (sym q) (here (omega arith))
+
+    -- the left side is shut, and the right side is solved
+    pub choice-right : {m F : List ℕ} {f : ℕ} {U : Items} {v : Bool} → Shut es (task (oplus G H) n ∷ A) p leftChoice → eligible (p .done) rightChoice ≡ true
+        → 1 ≤ p .room → Next (rightChoice ∷ []) (p .given) (p .from) F f
+        → Least eligible es (task H n ∷ A) (pastChoice p rightChoice F f) m U v → Least eligible es (task (oplus G H) n ∷ A) p (rightChoice ∷ m) U v
+    choice-right {m} {U = U} {v} x e h k l = record {
+      sought = side-sought e h k (l .sought) (reads-⊕ es n G H A (rightChoice ∷ m) U v .1 (inr (m, refl, l .sought .reads)));
+      least = λ j W w s. ⊎-elim
+          (λ c. absurd (x .shut (c .onward) W w (subst (λ (k : List ℕ). Sought eligible es (task (oplus G H) n ∷ A) p k W w) (c .list) s)))
+          (λ c. at j (c .onward) W w (c .list) s) (chose s);
+    }
+      where
+        at : (j i : List ℕ) (W : Items) (w : Bool) → j ≡ rightChoice ∷ i → Sought eligible es (task (oplus G H) n ∷ A) p j W w
+            → (j ≡ rightChoice ∷ m) ⊎ Before (rightChoice ∷ m) j
+        at j i W w q s =
+            let t = subst (λ (k : List ℕ). Sought eligible es (task (oplus G H) n ∷ A) p k W w) q s in
+            ⊎-map (λ z. q ∙ ap (λ (k : List ℕ). rightChoice ∷ k) z) (λ b. subst (Before (rightChoice ∷ m)) (sym q) (there b))
+            (l .least i W w (sought-side p k t (past-right t)))
 
   -- The goal of a lend is answered with the clause lent, strict, and the answer stands without it.
   sought-lent : {es : Scope} {D : Clause} {G : Goal} {n : ℕ} (p : Place) {l : List ℕ} {U : Items} {v : Bool}

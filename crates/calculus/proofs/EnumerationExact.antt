@@ -6,21 +6,21 @@ use native.Mathlib.Decide.{ℕ-discrete, decLt}
 use mathlib.Core.Path.{_≡_, refl, sym, ap, ap₂, _∙_, subst}
 use mathlib.Core.Logic.{_⊎_, inl, inr, ⊎-elim, ⊎-map, _↔_, by-cases}
 use mathlib.Core.Bool.{Bool, true, false, not, _&&_, _||_, false≢true}
-use mathlib.Core.List.{List, [], _∷_, flatMap, List·Memᴰ, List·Memᴰ·head, List·Memᴰ·tail, List·Memᴰ·not-nil, List·Memᴰ·eq-of-singleton}
-use mathlib.Core.List.{List·Memᴰ·cases-cons, List·Memᴰ·append-cases, Memᴰ·append-left, Memᴰ·append-right}
+use mathlib.Core.List.{List, [], _∷_, map, flatMap, List·Memᴰ, List·Memᴰ·head, List·Memᴰ·tail, List·Memᴰ·not-nil, List·Memᴰ·eq-of-singleton}
+use mathlib.Core.List.{List·Memᴰ·cases-cons, List·Memᴰ·append-cases, Memᴰ·append-left, Memᴰ·append-right, Memᴰ·map, Memᴰ·of-map}
 use lib.ListN.{length}
 use lib.Dec.{eqb, ltb}
 use borrow.Author.Tests.{eqb-true, ltb-true, leb-true, le-leb, not-true as untrue}
-use Rattle.calculus.specs.Formula.{Goal, Clause, atomᴳ, topᴳ, oneᴳ, zeroᴳ, tensor, with, lolliᴳ, residual}
+use Rattle.calculus.specs.Formula.{Goal, Clause, atomᴳ, topᴳ, oneᴳ, zeroᴳ, tensor, with, oplus, lolliᴳ, residual}
 use Rattle.calculus.specs.Items.{Items, ∅, _∪_, _∖_, only, Empty, Splits}
 use Rattle.calculus.specs.Derivation.{Scope, Entry, size, clauseAt, linearAt, residualAt, lend}
-use Rattle.calculus.specs.Steps.{steps, Before, here, there}
+use Rattle.calculus.specs.Steps.{steps, leftChoice, rightChoice, Before, here, there}
 use Rattle.calculus.specs.Job.{Job, Derivable, Listed, First}
-use Rattle.calculus.specs.Inner.Summary.{Joins, Without, Plus, spare, Covers, Bounded, Sum, sum-1, sum-⊤, sum-⊗, sum-&, sum-⊸}
-use Rattle.calculus.specs.Inner.Summary.{sum-rule, sum-item}
+use Rattle.calculus.specs.Inner.Summary.{Joins, Without, Plus, spare, Covers, Bounded, Sum, sum-1, sum-⊤, sum-⊗, sum-&, sum-⊕₁}
+use Rattle.calculus.specs.Inner.Summary.{sum-⊕₂, sum-⊸, sum-rule, sum-item}
 use Rattle.calculus.specs.Inner.Window.{Counts}
 use Rattle.calculus.specs.Inner.Enumeration.{Taking, taking, kept, pairs, below, all, apart, covering, tensored, sided}
-use Rattle.calculus.specs.Inner.Enumeration.{lent, spent, takings, named, fitting, lists, matches, among, leads}
+use Rattle.calculus.specs.Inner.Enumeration.{lent, spent, sideTaken, takings, named, fitting, lists, matches, among, leads}
 use Rattle.calculus.proofs.SetLaws.{_≐_, _⟹_, _⊑_, table, same-path, covers, not-true, only-eq, only-self, empty-∅, ∪-joins}
 use Rattle.calculus.proofs.SetLaws.{join-left, join-right, join-within, only-without, only-plus, split-joins}
 use Rattle.calculus.proofs.SummaryExact.{bounded-within, bounded-∪, lend-size}
@@ -152,6 +152,8 @@ sum-bounded (sum-1 e) = empty-bounded e
 sum-bounded (sum-⊤ e) = empty-bounded e
 sum-bounded (sum-⊗ p s w x y) = joined-bounded (split-joins s) (sum-bounded x) (sum-bounded y)
 sum-bounded (sum-& p j w s t x y) = joined-bounded j (sum-bounded x) (sum-bounded y)
+sum-bounded (sum-⊕₁ q x) = sum-bounded x
+sum-bounded (sum-⊕₂ q x) = sum-bounded x
 sum-bounded (sum-⊸ {D} s t x) = without-bounded D s (sum-bounded x)
 sum-bounded (sum-rule r x) = sum-bounded x
 sum-bounded (sum-item {a} {e} r t s x) =
@@ -182,6 +184,14 @@ sided-sums {n} {es} {G} {H} {x} {y} p q m =
           (covering-covers (y .slack) (y .used) (x .used) (sum-bounded (p .sum)) (c .1))
           (p .sum) (q .sum);
     })
+
+left-sums : {n : ℕ} {es : Scope} {G H : Goal} {x : Taking} → Sums n es G x → Sums n es (oplus G H) (sideTaken leftChoice x)
+unfolding sideTaken
+left-sums p = record { sum = sum-⊕₁ refl (p .sum) }
+
+right-sums : {n : ℕ} {es : Scope} {G H : Goal} {x : Taking} → Sums n es H x → Sums n es (oplus G H) (sideTaken rightChoice x)
+unfolding sideTaken
+right-sums p = record { sum = sum-⊕₂ refl (p .sum) }
 
 lent-sums : {n : ℕ} {es : Scope} {D : Clause} {G : Goal} {x z : Taking}
     → Sums n (lend es D) G x → List·Memᴰ z (lent es x) → Sums n es (lolliᴳ D G) z
@@ -217,6 +227,12 @@ takings-sums n names f (tensor G H) es x m =
 takings-sums n names f (with G H) es x m =
     let r = out-of-pairs (sided es) (takings names G es) (takings names H es) m in
     sided-sums (takings-sums n names f G es (r .0) (r .2)) (takings-sums n names f H es (r .1) (r .3)) (r .4)
+takings-sums n names f (oplus G H) es x m = ⊎-elim
+    (λ i. let r = Memᴰ·of-map (sideTaken leftChoice) (takings names G es) i in
+    subst (Sums n es (oplus G H)) (r .2) (left-sums (takings-sums n names f G es (r .0) (r .1))))
+    (λ i. let r = Memᴰ·of-map (sideTaken rightChoice) (takings names H es) i in
+    subst (Sums n es (oplus G H)) (r .2) (right-sums (takings-sums n names f H es (r .0) (r .1))))
+    (List·Memᴰ·append-cases (map (sideTaken leftChoice) (takings names G es)) m)
 takings-sums n names f (lolliᴳ D G) es x m =
     let r = out-of (lent es) (takings names G (lend es D)) m in
     lent-sums (takings-sums n names f G (lend es D) (r .0) (r .1)) (r .2)
@@ -247,6 +263,13 @@ unfolding spent _∪_
 spent-item true e x r t s = kept-in (not (x .used e)) (ap not t) (taking-path refl (s .plus) refl)
 spent-item false e x r t s = absurd (false≢true r)
 
+-- a side's taking, behind the choice
+side-taken : (c : ℕ) {l m : List ℕ} {U : Items} {v : Bool} {xs : List Taking} → l ≡ c ∷ m → List·Memᴰ (taking m U v) xs
+    → List·Memᴰ (taking l U v) (map (sideTaken c) xs)
+unfolding sideTaken
+side-taken c {U} {v} {xs} q i =
+    subst (λ l. List·Memᴰ (taking l U v) (map (sideTaken c) xs)) (sym q) (Memᴰ·map (sideTaken c) i)
+
 taken : {n : ℕ} {es : Scope} {G : Goal} {l : List ℕ} {U : Items} {v : Bool}
     → Sum n es G l U v → List·Memᴰ (taking l U v) (takings (named n) G es)
 unfolding takings named tensored sided lent spare ∅ _∪_ _∖_
@@ -257,6 +280,10 @@ taken {es} (sum-⊗ p s w x y) =
 taken {es} (sum-& {U₁} {U₂} {v₁} {v₂} p j w s t x y) =
     into-pairs (sided es) (taken x) (taken y)
     (kept-in _ (and-true _ _ (covers-covering es v₁ s) (covers-covering es v₂ t)) (taking-path p (j .joined) w))
+taken {n} {es} (sum-⊕₁ {H} q x) =
+    Memᴰ·append-left (map (sideTaken rightChoice) (takings (named n) H es)) (side-taken leftChoice q (taken x))
+taken {n} {es} (sum-⊕₂ {G} q x) =
+    Memᴰ·append-right (map (sideTaken leftChoice) (takings (named n) G es)) (side-taken rightChoice q (taken x))
 taken {es} (sum-⊸ s t x) = into (lent es) (taken x) (kept-in _ t (taking-path refl (s .without) refl))
 taken {es} (sum-rule {n} {a} {e} {l} {U} {v} r x) =
     into (λ e. flatMap (spent (linearAt es e) e) (takings (named n) (residualAt es a e) es)) (below-in (size es) (in-scope a e x))

@@ -1,18 +1,18 @@
--- Two jobs side by side: a list of each, renumbered, one behind the other, is a list of the job that holds both.
+-- Two jobs side by side: a list of each, its entries renumbered, one behind the other, is a list of the job that holds both.
 use Prim.Native.Nat.{ℕ, max, _+_, _≤_}
 use native.Mathlib.Omega.{arith}
-use mathlib.Core.Path.{_≡_, refl, sym, ap, ap₂, _∙_, subst}
+use mathlib.Core.Path.{_≡_, refl, sym, ap, _∙_, subst}
 use mathlib.Core.Logic.{_⊎_, ⊎-elim}
 use mathlib.Core.Bool.{Bool, true, false, _&&_, _||_}
-use mathlib.Core.List.{List, _++_, map}
-use lib.ListN.{length, length-append, length-map}
+use mathlib.Core.List.{List, _++_}
+use lib.ListN.{length, length-append}
 use Rattle.calculus.specs.Formula.{Goal}
 use Rattle.calculus.specs.Items.{Items, _∪_, Splits, Within}
 use Rattle.calculus.specs.Steps.{nesting}
 use Rattle.calculus.specs.Job.{Job, Listed}
 use Rattle.calculus.specs.Inner.Renaming.{Image, Renamed, over, Beside}
 use Rattle.calculus.proofs.SetLaws.{or-right, ∪-cases}
-use Rattle.calculus.proofs.RenamingKeeps.{pushed, image-pushed, image-back, rename, renamed-⊗, listed-by, over-steps}
+use Rattle.calculus.proofs.RenamingKeeps.{pushed, image-pushed, image-back, rename, renamed-⊗, listed-by, over-length}
 
 -- items of the one or the other
 in-left : (I J : Items) (x : ℕ) → I x ≡ true → (I ∪ J) x ≡ true
@@ -82,10 +82,6 @@ module _ {i j k : Job} {f g h e : ℕ → ℕ} (b : Beside i j k f g h e) {l m :
   abbrev list : List ℕ
   list = over f (x .derivation .tree) ++ over h (y .derivation .tree)
 
-  mapped : list ≡ map f l ++ map h m
-  mapped =
-      ap₂ _++_ (over-steps f (x .derivation .tree) ∙ ap (map f) (x .list)) (over-steps h (y .derivation .tree) ∙ ap (map h) (y .list))
-
   abbrev deepest : ℕ
   deepest = max (nesting (x .derivation .tree)) (nesting (y .derivation .tree))
 
@@ -94,12 +90,15 @@ module _ {i j k : Job} {f g h e : ℕ → ℕ} (b : Beside i j k f g h e) {l m :
       subst (λ (G : Goal). Renamed (k .scope) (I ∪ J) G list deepest) (b .both-goals)
       (renamed-⊗ shares (rename (b .first) first-image (x .derivation .tree)) (rename (b .second) second-image (y .derivation .tree)) refl)
 
-  -- THEOREM. The list of the one, renumbered, and that of the other behind it are a list of the job in which both stand.
-  pub beside-listed : length l + length m ≤ k .length-limit → Listed k (map f l ++ map h m)
-  beside-listed short = subst (Listed k) mapped (listed-by all-strict none-else both shallow counted)
+  -- THEOREM. The list of the one with its entries renumbered and that of the other behind it are a list of the job in which both stand.
+  pub beside-listed : length l + length m ≤ k .length-limit → Listed k list
+  beside-listed short = listed-by all-strict none-else both shallow counted
     where
       shallow : deepest ≤ k .depth
       shallow = omega (arith, x .limited .nested, y .limited .nested, b .first-shallow, b .second-shallow)
 
       counted : length list ≤ k .length-limit
-      counted = omega (arith, ap length mapped, length-append (map f l) (map h m), length-map l f, length-map m h)
+      counted =
+          let c = x .derivation .tree in
+          let d = y .derivation .tree in
+          omega (arith, length-append (over f c) (over h d), over-length f c, over-length h d, ap length (x .list), ap length (y .list))

@@ -1,20 +1,21 @@
 -- Renaming: a derivation goes over along a map of entries that keeps clauses and linearity, its steps mapped. Equal lines may be swapped.
 use Prim.Native.Nat.{ℕ, zero, suc, max, _+_, _≤_, _<_}
 use mathlib.Core.Path.{_≡_, refl, sym, ap, ap₂, _∙_, subst}
-use mathlib.Core.Logic.{_≢_, ite, if-pos, if-neg}
+use mathlib.Core.Logic.{_≢_, _⊎_, inl, inr, ⊎-elim, ite, if-pos, if-neg}
 use mathlib.Core.Bool.{Bool, true, false, not, _&&_, _||_, true≢false}
 use mathlib.Core.List.{List, [], _∷_, _++_, map, map-append}
 use native.Mathlib.Decide.{ℕ-discrete, decLt}
 use native.Mathlib.Nat.{add-zero}
 use native.Mathlib.Omega.{arith}
 use lib.Dec.{T, eqb, eqb→eq, eqb-refl}
-use lib.ListN.{length, length-map, List·getD-append, List·getD-eq-default}
+use lib.ListN.{length, length-append, List·getD-append, List·getD-eq-default}
 use lib.Seq.{getD-append-seam}
-use Rattle.calculus.specs.Formula.{Goal, Clause, Fits, atomᴳ, zeroᴳ, tensor, with, atomᴰ, topᴰ, lolliᴰ, matched, residual, usable}
+use Rattle.calculus.specs.Formula.{Goal, Clause, Fits, atomᴳ, zeroᴳ, tensor, with, oplus, atomᴰ, topᴰ, lolliᴰ, withᴰ, matched}
+use Rattle.calculus.specs.Formula.{residual, usable}
 use Rattle.calculus.specs.Items.{Items, _∪_, _∖_, only, Empty, Splits, Within}
 use Rattle.calculus.specs.Derivation.{Scope, Entry, noEntry, size, entryAt, clauseAt, linearAt, residualAt, extend, lend, Derives, res-1, res-⊤}
-use Rattle.calculus.specs.Derivation.{res-⊗, res-&, res-⊸, res-atm-int, res-atm-lin}
-use Rattle.calculus.specs.Steps.{steps, nesting}
+use Rattle.calculus.specs.Derivation.{res-⊗, res-&, res-⊕₁, res-⊕₂, res-⊸, res-atm-int, res-atm-lin}
+use Rattle.calculus.specs.Steps.{steps, nesting, leftChoice, rightChoice}
 use Rattle.calculus.specs.Job.{Job, Derivation, Limited, Listed}
 use Rattle.calculus.specs.Inner.Renaming.{Renaming, Image, over, Renamed, JobRenaming, swap}
 use Rattle.calculus.proofs.SetLaws.{or-right}
@@ -28,6 +29,11 @@ no-zero d = elim d [ ]
 left-part : {es : Scope} {I : Items} {G H : Goal} → Derives es I (tensor G H) → (J : Items) × Derives es J G
 left-part (res-⊗ {J} s l r) = (J, l)
 
+-- what is derived of ⊕ is derived of one of its parts
+part-taken : {es : Scope} {I : Items} {G H : Goal} → Derives es I (oplus G H) → Derives es I G ⊎ Derives es I H
+part-taken (res-⊕₁ d) = inl d
+part-taken (res-⊕₂ d) = inr d
+
 matched-true : {es : Scope} {I : Items} (b : Bool) → Derives es I (matched b) → b ≡ true
 unfolding matched
 matched-true true d = refl
@@ -39,6 +45,9 @@ unfolding residual usable
 used-usable fits a (atomᴰ b) d = matched-true (fits b a) d
 used-usable fits a topᴰ d = absurd (no-zero d)
 used-usable fits a (lolliᴰ G D) d = used-usable fits a D (left-part d .1)
+used-usable fits a (withᴰ D E) d =
+    ⊎-elim (λ c. ap (λ (b : Bool). b || usable fits a E) (used-usable fits a D c))
+    (λ c. or-right (usable fits a D) (usable fits a E) (used-usable fits a E c)) (part-taken d)
 
 pub entry-past : (es : Scope) (e : ℕ) → size es ≤ e → entryAt es e ≡ noEntry
 unfolding size entryAt
@@ -245,6 +254,16 @@ renamed-& x y q =
       depth = ap₂ max (x .depth) (y .depth);
     }
 
+renamed-⊕₁ : {fs : Scope} {I : Items} {G H : Goal} {l : List ℕ} {n : ℕ}
+    → Renamed fs I G l n → Renamed fs I (oplus G H) (leftChoice ∷ l) n
+unfolding steps nesting
+renamed-⊕₁ x = record { tree = res-⊕₁ (x .tree); list = ap (λ l. leftChoice ∷ l) (x .list); depth = x .depth }
+
+renamed-⊕₂ : {fs : Scope} {I : Items} {G H : Goal} {l : List ℕ} {n : ℕ}
+    → Renamed fs I H l n → Renamed fs I (oplus G H) (rightChoice ∷ l) n
+unfolding steps nesting
+renamed-⊕₂ x = record { tree = res-⊕₂ (x .tree); list = ap (λ l. rightChoice ∷ l) (x .list); depth = x .depth }
+
 -- a test that lets more heads fit leaves what is derived derived
 renamed-1 : {fs : Scope} {J : Items} {l : List ℕ} {n : ℕ} (b c : Bool) → (b ≡ true → c ≡ true)
     → Renamed fs J (matched b) l n → Renamed fs J (matched c) l n
@@ -260,6 +279,8 @@ renamed-wider s t h a (atomᴰ b) d = renamed-1 (s b a) (t b a) (h b a) (record 
 renamed-wider s t h a topᴰ d = absurd (no-zero d)
 renamed-wider s t h a (lolliᴰ G D) (res-⊗ p c d) =
     renamed-⊗ p (renamed-wider s t h a D c) (record { tree = d; list = refl; depth = refl }) refl
+renamed-wider s t h a (withᴰ D E) (res-⊕₁ d) = renamed-⊕₁ (renamed-wider s t h a D d)
+renamed-wider s t h a (withᴰ D E) (res-⊕₂ d) = renamed-⊕₂ (renamed-wider s t h a E d)
 
 module _ {es fs : Scope} {f g : ℕ → ℕ} {l : List ℕ} {n : ℕ} (r : Renaming es fs f g) (a e : ℕ) (h : e < size es) where
   -- what is left of the entry, there
@@ -294,6 +315,8 @@ rename r m (res-⊗ s c d) =
     let y = rename r (image-share m (r .undone) (splits-right s)) d in
     renamed-⊗ (splits-share m s) x y refl
 rename r m (res-& c d) = renamed-& (rename r m c) (rename r m d) refl
+rename r m (res-⊕₁ d) = renamed-⊕₁ (rename r m d)
+rename r m (res-⊕₂ d) = renamed-⊕₂ (rename r m d)
 rename {J} r m (res-⊸ {es} {D} h d) =
     let x = rename (renaming-lend r D) (image-more m (r .undone) (size es) _ (next-image r)) d in
     record { tree = res-⊸ (ap J (sym (next-image r)) ∙ m .taken (size es) ∙ h) (x .tree); list = x .list; depth = x .depth }
@@ -301,20 +324,35 @@ rename r m (res-atm-int {a} e n d) = renamed-rule r a e (in-scope a e d) n (rena
 rename r m (res-atm-lin {a} e n h d) =
     renamed-item r a e (in-scope a e d) n (m .taken e ∙ h) (rename r (image-less m (r .undone) e) d)
 
--- THEOREM. Every step is an entry: a derivation with its entries renamed has its steps mapped.
-pub over-steps : {es : Scope} {I : Items} {G : Goal} (f : ℕ → ℕ) (d : Derives es I G) → over f d ≡ map f (steps d)
+-- THEOREM. Every step is an entry or a choice: with its entries renamed by a map that keeps choices, a derivation has its steps mapped.
+pub over-steps : {es : Scope} {I : Items} {G : Goal} (f : ℕ → ℕ) → f leftChoice ≡ leftChoice → f rightChoice ≡ rightChoice
+    → (d : Derives es I G) → over f d ≡ map f (steps d)
 unfolding over steps
-over-steps f (res-1 n) = refl
-over-steps f res-⊤ = refl
-over-steps f (res-⊗ s l r) = ap₂ _++_ (over-steps f l) (over-steps f r) ∙ sym (map-append f (steps l) (steps r))
-over-steps f (res-& l r) = ap₂ _++_ (over-steps f l) (over-steps f r) ∙ sym (map-append f (steps l) (steps r))
-over-steps f (res-⊸ h d) = over-steps f d
-over-steps f (res-atm-int e n d) = ap (λ l. f e ∷ l) (over-steps f d)
-over-steps f (res-atm-lin e n h d) = ap (λ l. f e ∷ l) (over-steps f d)
+over-steps f p q (res-1 n) = refl
+over-steps f p q res-⊤ = refl
+over-steps f p q (res-⊗ s l r) = ap₂ _++_ (over-steps f p q l) (over-steps f p q r) ∙ sym (map-append f (steps l) (steps r))
+over-steps f p q (res-& l r) = ap₂ _++_ (over-steps f p q l) (over-steps f p q r) ∙ sym (map-append f (steps l) (steps r))
+over-steps f p q (res-⊕₁ d) = ap₂ _∷_ (sym p) (over-steps f p q d)
+over-steps f p q (res-⊕₂ d) = ap₂ _∷_ (sym q) (over-steps f p q d)
+over-steps f p q (res-⊸ h d) = over-steps f p q d
+over-steps f p q (res-atm-int e n d) = ap (λ l. f e ∷ l) (over-steps f p q d)
+over-steps f p q (res-atm-lin e n h d) = ap (λ l. f e ∷ l) (over-steps f p q d)
+
+both-lengths : (k l m n : List ℕ) → length k ≡ length m → length l ≡ length n → length (k ++ l) ≡ length (m ++ n)
+both-lengths k l m n p q = length-append k l ∙ ap₂ _+_ p q ∙ sym (length-append m n)
 
 -- THEOREM. A derivation has as many steps with its entries renamed.
 pub over-length : {es : Scope} {I : Items} {G : Goal} (f : ℕ → ℕ) (d : Derives es I G) → length (over f d) ≡ length (steps d)
-over-length f d = ap length (over-steps f d) ∙ length-map (steps d) f
+unfolding over steps
+over-length f (res-1 n) = refl
+over-length f res-⊤ = refl
+over-length f (res-⊗ s l r) = both-lengths (over f l) (over f r) (steps l) (steps r) (over-length f l) (over-length f r)
+over-length f (res-& l r) = both-lengths (over f l) (over f r) (steps l) (steps r) (over-length f l) (over-length f r)
+over-length f (res-⊕₁ d) = ap suc (over-length f d)
+over-length f (res-⊕₂ d) = ap suc (over-length f d)
+over-length f (res-⊸ h d) = over-length f d
+over-length f (res-atm-int e n d) = ap suc (over-length f d)
+over-length f (res-atm-lin e n h d) = ap suc (over-length f d)
 
 -- Jobs go over
 

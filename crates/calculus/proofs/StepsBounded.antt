@@ -1,18 +1,20 @@
 -- How far up the entry numbers of a derivation's steps go: clauses of height 8 at most lend six clauses a use, one inside the other.
 use Prim.Native.Nat.{ℕ, _+_, _*_, _≤_, _<_}
 use native.Mathlib.Omega.{arith}
-use mathlib.Core.Path.{_≡_, refl, sym, ap, _∙_}
+use mathlib.Core.Path.{_≡_, refl, sym, ap, ap₂, _∙_, subst}
+use mathlib.Core.Logic.{_⊎_, inl, inr}
 use mathlib.Core.Bool.{Bool, true, false, _||_, false≢true}
 use mathlib.Core.List.{List, [], _∷_, _++_}
 use lib.Dec.{eqb}
 use borrow.Author.Tests.{eqb-true}
-use Rattle.calculus.specs.Formula.{Goal, Clause, atomᴳ, topᴳ, oneᴳ, zeroᴳ, tensor, with, lolliᴳ, atomᴰ, topᴰ, lolliᴰ, Fits, matched}
-use Rattle.calculus.specs.Formula.{residual}
+use Rattle.calculus.specs.Formula.{Goal, Clause, atomᴳ, topᴳ, oneᴳ, zeroᴳ, tensor, with, oplus, lolliᴳ, atomᴰ, topᴰ, lolliᴰ}
+use Rattle.calculus.specs.Formula.{withᴰ, Fits, matched, residual}
 use Rattle.calculus.specs.Items.{Items}
-use Rattle.calculus.specs.Derivation.{Scope, Entry, size, clauseAt, residualAt, lend, Derives, res-1, res-⊤, res-⊗, res-&, res-⊸, res-atm-int}
-use Rattle.calculus.specs.Derivation.{res-atm-lin}
-use Rattle.calculus.specs.Steps.{steps, nesting, stands}
+use Rattle.calculus.specs.Derivation.{Scope, Entry, size, clauseAt, residualAt, lend, Derives, res-1, res-⊤, res-⊗, res-&, res-⊸}
+use Rattle.calculus.specs.Derivation.{res-⊕₁, res-⊕₂, res-atm-int, res-atm-lin}
+use Rattle.calculus.specs.Steps.{steps, nesting, stands, leftChoice, rightChoice}
 use Rattle.calculus.specs.Inner.Height.{heightᴳ, heightᴰ, lends, Low, Below}
+use Rattle.calculus.specs.Inner.Renaming.{over}
 use Rattle.calculus.proofs.RenamingKeeps.{in-scope, lent-cases, entry-before, entry-lent}
 use Rattle.calculus.proofs.SummaryExact.{lend-size}
 
@@ -35,6 +37,7 @@ lends-fewer oneᴳ = omega arith
 lends-fewer zeroᴳ = omega arith
 lends-fewer (tensor G H) = let g = lends-fewer G in let h = lends-fewer H in omega arith
 lends-fewer (with G H) = let g = lends-fewer G in let h = lends-fewer H in omega arith
+lends-fewer (oplus G H) = let g = lends-fewer G in let h = lends-fewer H in omega arith
 lends-fewer (lolliᴳ D G) = let g = lends-fewer G in omega arith
 
 matched-height : (b : Bool) → heightᴳ (matched b) ≡ 1
@@ -53,12 +56,15 @@ unfolding residual heightᴳ heightᴰ
 residual-height fits a (atomᴰ b) = omega (arith, matched-height (fits b a))
 residual-height fits a topᴰ = omega arith
 residual-height fits a (lolliᴰ G D) = let d = residual-height fits a D in omega arith
+residual-height fits a (withᴰ D E) = let d = residual-height fits a D in let e = residual-height fits a E in omega arith
 
 residual-lends : (fits : Fits) (a : ℕ) (D : Clause) → heightᴰ D ≤ 8 → lends (residual fits a D) ≤ 6
 unfolding residual lends heightᴰ
 residual-lends fits a (atomᴰ b) h = omega (arith, matched-lends (fits b a))
 residual-lends fits a topᴰ h = omega arith
 residual-lends fits a (lolliᴰ G D) h = let d = residual-lends fits a D (omega arith) in let g = lends-fewer G in omega arith
+residual-lends fits a (withᴰ D E) h =
+    let d = residual-lends fits a D (omega arith) in let e = residual-lends fits a E (omega arith) in omega arith
 
 below-none : {m : ℕ} → Below m []
 unfolding stands
@@ -68,10 +74,17 @@ or-cases : (a b : Bool) (P : Type 0) → (a || b) ≡ true → (a ≡ true → P
 or-cases true b P h f g = f refl
 or-cases false b P h f g = g h
 
-below-cons : {m x : ℕ} {l : List ℕ} → x < m → Below m l → Below m (x ∷ l)
+-- a step is an entry below m or a choice
+abbrev BelowOrChoice : ℕ → ℕ → Type 0
+BelowOrChoice m e = (e < m) ⊎ ((e ≡ leftChoice) ⊎ (e ≡ rightChoice))
+
+below-cons : {m x : ℕ} {l : List ℕ} → BelowOrChoice m x → Below m l → Below m (x ∷ l)
 unfolding stands
 below-cons {m} {x} {l} h b =
-    record { below = λ e s. or-cases (eqb e x) (stands e l) (e < m) s (λ q. omega (arith, eqb-true e x q)) (b .below e) }
+    record {
+      below = λ e s. or-cases (eqb e x) (stands e l) (BelowOrChoice m e) s
+          (λ q. subst (BelowOrChoice m) (sym (eqb-true e x q)) h) (b .below e);
+    }
 
 stands-parts : (e : ℕ) (l k : List ℕ) → stands e (l ++ k) ≡ (stands e l || stands e k)
 unfolding stands
@@ -85,10 +98,10 @@ stands-parts e (x ∷ l) k = ap (λ (b : Bool). eqb e x || b) (stands-parts e l 
 below-parts : {m : ℕ} {l k : List ℕ} → Below m l → Below m k → Below m (l ++ k)
 below-parts {m} {l} {k} b c =
     record {
-      below = λ e s. or-cases (stands e l) (stands e k) (e < m) (sym (stands-parts e l k) ∙ s) (b .below e) (c .below e);
+      below = λ e s. or-cases (stands e l) (stands e k) (BelowOrChoice m e) (sym (stands-parts e l k) ∙ s) (b .below e) (c .below e);
     }
 
--- THEOREM. With clauses at most 8 high, the steps of a derivation are below what stands in scope, the lends of its goal, and six for each
+-- THEOREM. With clauses at most 8 high, the entries of a derivation are below what stands in scope, the lends of its goal, and six for each
 -- nesting.
 pub steps-below : (m : ℕ) {es : Scope} {I : Items} {G : Goal} → Low es → heightᴳ G ≤ 8 → (d : Derives es I G)
     → size es + lends G + 6 * nesting d ≤ m → Below m (steps d)
@@ -99,16 +112,45 @@ steps-below m l h (res-⊗ s c d) b =
     below-parts (steps-below m l (omega arith) c (omega arith)) (steps-below m l (omega arith) d (omega arith))
 steps-below m l h (res-& c d) b =
     below-parts (steps-below m l (omega arith) c (omega arith)) (steps-below m l (omega arith) d (omega arith))
+steps-below m l h (res-⊕₁ d) b = below-cons (inr (inl refl)) (steps-below m l (omega arith) d (omega arith))
+steps-below m l h (res-⊕₂ d) b = below-cons (inr (inr refl)) (steps-below m l (omega arith) d (omega arith))
 steps-below m l h (res-⊸ {es} {D} f d) b = steps-below m (low-lend D l (omega arith)) (omega arith) d (omega (arith, lend-size es D))
 steps-below m {es} l h (res-atm-int {a} e n d) b =
     let in-it = in-scope a e d in
     let low = l .low e in-it in
-    below-cons (omega arith)
+    below-cons (inl (omega arith))
     (steps-below m l (omega (arith, residual-height (es .fits) a (clauseAt es e))) d
     (omega (arith, residual-lends (es .fits) a (clauseAt es e) low)))
 steps-below m {es} l h (res-atm-lin {a} e n i d) b =
     let in-it = in-scope a e d in
     let low = l .low e in-it in
-    below-cons (omega arith)
+    below-cons (inl (omega arith))
     (steps-below m l (omega (arith, residual-height (es .fits) a (clauseAt es e))) d
+    (omega (arith, residual-lends (es .fits) a (clauseAt es e) low)))
+
+-- THEOREM. Two maps that agree on all those numbers rename its entries alike.
+pub over-same : (f g : ℕ → ℕ) (m : ℕ) → ((e : ℕ) → e < m → f e ≡ g e) → {es : Scope} {I : Items} {G : Goal} → Low es → heightᴳ G ≤ 8
+    → (d : Derives es I G) → size es + lends G + 6 * nesting d ≤ m → over f d ≡ over g d
+unfolding over nesting heightᴳ lends residualAt
+over-same f g m p l h (res-1 n) b = refl
+over-same f g m p l h res-⊤ b = refl
+over-same f g m p l h (res-⊗ s c d) b =
+    ap₂ _++_ (over-same f g m p l (omega arith) c (omega arith)) (over-same f g m p l (omega arith) d (omega arith))
+over-same f g m p l h (res-& c d) b =
+    ap₂ _++_ (over-same f g m p l (omega arith) c (omega arith)) (over-same f g m p l (omega arith) d (omega arith))
+over-same f g m p l h (res-⊕₁ d) b = ap (λ k. leftChoice ∷ k) (over-same f g m p l (omega arith) d (omega arith))
+over-same f g m p l h (res-⊕₂ d) b = ap (λ k. rightChoice ∷ k) (over-same f g m p l (omega arith) d (omega arith))
+over-same f g m p l h (res-⊸ {es} {D} i d) b =
+    over-same f g m p (low-lend D l (omega arith)) (omega arith) d (omega (arith, lend-size es D))
+over-same f g m p {es} l h (res-atm-int {a} e n d) b =
+    let in-it = in-scope a e d in
+    let low = l .low e in-it in
+    ap₂ _∷_ (p e (omega arith))
+    (over-same f g m p l (omega (arith, residual-height (es .fits) a (clauseAt es e))) d
+    (omega (arith, residual-lends (es .fits) a (clauseAt es e) low)))
+over-same f g m p {es} l h (res-atm-lin {a} e n i d) b =
+    let in-it = in-scope a e d in
+    let low = l .low e in-it in
+    ap₂ _∷_ (p e (omega arith))
+    (over-same f g m p l (omega (arith, residual-height (es .fits) a (clauseAt es e))) d
     (omega (arith, residual-lends (es .fits) a (clauseAt es e) low)))

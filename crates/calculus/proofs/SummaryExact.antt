@@ -2,18 +2,18 @@
 -- derives the goal are then U alone or, with slack, any that hold U.
 use Prim.Native.Nat.{ℕ, zero, suc, _+_, _≤_, _<_}
 use native.Mathlib.Omega.{arith}
-use mathlib.Core.Path.{_≡_, refl, subst}
+use mathlib.Core.Path.{_≡_, refl, sym, ap, _∙_, subst}
 use mathlib.Core.Logic.{_⊎_, ⊎-elim, _↔_}
 use mathlib.Core.Bool.{Bool, true, false}
 use mathlib.Core.List.{List, _∷_, _++_}
 use lib.ListN.{length-append}
-use Rattle.calculus.specs.Formula.{Goal, Clause, atomᴳ, tensor, with, lolliᴳ}
+use Rattle.calculus.specs.Formula.{Goal, Clause, atomᴳ, tensor, with, oplus, lolliᴳ}
 use Rattle.calculus.specs.Items.{Items, _∪_, _∖_, only, Splits, Within}
-use Rattle.calculus.specs.Derivation.{Scope, Derives, size, linearAt, residualAt, extend, lend, res-1, res-⊤, res-⊗, res-&, res-⊸, res-atm-int}
-use Rattle.calculus.specs.Derivation.{res-atm-lin}
-use Rattle.calculus.specs.Steps.{steps, nesting}
-use Rattle.calculus.specs.Inner.Summary.{Joins, Without, Plus, spare, Covers, Sum, sum-1, sum-⊤, sum-⊗, sum-&, sum-⊸, sum-rule}
-use Rattle.calculus.specs.Inner.Summary.{sum-item, Bounded, ByList, Summed}
+use Rattle.calculus.specs.Derivation.{Scope, Derives, size, linearAt, residualAt, extend, lend, res-1, res-⊤, res-⊗, res-&, res-⊸}
+use Rattle.calculus.specs.Derivation.{res-⊕₁, res-⊕₂, res-atm-int, res-atm-lin}
+use Rattle.calculus.specs.Steps.{steps, nesting, leftChoice, rightChoice}
+use Rattle.calculus.specs.Inner.Summary.{Joins, Without, Plus, spare, Covers, Sum, sum-1, sum-⊤, sum-⊗, sum-&, sum-⊕₁, sum-⊕₂}
+use Rattle.calculus.specs.Inner.Summary.{sum-⊸, sum-rule, sum-item, Bounded, ByList, Summed}
 use Rattle.calculus.proofs.SetLaws.{spare-all, spare-none, spare-joins, spare-meets, spare-lend, covers, not-true, only-eq, empty-∅, empty-within}
 use Rattle.calculus.proofs.SetLaws.{empty-covered, covered-empty, covers-within, within-trans, ∪-joins, join-left}
 use Rattle.calculus.proofs.SetLaws.{join-right, join-within, ∖-within, only-without, only-plus, split-left, split-right, split-apart}
@@ -71,6 +71,12 @@ summed-& {es} x y = summed
     joins : Joins (x .used ∪ y .used) (x .used) (y .used)
     joins = ∪-joins (x .used) (y .used)
 
+summed-⊕₁ : {n : ℕ} {es : Scope} {I : Items} {G H : Goal} {l : List ℕ} → Summed n es I G l → Summed n es I (oplus G H) (leftChoice ∷ l)
+summed-⊕₁ x = summed (sum-⊕₁ refl (x .sum)) (x .within) (covered x)
+
+summed-⊕₂ : {n : ℕ} {es : Scope} {I : Items} {G H : Goal} {l : List ℕ} → Summed n es I H l → Summed n es I (oplus G H) (rightChoice ∷ l)
+summed-⊕₂ x = summed (sum-⊕₂ refl (x .sum)) (x .within) (covered x)
+
 summed-⊸ : {n : ℕ} {es : Scope} {I : Items} {D : Clause} {G : Goal} {l : List ℕ}
     → I (size es) ≡ false → Summed n (lend es D) (I ∪ only (size es)) G l → Summed n es I (lolliᴳ D G) l
 summed-⊸ {es} {I} {D} f x = summed (sum-⊸ rest (lent-used I (size es) cover) (x .sum))
@@ -101,6 +107,8 @@ complete (res-1 e) h = summed (sum-1 empty-∅) (empty-within empty-∅) (empty-
 complete {es} res-⊤ h = summed (sum-⊤ empty-∅) (empty-within empty-∅) (spare-all es)
 complete {n} (res-⊗ s d e) h = summed-⊗ s (complete {n = n} d (omega arith)) (complete {n = n} e (omega arith))
 complete {n} (res-& d e) h = summed-& (complete {n = n} d (omega arith)) (complete {n = n} e (omega arith))
+complete (res-⊕₁ d) h = summed-⊕₁ (complete d h)
+complete (res-⊕₂ d) h = summed-⊕₂ (complete d h)
 complete (res-⊸ f d) h = summed-⊸ f (complete d h)
 complete {n = zero} (res-atm-int e r d) h = absurd (omega arith)
 complete {n = suc n} (res-atm-int e r d) h = summed-rule r (complete {n = n} d (omega arith))
@@ -117,6 +125,14 @@ by-& : {n : ℕ} {es : Scope} {I : Items} {G H : Goal} {k l m : List ℕ}
     → k ≡ l ++ m → ByList n es I G l → ByList n es I H m → ByList n es I (with G H) k
 unfolding steps nesting
 by-& {n} p x y = record { tree = res-& (x .tree) (y .tree); list = cc; nested = omega arith }
+
+by-⊕₁ : {n : ℕ} {es : Scope} {I : Items} {G H : Goal} {k l : List ℕ} → k ≡ leftChoice ∷ l → ByList n es I G l → ByList n es I (oplus G H) k
+unfolding steps nesting
+by-⊕₁ p x = record { tree = res-⊕₁ (x .tree); list = ap (λ l. leftChoice ∷ l) (x .list) ∙ sym p; nested = x .nested }
+
+by-⊕₂ : {n : ℕ} {es : Scope} {I : Items} {G H : Goal} {k l : List ℕ} → k ≡ rightChoice ∷ l → ByList n es I H l → ByList n es I (oplus G H) k
+unfolding steps nesting
+by-⊕₂ p x = record { tree = res-⊕₂ (x .tree); list = ap (λ l. rightChoice ∷ l) (x .list) ∙ sym p; nested = x .nested }
 
 by-⊸ : {n : ℕ} {es : Scope} {I : Items} {D : Clause} {G : Goal} {l : List ℕ}
     → I (size es) ≡ false → ByList n (lend es D) (I ∪ only (size es)) G l → ByList n es I (lolliᴳ D G) l
@@ -148,6 +164,8 @@ sound-covers {es} {I} (sum-⊗ {U₁} {U₂} {v₁} {v₂} q s w x y) b p c =
 sound-covers {es} (sum-& {v₁} {v₂} q j w s t x y) b p c = by-& q
     (sound-covers x b (within-trans (join-left j) p) (left-covers (spare es v₂) (spare-meets es v₁ v₂ w) j s c))
     (sound-covers y b (within-trans (join-right j) p) (right-covers (spare es v₁) (spare-meets es v₁ v₂ w) j t c))
+sound-covers (sum-⊕₁ q x) b p c = by-⊕₁ q (sound-covers x b p c)
+sound-covers (sum-⊕₂ q x) b p c = by-⊕₂ q (sound-covers x b p c)
 sound-covers {es} (sum-⊸ {D} {v} s t x) b p c =
     by-⊸ (fresh b) (sound-covers x (bounded-lend D b) (relend-within s p) (spare-lend es D v .1 (relend-covers s t c)))
 sound-covers (sum-rule r x) b p c = by-rule r (sound-covers x b p c)

@@ -1,22 +1,54 @@
 -- Traces: a walk whose items divide gathers a summary, and each summary is gathered by a walk; a list is walked in one way.
 use Prim.Native.Nat.{ℕ, _≤_}
-use mathlib.Core.Path.{_≡_, refl, sym, ap, _∙_}
+use native.Mathlib.Omega.{arith}
+use mathlib.Core.Path.{_≡_, refl, sym, ap, _∙_, subst}
 use mathlib.Core.Logic.{_↔_}
 use mathlib.Core.Bool.{Bool, true, false, _||_, false≢true}
 use mathlib.Core.List.{List, [], _∷_, _++_, append-assoc, head-eq-of-cons-eq, tail-eq-of-cons-eq}
 use lib.ListN.{length}
-use Rattle.calculus.specs.Formula.{Goal, Clause, oneᴳ, zeroᴳ, tensor, atomᴰ, topᴰ, lolliᴰ, matched, residual}
+use Rattle.calculus.specs.Formula.{Goal, Clause, oneᴳ, zeroᴳ, tensor, oplus, atomᴰ, topᴰ, lolliᴰ, withᴰ, matched, residual, usable}
 use Rattle.calculus.specs.Items.{Items, _∪_, Empty, Splits}
 use Rattle.calculus.specs.Derivation.{Scope, clauseAt, linearAt, residualAt}
 use Rattle.calculus.specs.Job.{Job, Listed}
-use Rattle.calculus.specs.Inner.Summary.{Same, Sum, sum-1, sum-⊤, sum-⊗, sum-&, sum-⊸, sum-rule, sum-item, Bounded, Agree}
+use Rattle.calculus.specs.Inner.Summary.{Same, Sum, sum-1, sum-⊤, sum-⊗, sum-&, sum-⊕₁, sum-⊕₂, sum-⊸, sum-rule}
+use Rattle.calculus.specs.Inner.Summary.{sum-item, Bounded, Agree}
 use Rattle.calculus.specs.Inner.Window.{Counts}
-use Rattle.calculus.specs.Wanted.{Part, goal, meet}
+use Rattle.calculus.specs.Steps.{leftChoice, rightChoice}
+use Rattle.calculus.specs.Wanted.{Part, goal, meet, Side, side-⊕₁, side-⊕₂, side-&₁, side-&₂}
 use Rattle.calculus.specs.Inner.Trace.{Gathered, Says, Apart, Ends, Fails, Tensors, Withs, Lends, UsesRule, UsesItem}
 use Rattle.calculus.specs.Inner.Trace.{trace-1, trace-⊤, trace-0, trace-⊗, trace-&, trace-⊸, trace-rule, trace-item, trace-head, trace-recipe}
-use Rattle.calculus.specs.Inner.Trace.{Trace, Agreed, Accounts}
-use Rattle.calculus.proofs.SetLaws.{same-path, split-joins}
+use Rattle.calculus.specs.Inner.Trace.{Trace, trace-side, Agreed, Accounts}
+use Rattle.calculus.proofs.SetLaws.{same-path, split-joins, or-right}
 use Rattle.calculus.proofs.WindowExact.{listed}
+
+-- What fits
+
+-- only a clause with a head that fits is walked
+abbrev Fitting : Scope → Part → Type 0
+Fitting es (goal G) = Unit {0}
+Fitting es (meet a D) = usable (es .fits) a D ≡ true
+
+-- a side that may be taken has a head that fits, and so has the menu
+side-fits : {es : Scope} {p q : Part} {c : ℕ} → Side es p c q → Fitting es p
+unfolding usable
+side-fits (side-⊕₁ e) = tt
+side-fits (side-⊕₂ e) = tt
+side-fits {es} (side-&₁ {a} {E} e u) = ap (λ (b : Bool). b || usable (es .fits) a E) u
+side-fits {es} (side-&₂ {a} {D} e u) = or-right (usable (es .fits) a D) _ u
+
+pub fitting : {n : ℕ} {es : Scope} {p : Part} {g : Gathered} → Trace n es p g → Fitting es p
+unfolding usable
+fitting (trace-1 e) = tt
+fitting (trace-⊤ e) = tt
+fitting (trace-0 e) = tt
+fitting (trace-⊗ s x y) = tt
+fitting (trace-& s x y) = tt
+fitting (trace-⊸ s x) = tt
+fitting (trace-side o s x) = side-fits o
+fitting (trace-rule r s x) = tt
+fitting (trace-item r s x) = tt
+fitting (trace-head f e) = f
+fitting (trace-recipe s x y) = fitting x
 
 -- The summary of a walk
 
@@ -35,6 +67,15 @@ sum-1-at e = sum-at (e .no-list) refl (e .slack-is) (sum-1 (e .unused))
 splits : {w x y : Gathered} → Tensors w x y → Apart (x .used) (y .used) → Splits (w .used) (x .used) (y .used)
 splits s a = record { whole = s .joined .joined; apart = a .apart }
 
+-- what a side that is taken gathers, behind the choice
+side-sum : {n : ℕ} {es : Scope} {p q : Part} {c : ℕ} {w x : Gathered} → Side es p c q → UsesRule c w x
+    → Sum n es (goalAt es q) (x .list) (x .used) (x .slack) → Sum n es (goalAt es p) (w .list) (w .used) (w .slack)
+unfolding residual
+side-sum {x} (side-⊕₁ e) s k = sum-at refl (same-path (s .same)) (s .slacks) (sum-⊕₁ (s .lists ∙ ap (λ c. c ∷ x .list) e) k)
+side-sum {x} (side-⊕₂ e) s k = sum-at refl (same-path (s .same)) (s .slacks) (sum-⊕₂ (s .lists ∙ ap (λ c. c ∷ x .list) e) k)
+side-sum {x} (side-&₁ e u) s k = sum-at refl (same-path (s .same)) (s .slacks) (sum-⊕₁ (s .lists ∙ ap (λ c. c ∷ x .list) e) k)
+side-sum {x} (side-&₂ e u) s k = sum-at refl (same-path (s .same)) (s .slacks) (sum-⊕₂ (s .lists ∙ ap (λ c. c ∷ x .list) e) k)
+
 part-sum : {n : ℕ} {es : Scope} {p : Part} {w : Gathered} → Trace n es p w → w .alive ≡ true
     → Sum n es (goalAt es p) (w .list) (w .used) (w .slack)
 unfolding matched residual residualAt
@@ -47,6 +88,7 @@ part-sum (trace-& s x y) h =
     let k = s .alives .0 h in sum-& (s .lists) (s .joined) (s .slacks) (k .2) (k .3) (part-sum x (k .0)) (part-sum y (k .1))
 part-sum (trace-⊸ s x) h =
     let k = s .alives .0 h in sum-at (s .lists) refl (s .slacks) (sum-⊸ (s .rest) (k .1) (part-sum x (k .0)))
+part-sum (trace-side o s x) h = side-sum o s (part-sum x (sym (s .alives) ∙ h))
 part-sum (trace-rule r s x) h = sum-at (s .lists) (same-path (s .same)) (s .slacks) (sum-rule r (part-sum x (sym (s .alives) ∙ h)))
 part-sum (trace-item r s x) h =
     let k = s .alives .0 h in sum-at (s .lists) refl (s .slacks) (sum-item r (k .1) (s .more) (part-sum x (k .0)))
@@ -71,6 +113,7 @@ data Comes (es : Scope) : Part → Goal → Type 0 where
   head : {a b : ℕ} → es .fits b a ≡ true → Comes es (meet a (atomᴰ b)) oneᴳ
   never : {p : Part} → Comes es p zeroᴳ
   behind : {a : ℕ} {G H : Goal} {D : Clause} → Comes es (meet a D) G → Comes es (meet a (lolliᴰ H D)) (tensor G H)
+  either : {a : ℕ} {G H : Goal} {D E : Clause} → Comes es (meet a D) G → Comes es (meet a E) H → Comes es (meet a (withᴰ D E)) (oplus G H)
 
 comes-head : (es : Scope) (a b : ℕ) (c : Bool) → es .fits b a ≡ c → Comes es (meet a (atomᴰ b)) (matched c)
 unfolding matched
@@ -82,6 +125,7 @@ unfolding residual
 comes es a (atomᴰ b) = comes-head es a b (es .fits b a) refl
 comes es a topᴰ = never
 comes es a (lolliᴰ G D) = behind (comes es a D)
+comes es a (withᴰ D E) = either (comes es a D) (comes es a E)
 
 ends : {U : Items} (v : Bool) → Empty U → Ends (divided [] U v) v
 ends v e = record { no-list = refl; unused = e; slack-is = refl; is-alive = refl }
@@ -95,6 +139,18 @@ tensors p s e = record {
   alives = (λ h. (refl, refl, record { apart = s .apart }), λ h. refl);
 }
 
+chooses : {l m : List ℕ} {U : Items} {v : Bool} (c : ℕ) → l ≡ c ∷ m → UsesRule c (divided l U v) (divided m U v)
+chooses c q = record { lists = q; same = record { same = λ i. refl }; slacks = refl; alives = refl }
+
+-- a side's walk, behind the choice
+left-menu : {n a : ℕ} {es : Scope} {D E : Clause} {l m : List ℕ} {U : Items} {v : Bool} → l ≡ leftChoice ∷ m
+    → Trace n es (meet a D) (divided m U v) → Trace n es (meet a (withᴰ D E)) (divided l U v)
+left-menu q x = trace-side (side-&₁ refl (fitting x)) (chooses leftChoice q) x
+
+right-menu : {n a : ℕ} {es : Scope} {D E : Clause} {l m : List ℕ} {U : Items} {v : Bool} → l ≡ rightChoice ∷ m
+    → Trace n es (meet a E) (divided m U v) → Trace n es (meet a (withᴰ D E)) (divided l U v)
+right-menu q x = trace-side (side-&₂ refl (fitting x)) (chooses rightChoice q) x
+
 sum-part : {n : ℕ} {es : Scope} {G : Goal} {p : Part} {l : List ℕ} {U : Items} {v : Bool}
     → Sum n es G l U v → Comes es p G → Trace n es p (divided l U v)
 unfolding residualAt
@@ -106,10 +162,14 @@ sum-part (sum-⊗ q s e x y) (behind c) = trace-recipe (tensors q s e) (sum-part
 sum-part (sum-& q j e c d x y) itself =
     trace-& (record { lists = q; joined = j; slacks = e; alives = (λ h. (refl, refl, c, d), λ h. refl) })
     (sum-part x itself) (sum-part y itself)
+sum-part (sum-⊕₁ q x) itself = trace-side (side-⊕₁ refl) (chooses leftChoice q) (sum-part x itself)
+sum-part (sum-⊕₁ q x) (either c d) = left-menu q (sum-part x c)
+sum-part (sum-⊕₂ q x) itself = trace-side (side-⊕₂ refl) (chooses rightChoice q) (sum-part x itself)
+sum-part (sum-⊕₂ q x) (either c d) = right-menu q (sum-part x d)
 sum-part (sum-⊸ s h x) itself =
     trace-⊸ (record { lists = refl; rest = s; slacks = refl; alives = (λ k. (refl, h), λ k. refl) }) (sum-part x itself)
 sum-part (sum-rule {es} {a} {e} r x) itself =
-    trace-rule r (record { lists = refl; same = record { same = λ i. refl }; slacks = refl; alives = refl })
+    trace-rule r (chooses e refl)
     (sum-part x (comes es a (clauseAt es e)))
 sum-part (sum-item {es} {a} {e} r h s x) itself =
     trace-item r (record { lists = refl; more = s; slacks = refl; alives = (λ k. (refl, h), λ k. refl) })
@@ -210,6 +270,26 @@ agree-item {w′} {x} {e} s c rest d r t h =
     known (s .lists) (s′ .lists) (s .more .plus) (s′ .more .plus) (s .slacks) (s′ .slacks)
     (says-same _ _ (s .alives) (s′ .alives)) (a .2)
 
+-- a choice tells the side
+pub side-same : {es : Scope} {p q t : Part} {c d : ℕ} → Side es p c q → Side es p d t → c ≡ d → q ≡ t
+side-same (side-⊕₁ e) (side-⊕₁ f) h = refl
+side-same (side-⊕₁ e) (side-⊕₂ f) h = absurd (omega (arith, e, f, h))
+side-same (side-⊕₂ e) (side-⊕₁ f) h = absurd (omega (arith, e, f, h))
+side-same (side-⊕₂ e) (side-⊕₂ f) h = refl
+side-same (side-&₁ e u) (side-&₁ f v) h = refl
+side-same (side-&₁ e u) (side-&₂ f v) h = absurd (omega (arith, e, f, h))
+side-same (side-&₂ e u) (side-&₁ f v) h = absurd (omega (arith, e, f, h))
+side-same (side-&₂ e u) (side-&₂ f v) h = refl
+
+agree-side : {m : ℕ} {es : Scope} {p q t : Part} {c d : ℕ} {w w′ x x′ : Gathered} → Side es p c q → Side es p d t → UsesRule c w x
+    → UsesRule d w′ x′ → (Trace m es q x′ → Alike x x′) → Trace m es t x′ → Alike w w′
+agree-side {m} {es} {c} {w′} {x} {x′} o i s k rest y r u h =
+    let g = begun r u (s .lists) (k .lists) h in
+    let e = head-eq-of-cons-eq g in
+    let a = rest (subst (λ q. Trace m es q x′) (sym (side-same o i e)) y) r u (tail-eq-of-cons-eq g) in
+    let k′ : UsesRule c w′ x = rw e (rw (agreed-path a) k) in
+    known (s .lists) (k′ .lists) (s .same .same) (k′ .same .same) (s .slacks) (k′ .slacks) (s .alives ∙ sym (k′ .alives)) (a .rests)
+
 -- an entry is a rule or linear, not both
 rule-or-item : (es : Scope) {e f : ℕ} {w w′ x x′ : Gathered} (r t : List ℕ) → linearAt es e ≡ false → linearAt es f ≡ true
     → UsesRule e w x → UsesItem f w′ x′ → w .list ++ r ≡ w′ .list ++ t → ⊥
@@ -222,6 +302,7 @@ alike (trace-0 e) (trace-0 f) = agree-fails e f
 alike (trace-⊗ s x y) (trace-⊗ c x′ y′) = agree-⊗ s c (alike x x′) (alike y y′)
 alike (trace-& s x y) (trace-& c x′ y′) = agree-& s c (alike x x′) (alike y y′)
 alike (trace-⊸ s x) (trace-⊸ c x′) = agree-⊸ s c (alike x x′)
+alike (trace-side o s x) (trace-side i k y) = agree-side o i s k (λ d. alike x d) y
 alike (trace-rule p s x) (trace-rule q c x′) = agree-rule s c (λ d. alike x d) x′
 alike (trace-rule {es} p s x) (trace-item q c x′) = λ r t h. absurd (rule-or-item es r t p q s c h)
 alike (trace-item {es} p s x) (trace-rule q c x′) = λ r t h. absurd (rule-or-item es t r q p c s (sym h))

@@ -3,23 +3,30 @@
 use Prim.Native.Nat.{ℕ, zero, suc, _+_, _≤_}
 use native.Mathlib.Omega.{arith}
 use mathlib.Core.Path.{_≡_, refl, sym, ap, ap₂, subst, _∙_}
-use mathlib.Core.Logic.{_↔_}
-use mathlib.Core.Bool.{Bool, true, false, false≢true}
+use mathlib.Core.Logic.{_↔_, _⊎_, inl, inr}
+use mathlib.Core.Bool.{Bool, true, false, _&&_, and-false, false≢true}
 use mathlib.Core.List.{List, [], _∷_, _++_, append-assoc, append-nil, head-eq-of-cons-eq, tail-eq-of-cons-eq}
 use lib.ListN.{length, length-append}
-use Rattle.calculus.specs.Formula.{Goal, Clause, atomᴳ, topᴳ, oneᴳ, zeroᴳ, tensor, with, lolliᴳ, atomᴰ, topᴰ, lolliᴰ, usable}
+use lib.Dec.{eqb}
+use native.Mathlib.Decide.{ℕ-discrete}
+use borrow.Author.Tests.{eqb-true}
+use Rattle.calculus.specs.Formula.{Goal, Clause, atomᴳ, topᴳ, oneᴳ, zeroᴳ, tensor, with, oplus, lolliᴳ, atomᴰ, topᴰ, lolliᴰ}
+use Rattle.calculus.specs.Formula.{withᴰ, usable}
 use Rattle.calculus.specs.Derivation.{Scope, clauseAt, lend}
 use Rattle.calculus.specs.Items.{_∪_}
-use Rattle.calculus.specs.Steps.{nesting}
+use Rattle.calculus.specs.Steps.{nesting, leftChoice, rightChoice}
 use Rattle.calculus.specs.Job.{Job, Listed}
 use Rattle.calculus.specs.Inner.Summary.{Bounded}
-use Rattle.calculus.specs.Walk.{Walk, goes, stops, _⨾_, goalWalk, clauseWalk, nameWalk, nameWithin, jobWalk, ItemsDivide}
+use Rattle.calculus.specs.Walk.{Walk, goes, stops, _⨾_, choiceWalk, goalWalk, clauseWalk, nameWalk, nameWithin, jobWalk}
+use Rattle.calculus.specs.Walk.{ItemsDivide}
 use Rattle.calculus.specs.Wanted.{Part, goal, meet, Both, parts-⊗, parts-&, parts-⊸, Still, still-1, still-⊤, still-0, still-head}
-use Rattle.calculus.specs.Wanted.{Along, ends, in-turn, lends, uses, Wants, here, in-first, in-second, in-lent, in-use}
-use Rattle.calculus.specs.Inner.Trace.{partWalk, Gathered, Trace, Accounts, trace-1, trace-⊤, trace-0, trace-⊗, trace-&, trace-⊸}
-use Rattle.calculus.specs.Inner.Trace.{trace-rule, trace-item, trace-head, trace-recipe}
-use Rattle.calculus.proofs.TraceExact.{begun, listed-accounts}
-use Rattle.calculus.specs.Wanted.{Wrong, no-entry, too-deep, missing, FirstWrong}
+use Rattle.calculus.specs.Wanted.{Side, side-⊕₁, side-⊕₂, side-&₁, side-&₂, Choosing, choosing-⊕, choosing-&}
+use Rattle.calculus.specs.Wanted.{Asks, asks-name, asks-choice}
+use Rattle.calculus.specs.Wanted.{Along, ends, in-turn, lends, chooses, uses, Wants, here, in-first, in-second, in-lent}
+use Rattle.calculus.specs.Wanted.{in-side, in-use, Wrong, no-entry, no-side, too-deep, missing, FirstWrong}
+use Rattle.calculus.specs.Inner.Trace.{partWalk, Gathered, UsesRule, Trace, Accounts, trace-1, trace-⊤, trace-0, trace-⊗, trace-&, trace-⊸}
+use Rattle.calculus.specs.Inner.Trace.{trace-side, trace-rule, trace-item, trace-head, trace-recipe}
+use Rattle.calculus.proofs.TraceExact.{fitting, begun, side-same, listed-accounts}
 
 -- The walk of a part
 
@@ -41,6 +48,43 @@ pub walk-lent : (n : ℕ) (D : Clause) (G : Goal) (es : Scope) (i : ℕ) (l : Li
     → partWalk n (goal (lolliᴳ D G)) es i l ≡ partWalk n (goal G) (lend es D) i l
 unfolding partWalk goalWalk
 walk-lent n D G es i l = refl
+
+-- a choice: the side taken, no such side, no step left
+pub walk-side : (n : ℕ) {p q : Part} {c : ℕ} (es : Scope) → Side es p c q → (i : ℕ) (l : List ℕ)
+    → partWalk n p es i (c ∷ l) ≡ partWalk n q es (i + 1) l
+unfolding partWalk goalWalk clauseWalk choiceWalk
+walk-side n es (side-⊕₁ e) i l = rw e refl
+walk-side n es (side-⊕₂ e) i l = rw e refl
+walk-side n es (side-&₁ e u) i l = rw e (rw u refl)
+walk-side n es (side-&₂ e u) i l = rw e (rw u refl)
+
+pub walk-no-choice : (n : ℕ) {p : Part} → Choosing p → (es : Scope) (i : ℕ) → partWalk n p es i [] ≡ stops 18 i
+unfolding partWalk goalWalk clauseWalk choiceWalk
+walk-no-choice n choosing-⊕ es i = refl
+walk-no-choice n choosing-& es i = refl
+
+-- what is not the left choice, or one that is not allowed, is passed over; so is the right one
+neither : (p q : Bool) (first second : ℕ → List ℕ → Walk) (i c : ℕ) (l : List ℕ) → (c ≡ leftChoice → p ≡ true → ⊥)
+    → (c ≡ rightChoice → q ≡ true → ⊥) → choiceWalk p q first second i (c ∷ l) ≡ stops 13 i
+unfolding choiceWalk
+neither p q first second i c l x y =
+    rw (untaken c leftChoice p x) (rw (untaken c rightChoice q y) refl)
+  where
+    untaken : (c d : ℕ) (b : Bool) → (c ≡ d → b ≡ true → ⊥) → (eqb c d && b) ≡ false
+    untaken c d true h = go (eqb c d) refl
+      where
+        go : (t : Bool) → eqb c d ≡ t → (t && true) ≡ false
+        go true e = absurd (h (eqb-true c d e) refl)
+        go false e = refl
+    untaken c d false h = and-false (eqb c d)
+
+pub walk-no-side : (n : ℕ) {p : Part} → Choosing p → (es : Scope) (i c : ℕ) (l : List ℕ) → ((q : Part) → Side es p c q → ⊥)
+    → partWalk n p es i (c ∷ l) ≡ stops 13 i
+unfolding partWalk goalWalk clauseWalk
+walk-no-side n (choosing-⊕ {G} {H}) es i c l none =
+    neither true true _ _ i c l (λ e u. none (goal G) (side-⊕₁ e)) (λ e u. none (goal H) (side-⊕₂ e))
+walk-no-side n (choosing-& {a} {D} {E}) es i c l none =
+    neither _ _ _ _ i c l (λ e u. none (meet a D) (side-&₁ e u)) (λ e u. none (meet a E) (side-&₂ e u))
 
 pub walk-none : (n a : ℕ) (es : Scope) (i : ℕ) → partWalk n (goal (atomᴳ a)) es i [] ≡ stops 18 i
 unfolding partWalk goalWalk nameWithin nameWalk
@@ -90,38 +134,44 @@ along-walk {n} {es} (ends s) i t = walk-still n s es i t ∙ at-step t (omega ar
 along-walk {n} {es} (in-turn {k} {m} b q c d) i t =
     walk-turn n es k m b q i t (along-walk c i (m ++ t)) ∙ along-walk d (i + length k) t ∙ at-step t (longer i k m q)
 along-walk {n} {es} (lends {D} {G} {l} c) i t = walk-lent n D G es i (l ++ t) ∙ along-walk c i t
+along-walk {n} {es} (chooses {l} o c) i t = walk-side n es o i (l ++ t) ∙ along-walk c (i + 1) t ∙ at-step t (omega arith)
 along-walk {es} (uses {n} {a} {e} {l} u c) i t =
     walk-use n a es i e (l ++ t) u ∙ along-walk c (i + 1) t ∙ at-step t (omega arith)
 
 -- one use out, limit and nesting are one more
-lower : {d u a m : ℕ} {fs : Scope} {t : List ℕ} → Wrong (suc d) fs a (suc u) m t → Wrong d fs a u m t
+lower : {d u m : ℕ} {fs : Scope} {q : Part} {t : List ℕ} → Wrong (suc d) fs (suc u) q m t → Wrong d fs u q m t
 lower (no-entry h) = no-entry h
+lower (no-side c h) = no-side c h
 lower (too-deep h g) = too-deep h (omega arith)
 lower missing = missing
 
--- what is wrong at a name that is wanted at once
-wrong-here : (n a : ℕ) (es : Scope) {m : ℕ} {t : List ℕ} → Wrong n es a 1 m t → (i : ℕ) → partWalk n (goal (atomᴳ a)) es i t ≡ stops m i
-wrong-here n a es (no-entry {e} {l} h) i = walk-unfit n a es i e l h
-wrong-here zero a es (too-deep {e} {l} h g) i = walk-deep a es i e l h
-wrong-here (suc n) a es (too-deep h g) i = absurd (omega arith)
-wrong-here n a es missing i = walk-none n a es i
+-- what is wrong at a step that is wanted at once
+wrong-here : (n : ℕ) (es : Scope) {p : Part} {m : ℕ} {t : List ℕ} → Asks p → Wrong n es 1 p m t → (i : ℕ)
+    → partWalk n p es i t ≡ stops m i
+wrong-here n es asks-name (no-entry {a} {e} {l} h) i = walk-unfit n a es i e l h
+wrong-here zero es asks-name (too-deep {a} {e} {l} h g) i = walk-deep a es i e l h
+wrong-here (suc n) es asks-name (too-deep h g) i = absurd (omega arith)
+wrong-here n es (asks-name {a}) missing i = walk-none n a es i
+wrong-here n es (asks-choice c) (no-side {c = e} {l = l} d none) i = walk-no-side n c es i e l none
+wrong-here n es (asks-choice c) missing i = walk-no-choice n c es i
 
-wants-walk : {n u a m : ℕ} {es fs : Scope} {p : Part} {k t : List ℕ} → Wants n es p k u fs a → Wrong n fs a u m t → (i : ℕ)
+wants-walk : {n u m : ℕ} {es fs : Scope} {p q : Part} {k t : List ℕ} → Wants n es p k u fs q → Wrong n fs u q m t → (i : ℕ)
     → partWalk n p es i (k ++ t) ≡ stops m (i + length k)
 unfolding _⨾_
-wants-walk {m} {t} (here {n} {a} {es}) w i = wrong-here n a es w i ∙ at-stop m (omega arith)
+wants-walk {n} {m} {t} (here {es} a) w i = wrong-here n es a w i ∙ at-stop m (omega arith)
 wants-walk {n} {es} {k} {t} (in-first {y} b c) w i = walk-both n b es i (k ++ t) ∙ ap (λ x. x ⨾ partWalk n y es) (wants-walk c w i)
 wants-walk {n} {m = h} {es} {t} (in-second {k} {m} b q c d) w i =
     walk-turn n es k m b q i t (along-walk c i (m ++ t)) ∙ wants-walk d w (i + length k) ∙ at-stop h (longer i k m q)
 wants-walk {n} {es} {k} {t} (in-lent {D} {G} c) w i = walk-lent n D G es i (k ++ t) ∙ wants-walk c w i
-wants-walk {m} {es} {t} (in-use {n} {b} {e} {l} u c) w i =
-    walk-use n b es i e (l ++ t) u ∙ wants-walk c (lower w) (i + 1) ∙ at-stop m (omega arith)
+wants-walk {n} {m} {es} {t} (in-side {l} o c) w i = walk-side n es o i (l ++ t) ∙ wants-walk c w (i + 1) ∙ at-stop m (omega arith)
+wants-walk {m} {es} {t} (in-use {n} {a} {e} {l} u c) w i =
+    walk-use n a es i e (l ++ t) u ∙ wants-walk c (lower w) (i + 1) ∙ at-stop m (omega arith)
 
 -- What a walk tells
 
 data Told (n : ℕ) (es : Scope) (p : Part) (i : ℕ) (l : List ℕ) : Walk → Type 0 where
   went : {j : ℕ} {k t : List ℕ} → Along n es p k → k ++ t ≡ l → i + length k ≡ j → Told n es p i l (goes j t)
-  halted : {j m u a : ℕ} {fs : Scope} {k t : List ℕ} → Wants n es p k u fs a → Wrong n fs a u m t → k ++ t ≡ l → i + length k ≡ j
+  halted : {j m u : ℕ} {fs : Scope} {q : Part} {k t : List ℕ} → Wants n es p k u fs q → Wrong n fs u q m t → k ++ t ≡ l → i + length k ≡ j
       → Told n es p i l (stops m j)
 
 -- what the walk of a part in a scope tells
@@ -152,6 +202,66 @@ told-lent n es D G inner i l = rw (walk-lent n D G es i l) (out (inner i l))
     out (went c q e) = went (lends c) q e
     out (halted c w q e) = halted (in-lent c) w q e
 
+-- which side a choice takes, if any
+side-at : (es : Scope) {p : Part} → Choosing p → (c : ℕ) → ((q : Part) × Side es p c q) ⊎ ((q : Part) → Side es p c q → ⊥)
+side-at es (choosing-⊕ {G} {H}) c = go (ℕ-discrete c leftChoice) (ℕ-discrete c rightChoice)
+  where
+    go : Dec (c ≡ leftChoice) → Dec (c ≡ rightChoice)
+        → ((q : Part) × Side es (goal (oplus G H)) c q) ⊎ ((q : Part) → Side es (goal (oplus G H)) c q → ⊥)
+    go (yes e) r = inl (goal G, side-⊕₁ e)
+    go (no n) (yes e) = inl (goal H, side-⊕₂ e)
+    go (no n) (no m) = inr (λ q o. none o)
+      where
+        none : {q : Part} → Side es (goal (oplus G H)) c q → ⊥
+        none (side-⊕₁ e) = n e
+        none (side-⊕₂ e) = m e
+side-at es (choosing-& {a} {D} {E}) c =
+    go (usable (es .fits) a D) (usable (es .fits) a E) refl refl (ℕ-discrete c leftChoice) (ℕ-discrete c rightChoice)
+  where
+    Found : Type 0
+    Found = ((q : Part) × Side es (meet a (withᴰ D E)) c q) ⊎ ((q : Part) → Side es (meet a (withᴰ D E)) c q → ⊥)
+
+    -- no side, where each is refused
+    none : (c ≡ leftChoice → usable (es .fits) a D ≡ true → ⊥) → (c ≡ rightChoice → usable (es .fits) a E ≡ true → ⊥)
+        → {q : Part} → Side es (meet a (withᴰ D E)) c q → ⊥
+    none x y (side-&₁ e u) = x e u
+    none x y (side-&₂ e u) = y e u
+
+    go : (f s : Bool) → usable (es .fits) a D ≡ f → usable (es .fits) a E ≡ s → Dec (c ≡ leftChoice) → Dec (c ≡ rightChoice) → Found
+    go true s u v (yes e) r = inl (meet a D, side-&₁ e u)
+    go false s u v (yes e) r = inr (λ q o. none (λ _ w. false≢true (sym u ∙ w)) (λ h _. omega (arith, e, h)) o)
+    go f true u v (no n) (yes e) = inl (meet a E, side-&₂ e v)
+    go f false u v (no n) (yes e) = inr (λ q o. none (λ h _. n h) (λ _ w. false≢true (sym v ∙ w)) o)
+    go f s u v (no n) (no m) = inr (λ q o. none (λ h _. n h) (λ h _. m h) o)
+
+-- a choice, by what is left of the list; where a side is taken, what is told of it
+told-choice : (n : ℕ) (es : Scope) {p : Part} → Choosing p → ((q : Part) (c : ℕ) → Side es p c q → Tells n es q) → Tells n es p
+told-choice n es {p} c sides i [] = rw (walk-no-choice n c es i) (halted {j = i} (here (asks-choice c)) missing refl (omega arith))
+told-choice n es {p} c sides i (e ∷ l) = by (side-at es c e)
+  where
+    out : {q : Part} {w : Walk} → Side es p e q → Told n es q (i + 1) l w → Told n es p i (e ∷ l) w
+    out o (went {j} c q f) = went {j = j} (chooses o c) (ap (λ s. e ∷ s) q) (omega arith)
+    out o (halted {j} c w q f) = halted {j = j} (in-side o c) w (ap (λ s. e ∷ s) q) (omega arith)
+
+    by : ((q : Part) × Side es p e q) ⊎ ((q : Part) → Side es p e q → ⊥) → Told n es p i (e ∷ l) (partWalk n p es i (e ∷ l))
+    by (inl (q, o)) = rw (walk-side n es o i l) (out o (sides q e o (i + 1) l))
+    by (inr none) = rw (walk-no-side n c es i e l none) (halted {j = i} (here (asks-choice c)) (no-side c none) refl (omega arith))
+
+told-⊕ : (n : ℕ) (es : Scope) {G H : Goal} → Tells n es (goal G) → Tells n es (goal H) → Tells n es (goal (oplus G H))
+told-⊕ n es {G} {H} x y = told-choice n es choosing-⊕ (λ q c o. at o)
+  where
+    at : {q : Part} {c : ℕ} → Side es (goal (oplus G H)) c q → Tells n es q
+    at (side-⊕₁ e) = x
+    at (side-⊕₂ e) = y
+
+told-menu : (n a : ℕ) (es : Scope) {D E : Clause} → (usable (es .fits) a D ≡ true → Tells n es (meet a D))
+    → (usable (es .fits) a E ≡ true → Tells n es (meet a E)) → Tells n es (meet a (withᴰ D E))
+told-menu n a es {D} {E} x y = told-choice n es choosing-& (λ q c o. at o)
+  where
+    at : {q : Part} {c : ℕ} → Side es (meet a (withᴰ D E)) c q → Tells n es q
+    at (side-&₁ e u) = x u
+    at (side-&₂ e u) = y u
+
 module _ (n : ℕ) (names : (a : ℕ) (es : Scope) → Tells n es (goal (atomᴳ a))) where
   told-goal : (G : Goal) (es : Scope) → Tells n es (goal G)
   told-goal (atomᴳ a) es = names a es
@@ -160,6 +270,7 @@ module _ (n : ℕ) (names : (a : ℕ) (es : Scope) → Tells n es (goal (atomᴳ
   told-goal zeroᴳ es = told-still n es still-0
   told-goal (tensor G H) es = told-both n es parts-⊗ (told-goal G es) (told-goal H es)
   told-goal (with G H) es = told-both n es parts-& (told-goal G es) (told-goal H es)
+  told-goal (oplus G H) es = told-⊕ n es (told-goal G es) (told-goal H es)
   told-goal (lolliᴳ D G) es = told-lent n es D G (told-goal G (lend es D))
 
   told-clause : (D : Clause) (a : ℕ) (es : Scope) → usable (es .fits) a D ≡ true → Tells n es (meet a D)
@@ -167,14 +278,16 @@ module _ (n : ℕ) (names : (a : ℕ) (es : Scope) → Tells n es (goal (atomᴳ
   told-clause (atomᴰ b) a es u = told-still n es still-head
   told-clause topᴰ a es u = absurd (false≢true u)
   told-clause (lolliᴰ G D) a es u = told-both n es parts-⊸ (told-clause D a es u) (told-goal G es)
+  told-clause (withᴰ D E) a es u = told-menu n a es (λ h. told-clause D a es h) (λ h. told-clause E a es h)
 
 -- an entry that can be used, with nesting left
 told-use : (n a : ℕ) (es : Scope) (i e : ℕ) (l : List ℕ) → usable (es .fits) a (clauseAt es e) ≡ true → Tells n es (meet a (clauseAt es e))
     → Told (suc n) es (goal (atomᴳ a)) i (e ∷ l) (partWalk (suc n) (goal (atomᴳ a)) es i (e ∷ l))
 told-use n a es i e l u inner = rw (walk-use n a es i e l u) (out (inner (i + 1) l))
   where
-    raise : {d u b m : ℕ} {fs : Scope} {t : List ℕ} → Wrong d fs b u m t → Wrong (suc d) fs b (suc u) m t
+    raise : {d u m : ℕ} {fs : Scope} {q : Part} {t : List ℕ} → Wrong d fs u q m t → Wrong (suc d) fs (suc u) q m t
     raise (no-entry h) = no-entry h
+    raise (no-side c h) = no-side c h
     raise (too-deep h g) = too-deep h (omega arith)
     raise missing = missing
 
@@ -187,17 +300,17 @@ told-at : (n a : ℕ) (es : Scope)
     → ((i e : ℕ) (l : List ℕ) → usable (es .fits) a (clauseAt es e) ≡ true
     → Told n es (goal (atomᴳ a)) i (e ∷ l) (partWalk n (goal (atomᴳ a)) es i (e ∷ l)))
     → Tells n es (goal (atomᴳ a))
-told-at n a es used i [] = rw (walk-none n a es i) (halted {j = i} here missing refl (omega arith))
+told-at n a es used i [] = rw (walk-none n a es i) (halted {j = i} (here asks-name) missing refl (omega arith))
 told-at n a es used i (e ∷ l) = by (usable (es .fits) a (clauseAt es e)) refl
   where
     by : (g : Bool) → usable (es .fits) a (clauseAt es e) ≡ g
         → Told n es (goal (atomᴳ a)) i (e ∷ l) (partWalk n (goal (atomᴳ a)) es i (e ∷ l))
-    by false u = rw (walk-unfit n a es i e l u) (halted {j = i} here (no-entry u) refl (omega arith))
+    by false u = rw (walk-unfit n a es i e l u) (halted {j = i} (here asks-name) (no-entry u) refl (omega arith))
     by true u = used i e l u
 
 told-name : (n a : ℕ) (es : Scope) → Tells n es (goal (atomᴳ a))
 told-name zero a es =
-    told-at zero a es (λ i e l u. rw (walk-deep a es i e l u) (halted {j = i} here (too-deep u (omega arith)) refl (omega arith)))
+    told-at zero a es (λ i e l u. rw (walk-deep a es i e l u) (halted {j = i} (here asks-name) (too-deep u (omega arith)) refl (omega arith)))
 told-name (suc n) a es =
     told-at (suc n) a es (λ i e l u. told-use n a es i e l u (told-clause n (told-name n) (clauseAt es e) a es u))
 
@@ -241,7 +354,7 @@ module _ (j : Job) where
     where
       to : {w : Walk} → ToldOf l w → w ≡ stops m i → FirstWrong (j .depth) (j .scope) (goal (j .goal)) l m i
       to (went c q f) e = let z : _≡_ {A = ℕ} 0 1 = cc in absurd (omega arith)
-      to (halted {j = h} {m = g} {u} {a} {fs} {k} {t} c w q f) e =
+      to (halted {j = h} {m = g} {u} {fs} {q = o} {k} {t} c w q f) e =
           let x : h ≡ i = cc in
           let y : g ≡ m = cc in
           record {
@@ -251,9 +364,9 @@ module _ (j : Job) where
             index = omega arith;
             nested = u;
             scope = fs;
-            name = a;
+            part = o;
             begun = c;
-            wrong = subst (λ n. Wrong (j .depth) fs a u n t) y w;
+            wrong = subst (λ n. Wrong (j .depth) fs u o n t) y w;
           }
 
       from : FirstWrong (j .depth) (j .scope) (goal (j .goal)) l m i → jobWalk j l ≡ stops m i
@@ -264,24 +377,6 @@ module _ (j : Job) where
           ∙ at-stop m (let e = f .index in omega arith)
 
 -- Walks and traces
-
--- only a clause with a head that fits is walked
-abbrev Fitting : Scope → Part → Type 0
-Fitting es (goal G) = Unit {0}
-Fitting es (meet a D) = usable (es .fits) a D ≡ true
-
-fitting : {n : ℕ} {es : Scope} {p : Part} {g : Gathered} → Trace n es p g → Fitting es p
-unfolding usable
-fitting (trace-1 e) = tt
-fitting (trace-⊤ e) = tt
-fitting (trace-0 e) = tt
-fitting (trace-⊗ s x y) = tt
-fitting (trace-& s x y) = tt
-fitting (trace-⊸ s x) = tt
-fitting (trace-rule r s x) = tt
-fitting (trace-item r s x) = tt
-fitting (trace-head f e) = f
-fitting (trace-recipe s x y) = fitting x
 
 still-along : {n : ℕ} {es : Scope} {p : Part} {l : List ℕ} → Still p → l ≡ [] → Along n es p l
 still-along s e = rw e (ends s)
@@ -298,6 +393,7 @@ trace-along (trace-0 e) = still-along still-0 (e .no-list)
 trace-along (trace-⊗ s x y) = in-turn parts-⊗ (s .lists) (trace-along x) (trace-along y)
 trace-along (trace-& s x y) = in-turn parts-& (s .lists) (trace-along x) (trace-along y)
 trace-along (trace-⊸ s x) = rw (s .lists) (lends (trace-along x))
+trace-along (trace-side o s x) = rw (s .lists) (chooses o (trace-along x))
 trace-along (trace-rule r s x) = use-along (s .lists) (fitting x) (trace-along x)
 trace-along (trace-item r s x) = use-along (s .lists) (fitting x) (trace-along x)
 trace-along (trace-head f e) = still-along still-head (e .no-list)
@@ -332,6 +428,27 @@ retraced-use {n} {a} {es} {l} s use-it inner c r t h =
     let b = inner d r t (tail-eq-of-cons-eq g) in
     (s ∙ ap₂ _∷_ (head-eq-of-cons-eq g) (b .0), b .1, use-it (b .2))
 
+retraced-side : {n c d : ℕ} {es : Scope} {p q t : Part} {g v : Gathered} {l : List ℕ} → Side es p c q → Side es p d t → UsesRule c v g
+    → (Along n es q l → Retraced n es q g l) → Along n es t l → Retraced n es p v (d ∷ l)
+retraced-side {n} {es} {l} o i s inner a r u h =
+    let g = onward r (s .lists) h in
+    let e = head-eq-of-cons-eq g in
+    let b = inner (subst (λ q. Along n es q l) (sym (side-same o i e)) a) r u (tail-eq-of-cons-eq g) in
+    (s .lists ∙ ap₂ _∷_ e (b .0), b .1, trace-side o s (b .2))
+
+-- at a choice the walk neither ends nor has two parts
+side-still : {es : Scope} {p q : Part} {c : ℕ} → Side es p c q → Still p → ⊥
+side-still (side-⊕₁ e) s = elim s [ ]
+side-still (side-⊕₂ e) s = elim s [ ]
+side-still (side-&₁ e u) s = elim s [ ]
+side-still (side-&₂ e u) s = elim s [ ]
+
+side-both : {es : Scope} {p q x y : Part} {c : ℕ} → Side es p c q → Both p x y → ⊥
+side-both (side-⊕₁ e) b = elim b [ ]
+side-both (side-⊕₂ e) b = elim b [ ]
+side-both (side-&₁ e u) b = elim b [ ]
+side-both (side-&₂ e u) b = elim b [ ]
+
 -- THEOREM. A trace whose list, whatever follows it, begins a walk's is that walk's list, and keeps to the nesting of the walk.
 pub retrace : {n m : ℕ} {es : Scope} {p : Part} {g : Gathered} {l : List ℕ} → Trace m es p g → Along n es p l → Retraced n es p g l
 retrace (trace-1 e) (ends s) = retraced-still (e .no-list) (trace-1 e)
@@ -343,6 +460,9 @@ retrace (trace-& s c d) (in-turn parts-& q a b) = retraced-both (s .lists) q (tr
 retrace (trace-recipe s c d) (in-turn parts-⊸ q a b) = retraced-both (s .lists) q (trace-recipe s) (retrace c a) (retrace d b)
 retrace (trace-⊸ s c) (lends a) =
     λ r t h. let f = retrace c a r t (onward r (s .lists) h) in (s .lists ∙ f .0, f .1, trace-⊸ s (f .2))
+retrace (trace-side o s c) (ends b) = absurd (side-still o b)
+retrace (trace-side o s c) (in-turn b q a d) = absurd (side-both o b)
+retrace (trace-side o s c) (chooses i a) = retraced-side o i s (λ d. retrace c d) a
 retrace (trace-rule q s c) (uses u a) = retraced-use (s .lists) (trace-rule q s) (λ d. retrace c d) a
 retrace (trace-item q s c) (uses u a) = retraced-use (s .lists) (trace-item q s) (λ d. retrace c d) a
 

@@ -1,11 +1,11 @@
--- Derivations: source document 000, Figure 1, cut to the kinds of 01. A scope has one list of entries, so that an entry's number is its
+-- Derivations: source document 000, Figure 1, cut to the kinds of 01 and of 02, #103. A scope has one list of entries, so that an entry's number is its
 -- place in it.
 use Prim.Native.Nat.{ℕ}
 use mathlib.Core.Path.{_≡_}
 use mathlib.Core.Bool.{Bool, true, false}
 use mathlib.Core.List.{List, [], _∷_, _++_}
 use lib.ListN.{length, getD}
-use Rattle.calculus.specs.Formula.{Fits, Goal, Clause, atomᴳ, topᴳ, oneᴳ, tensor, with, lolliᴳ, topᴰ, residual}
+use Rattle.calculus.specs.Formula.{Fits, Goal, Clause, atomᴳ, topᴳ, oneᴳ, tensor, with, oplus, lolliᴳ, topᴰ, residual}
 use Rattle.calculus.specs.Items.{Items, _∪_, _∖_, only, Empty, Splits}
 
 -- An entry of the scope: a clause that stays when used (a rule) or is gone when used (linear: a line or a lent clause).
@@ -59,6 +59,9 @@ pub data Derives : Scope → Items → Goal → Type 0 where
   res-⊗ : {es : Scope} {I J K : Items} {G H : Goal} → Splits I J K → Derives es J G → Derives es K H → Derives es I (tensor G H)
   -- "either way: each part is derived from all the items"
   res-& : {es : Scope} {I : Items} {G H : Goal} → Derives es I G → Derives es I H → Derives es I (with G H)
+  -- one of: one part, left or right, is derived from all the items; 0 has no rule
+  res-⊕₁ : {es : Scope} {I : Items} {G H : Goal} → Derives es I G → Derives es I (oplus G H)
+  res-⊕₂ : {es : Scope} {I : Items} {G H : Goal} → Derives es I H → Derives es I (oplus G H)
   -- "lend: the clause joins the items for that goal alone and counts as must there"; its number is none of the items'
   res-⊸ : {es : Scope} {I : Items} {D : Clause} {G : Goal} → I (size es) ≡ false → Derives (lend es D) (I ∪ only (size es)) G
       → Derives es I (lolliᴳ D G)

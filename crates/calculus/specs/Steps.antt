@@ -2,44 +2,64 @@
 use Prim.Native.Nat.{ℕ, zero, suc, max, _<_}
 use mathlib.Core.Path.{_≡_}
 use mathlib.Core.Logic.{_↔_}
-use mathlib.Core.Bool.{Bool, false, _||_}
+use mathlib.Core.Bool.{Bool, false, cond, _||_}
 use mathlib.Core.List.{List, [], _∷_, _++_, map, List·Memᴰ}
-use lib.Dec.{eqb}
+use lib.Dec.{eqb, ltb}
 use Rattle.calculus.specs.Formula.{Goal}
 use Rattle.calculus.specs.Items.{Items}
-use Rattle.calculus.specs.Derivation.{Scope, Derives, res-1, res-⊤, res-⊗, res-&, res-⊸, res-atm-int, res-atm-lin}
+use Rattle.calculus.specs.Derivation.{Scope, Derives, res-1, res-⊤, res-⊗, res-&, res-⊕₁, res-⊕₂, res-⊸, res-atm-int, res-atm-lin}
+
+-- "A choice writes 254 for left or 255 for right".
+abbrev pub leftChoice : ℕ
+leftChoice = 254
+
+abbrev pub rightChoice : ℕ
+rightChoice = 255
 
 -- "The step list writes the entry used at each name, in walking order: left part before right, a clause's use before its conditions."
+-- A choice is written "at 'one of' where it is walked, for a menu straight after the entry that holds it, outer menus first, before any
+-- condition": the residual, walked from left to right.
 unfoldable pub steps : {es : Scope} {I : Items} {G : Goal} → Derives es I G → List ℕ
 steps (res-1 n) = []
 steps res-⊤ = []
 steps (res-⊗ s l r) = steps l ++ steps r
 steps (res-& l r) = steps l ++ steps r
+steps (res-⊕₁ d) = leftChoice ∷ steps d
+steps (res-⊕₂ d) = rightChoice ∷ steps d
 steps (res-⊸ f d) = steps d
 steps (res-atm-int e n d) = e ∷ steps d
 steps (res-atm-lin e n h d) = e ∷ steps d
+
+-- entries renumbered, choices as they are
+unfoldable pub renumber : (ℕ → ℕ) → ℕ → ℕ
+renumber f e = cond (ltb e leftChoice) (f e) e
 
 -- the entry stands in the list
 unfoldable pub stands : ℕ → List ℕ → Bool
 stands e [] = false
 stands e (x ∷ l) = eqb e x || stands e l
 
--- "A step's nesting is 1 plus the number of uses it stands inside": the greatest nesting of any step.
+-- "A step's nesting is 1 plus the number of uses it stands inside": the greatest nesting of any step. Of a choice, "d doesn't bind it and it
+-- adds no nesting".
 unfoldable pub nesting : {es : Scope} {I : Items} {G : Goal} → Derives es I G → ℕ
 nesting (res-1 n) = zero
 nesting res-⊤ = zero
 nesting (res-⊗ s l r) = max (nesting l) (nesting r)
 nesting (res-& l r) = max (nesting l) (nesting r)
+nesting (res-⊕₁ d) = nesting d
+nesting (res-⊕₂ d) = nesting d
 nesting (res-⊸ f d) = nesting d
 nesting (res-atm-int e n d) = suc (nesting d)
 nesting (res-atm-lin e n h d) = suc (nesting d)
 
--- "left or right at each both and either way, into the goal of each lend, and at a use which condition, counted from the head"
+-- "left or right at each both and either way, into the goal of each lend, and at a use which condition, counted from the head"; 02: "a place
+-- tells the side taken at each 'one of' above it, and choices at one name are told apart by their order".
 pub data Turn : Type 0 where
   left right into : Turn
   condition : ℕ → Turn
+  choice : ℕ → Turn
 
--- "A need is a name met as a goal": the path to it, and the entry that serves it.
+-- "A need is a name met as a goal", or a choice: the path to it, and the entry that serves it or the choice's byte.
 pub record Need : Type 0 where
   pub place : List Turn
   pub entry : ℕ
@@ -48,28 +68,44 @@ unfoldable pub under : List Turn → List Need → List Need
 under p = map (λ n. record { place = p ++ n .place; entry = n .entry })
 
 -- Where a walk stands: at a goal of the card, or in the residual of a clause in use. A residual ((1 ⊗ G₀) ⊗ G₁) ⊗ G₂ is a row of
--- conditions, counted from the head, and its ⊗ are no part of a place.
+-- conditions, counted from the head, and its ⊗ are no part of a place; nor are its ⊕, the choices of its menus, counted from the outside.
 pub data Mode : Type 0 where
-  plain row : Mode
+  plain : Mode
+  row : ℕ → Mode  -- with this many choices made
 
--- how many conditions a derivation of a row meets: one at each ⊗ down its left parts
+-- how many conditions a derivation of a row meets: one at each ⊗ down its left parts and chosen sides
 unfoldable pub rowed : {es : Scope} {I : Items} {G : Goal} → Derives es I G → ℕ
 rowed (res-1 n) = zero
 rowed res-⊤ = zero
 rowed (res-⊗ s l r) = suc (rowed l)
 rowed (res-& l r) = zero
+rowed (res-⊕₁ d) = rowed d
+rowed (res-⊕₂ d) = rowed d
 rowed (res-⊸ f d) = zero
 rowed (res-atm-int e n d) = zero
 rowed (res-atm-lin e n h d) = zero
 
 unfoldable pub turn-left : Mode → List Turn
 turn-left plain = left ∷ []
-turn-left row = []
+turn-left (row k) = []
 
 -- in a row, the right part is the condition behind those that the left part meets
 unfoldable pub turn-right : Mode → ℕ → List Turn
 turn-right plain n = right ∷ []
-turn-right row n = condition n ∷ []
+turn-right (row k) n = condition n ∷ []
+
+-- the place of a choice, the way from there to the side taken, and how the walk stands there
+unfoldable pub turn-choice : Mode → List Turn
+turn-choice plain = []
+turn-choice (row k) = choice k ∷ []
+
+unfoldable pub turn-side : Mode → Turn → List Turn
+turn-side plain t = t ∷ []
+turn-side (row k) t = []
+
+unfoldable pub chosen : Mode → Mode
+chosen plain = plain
+chosen (row k) = row (suc k)
 
 -- the needs in walking order, with their places
 unfoldable pub needs : {es : Scope} {I : Items} {G : Goal} → Mode → Derives es I G → List Need
@@ -77,9 +113,11 @@ needs m (res-1 n) = []
 needs m res-⊤ = []
 needs m (res-⊗ s l r) = under (turn-left m) (needs m l) ++ under (turn-right m (rowed l)) (needs plain r)
 needs m (res-& l r) = under (left ∷ []) (needs plain l) ++ under (right ∷ []) (needs plain r)
+needs m (res-⊕₁ d) = record { place = turn-choice m; entry = leftChoice } ∷ under (turn-side m left) (needs (chosen m) d)
+needs m (res-⊕₂ d) = record { place = turn-choice m; entry = rightChoice } ∷ under (turn-side m right) (needs (chosen m) d)
 needs m (res-⊸ f d) = under (into ∷ []) (needs plain d)
-needs m (res-atm-int e n d) = record { place = []; entry = e } ∷ needs row d
-needs m (res-atm-lin e n h d) = record { place = []; entry = e } ∷ needs row d
+needs m (res-atm-int e n d) = record { place = []; entry = e } ∷ needs (row zero) d
+needs m (res-atm-lin e n h d) = record { place = []; entry = e } ∷ needs (row zero) d
 
 -- the derivation has a need at this place, and this entry serves it
 unfoldable pub Serves : {es : Scope} {I : Items} {G : Goal} → Derives es I G → List Turn → ℕ → Type 0

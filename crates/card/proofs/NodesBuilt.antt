@@ -46,6 +46,14 @@ module _ (bs : List ℕ) (i : ℕ) where
   unfolding wellBuilt fitsField kindOf kinds
   built-7 h = rw h refl
 
+  pub built-8 : kindAt bs i ≡ 8 → wellBuilt bs i ≡ (goalPart bs i (leftAt bs i) && goalPart bs i (rightAt bs i))
+  unfolding wellBuilt fitsField kindOf kinds
+  built-8 h = rw h refl
+
+  pub built-10 : kindAt bs i ≡ 10 → wellBuilt bs i ≡ (clausePart bs i (leftAt bs i) && clausePart bs i (rightAt bs i))
+  unfolding wellBuilt fitsField kindOf kinds
+  built-10 h = rw h refl
+
   goal-lower : (part : ℕ) → goalPart bs i part ≡ true → part < i
   unfolding goalPart
   goal-lower part e = ltb-true _ _ (both-left (ltb part i) (isGoal (kindAt bs part)) e)
@@ -91,15 +99,16 @@ module _ (bs : List ℕ) (i : ℕ) where
     pub right-below : PartBelow i (row .right) (rightAt bs i)
     right-below = part-below (row .right) (rightAt bs i) fits-right
 
-    pub parts-lower : 3 < kindAt bs i → (leftAt bs i < i) × (rightAt bs i < i)
-    parts-lower h =
-        let p = two-parts (kindAt bs i) h in
+    pub parts-lower : 3 < kindAt bs i → (kindAt bs i ≡ 9 → ⊥) → (leftAt bs i < i) × (rightAt bs i < i)
+    parts-lower h n =
+        let p = two-parts (kindAt bs i) h n in
         (part-held (row .left) (leftAt bs i) (p .0) fits-left .0, part-held (row .right) (rightAt bs i) (p .1) fits-right .0)
 
     -- the height of a node with two parts, from the table before it
-    pub height-two : 3 < kindAt bs i → (t : List ℕ) → heightStep bs t i ≡ max (getD t (leftAt bs i) 0) (getD t (rightAt bs i) 0) + 1
+    pub height-two : 3 < kindAt bs i → (kindAt bs i ≡ 9 → ⊥) → (t : List ℕ)
+        → heightStep bs t i ≡ max (getD t (leftAt bs i) 0) (getD t (rightAt bs i) 0) + 1
     unfolding heightStep
-    height-two h t =
-        let p = two-parts (kindAt bs i) h in
+    height-two h n t =
+        let p = two-parts (kindAt bs i) h n in
         ap₂ (λ a b. max a b + 1) (part-held (row .left) (leftAt bs i) (p .0) fits-left .1 t)
         (part-held (row .right) (rightAt bs i) (p .1) fits-right .1 t)

@@ -9,7 +9,7 @@ use lib.ListN.{length, getD, length-append, List·getD-append}
 use lib.Seq.{getD-append-add}
 use lib.Dec.{leb, ltb, eqb}
 use borrow.Author.Tests.{leb-true, ltb-true}
-use Rattle.calculus.specs.Formula.{atomᴳ, topᴳ, oneᴳ, tensor, with, lolliᴳ, atomᴰ, topᴰ, lolliᴰ}
+use Rattle.calculus.specs.Formula.{atomᴳ, topᴳ, oneᴳ, zeroᴳ, tensor, with, oplus, lolliᴳ, atomᴰ, topᴰ, lolliᴰ, withᴰ}
 use Rattle.calculus.specs.Items.{_∪_}
 use Rattle.calculus.specs.Derivation.{noEntry, size, entryAt}
 use Rattle.calculus.specs.Job.{Listed}
@@ -64,6 +64,18 @@ module _ (bs : List ℕ) (i : ℕ) where
     unfolding readStep readBy held kindOf kinds
     step-recipe h = rw h refl
 
+    step-one-of : kindAt bs i ≡ 8 → readStep bs t i .goal ≡ oplus (part-left .goal) (part-right .goal)
+    unfolding readStep readBy held kindOf kinds
+    step-one-of h = rw h refl
+
+    step-never : kindAt bs i ≡ 9 → readStep bs t i .goal ≡ zeroᴳ
+    unfolding readStep readBy held kindOf kinds
+    step-never h = rw h refl
+
+    step-menu : kindAt bs i ≡ 10 → readStep bs t i .clause ≡ withᴰ (part-left .clause) (part-right .clause)
+    unfolding readStep readBy held kindOf kinds
+    step-menu h = rw h refl
+
   before : List NodeReading
   before = grow (readStep bs) i
 
@@ -78,6 +90,10 @@ module _ (bs : List ℕ) (i : ℕ) where
   pub reads-done : kindAt bs i ≡ 3 → goalAt bs i ≡ oneᴳ
   unfolding goalAt readAt before
   reads-done h = step-done before h
+
+  pub reads-never : kindAt bs i ≡ 9 → goalAt bs i ≡ zeroᴳ
+  unfolding goalAt readAt before
+  reads-never h = step-never before h
 
   module _ (l : leftAt bs i < i) (r : rightAt bs i < i) where
     pub reads-both : kindAt bs i ≡ 4 → goalAt bs i ≡ tensor (goalAt bs (leftAt bs i)) (goalAt bs (rightAt bs i))
@@ -103,6 +119,18 @@ module _ (bs : List ℕ) (i : ℕ) where
     reads-recipe h =
         step-recipe before h
         ∙ ap₂ (λ p q. lolliᴰ (p .goal) (q .clause)) (part-reads (leftAt bs i) l) (part-reads (rightAt bs i) r)
+
+    pub reads-one-of : kindAt bs i ≡ 8 → goalAt bs i ≡ oplus (goalAt bs (leftAt bs i)) (goalAt bs (rightAt bs i))
+    unfolding goalAt readAt before
+    reads-one-of h =
+        step-one-of before h
+        ∙ ap₂ (λ p q. oplus (p .goal) (q .goal)) (part-reads (leftAt bs i) l) (part-reads (rightAt bs i) r)
+
+    pub reads-menu : kindAt bs i ≡ 10 → clauseOf bs i ≡ withᴰ (clauseOf bs (leftAt bs i)) (clauseOf bs (rightAt bs i))
+    unfolding clauseOf readAt before
+    reads-menu h =
+        step-menu before h
+        ∙ ap₂ (λ p q. withᴰ (p .clause) (q .clause)) (part-reads (leftAt bs i) l) (part-reads (rightAt bs i) r)
 
 -- "rules from 0, lines from P"
 module _ (bs : List ℕ) where

@@ -1,18 +1,22 @@
--- "At most 103 stand in scope, so a number fits a byte": the steps of a sound card's derivations are below P + T + 103.
-use Prim.Native.Nat.{ℕ, zero, suc, _+_, _-_, _≤_, _<_, max}
+-- "At most 103 stand in scope, so a number fits a byte": the entries of a sound card's derivations are below P + T + 103, and never meet a
+-- choice.
+use Prim.Native.Nat.{ℕ, zero, suc, _+_, _*_, _-_, _≤_, _<_, max}
 use native.Mathlib.Omega.{arith}
 use native.Mathlib.Nat.{eq-or-lt-of-le}
 use native.Mathlib.Decide.{decLt}
-use mathlib.Core.Path.{_≡_, ap, _∙_}
-use mathlib.Core.Logic.{⊎-elim}
-use mathlib.Core.Bool.{true}
-use mathlib.Core.List.{List, [], _∷_}
+use mathlib.Core.Path.{_≡_, refl, sym, ap, _∙_}
+use mathlib.Core.Logic.{_⊎_, ⊎-elim}
+use mathlib.Core.Bool.{true, cond}
+use mathlib.Core.List.{List, [], _∷_, map}
 use lib.ListN.{getD}
+use borrow.Author.Tests.{lt-ltb}
 use Rattle.calculus.specs.Derivation.{Entry, size, entryAt, clauseAt}
-use Rattle.calculus.specs.Steps.{steps, stands}
+use Rattle.calculus.specs.Steps.{steps, nesting, renumber, stands, leftChoice, rightChoice}
 use Rattle.calculus.specs.Job.{Derivable}
-use Rattle.calculus.specs.Inner.Height.{heightᴳ, heightᴰ, Low}
-use Rattle.calculus.proofs.StepsBounded.{lends-fewer, steps-below}
+use Rattle.calculus.specs.Inner.Height.{heightᴳ, heightᴰ, lends, Low}
+use Rattle.calculus.specs.Inner.Renaming.{over}
+use Rattle.calculus.proofs.RenamingKeeps.{over-steps}
+use Rattle.calculus.proofs.StepsBounded.{lends-fewer, steps-below, over-same}
 use Rattle.card.specs.Format.{nodeCount, ruleCount, lineCount, goalNode, kindAt, leftAt, rightAt, ruleNode, lineNode}
 use Rattle.card.specs.Format.{grow}
 use Rattle.card.specs.declared.kinds.Field.{Field}
@@ -71,6 +75,9 @@ each-high : EachHigh kinds
 unfolding EachHigh kinds readBy high heightᴳ heightᴰ _and_
 each-high =
     unknown-high
+    and record { at-most = λ l r. record { goal = omega arith; clause = omega arith } }
+    and record { at-most = λ l r. record { goal = omega arith; clause = omega arith } }
+    and record { at-most = λ l r. record { goal = omega arith; clause = omega arith } }
     and record { at-most = λ l r. record { goal = omega arith; clause = omega arith } }
     and record { at-most = λ l r. record { goal = omega arith; clause = omega arith } }
     and record { at-most = λ l r. record { goal = omega arith; clause = omega arith } }
@@ -141,14 +148,34 @@ module _ {bs : List ℕ} (s : Sound bs) where
           let entry = ap (λ (k : ℕ). entryAt (jobOf bs .scope) k) here ∙ line-at bs i few in
           omega (arith, line-high i few, ap (λ (x : Entry). heightᴰ (x .clause)) entry)
 
--- THEOREM. Every step of a derivation of a sound card within limits is below P + T + 103.
-pub steps-fit : {bs : List ℕ} → Sound bs → (d : Derivable (jobOf bs)) (e : ℕ) → stands e (steps (d .derivation .tree)) ≡ true
-    → e < ruleCount bs + lineCount bs + 103
+-- "At most 103 stand in scope": the entries of a derivation within limits are below P + T + 103.
+pub entries-low : {bs : List ℕ} (s : Sound bs) (d : Derivable (jobOf bs))
+    → size (jobOf bs .scope) + lends (jobOf bs .goal) + 6 * nesting (d .derivation .tree) ≤ ruleCount bs + lineCount bs + 103
 unfolding jobOf
-steps-fit {bs} s d e h =
+entries-low {bs} s d =
     let n = d .limited .nested in
     let f = sound-front bs s .depth in
     let g = lends-fewer (jobOf bs .goal) in
     let t = goal-high s in
     let c = scope-size bs in
-    steps-below (ruleCount bs + lineCount bs + 103) (scope-low s) t (d .derivation .tree) (omega arith) .below e h
+    omega arith
+
+-- P and T are at most 64, so no entry is above 230, and none is a choice.
+pub entries-no-choice : {bs : List ℕ} → Sound bs → ruleCount bs + lineCount bs + 103 ≤ 231
+entries-no-choice {bs} s = let f = sound-front bs s in omega (arith, f .rules, f .lines)
+
+-- THEOREM. Every step of a derivation of a sound card within limits is an entry below P + T + 103 or a choice.
+pub steps-fit : {bs : List ℕ} → Sound bs → (d : Derivable (jobOf bs)) (e : ℕ) → stands e (steps (d .derivation .tree)) ≡ true
+    → (e < ruleCount bs + lineCount bs + 103) ⊎ ((e ≡ leftChoice) ⊎ (e ≡ rightChoice))
+steps-fit {bs} s d e h =
+    steps-below (ruleCount bs + lineCount bs + 103) (scope-low s) (goal-high s) (d .derivation .tree) (entries-low s d) .below e h
+
+-- THEOREM. Entries renumbered along a derivation of a sound card are its list's, and choices stay.
+pub over-listed : {bs : List ℕ} → Sound bs → (f : ℕ → ℕ) (d : Derivable (jobOf bs))
+    → over f (d .derivation .tree) ≡ map (renumber f) (steps (d .derivation .tree))
+unfolding renumber
+over-listed {bs} s f d =
+    over-same f (renumber f) (ruleCount bs + lineCount bs + 103)
+    (λ e h. sym (ap (λ b. cond b (f e) e) (lt-ltb e leftChoice (omega (arith, entries-no-choice s)))))
+    (scope-low s) (goal-high s) (d .derivation .tree) (entries-low s d)
+    ∙ over-steps (renumber f) refl refl (d .derivation .tree)

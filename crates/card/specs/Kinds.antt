@@ -1,9 +1,9 @@
--- The table of kinds (01, "The card").
+-- The table of kinds (01, "The card"; 02, #103).
 use Prim.Native.Nat.{ℕ}
 use mathlib.Core.Option.{Option, none, some}
 use mathlib.Core.List.{List, [], _∷_}
 use lib.ListN.{getD}
-use Rattle.calculus.specs.Formula.{Goal, Clause, atomᴳ, topᴳ, oneᴳ, tensor, with, lolliᴳ, atomᴰ, topᴰ, lolliᴰ}
+use Rattle.calculus.specs.Formula.{Goal, Clause, atomᴳ, topᴳ, oneᴳ, zeroᴳ, tensor, with, oplus, lolliᴳ, atomᴰ, topᴰ, lolliᴰ, withᴰ}
 use Rattle.card.specs.declared.kinds.Field.{Field}
 use Rattle.card.specs.declared.kinds.Field.the-variants.{Unused, Name, GoalPart, ClausePart, Unknown}
 
@@ -29,7 +29,7 @@ row l r g d = record { left = l; right = r; goal = g; clause = d }
 abbrev pub unknown : Kind
 unknown = row Unknown Unknown none none
 
--- The rows by number, from 0, which is unknown; so are those past the last. 01's row stands beside each:
+-- The rows by number, from 0, which is unknown; so are those past the last. 01's row, of 8 to 10 02's, stands beside each:
 -- kind | trade word | logic | left, right | reads as
 unfoldable pub kinds : List Kind
 kinds =
@@ -41,6 +41,9 @@ kinds =
     ∷ row GoalPart GoalPart (some with) none  -- 5 | either way | & | goal, goal | goal
     ∷ row ClausePart GoalPart (some lolliᴳ) none  -- 6 | lend | D ⊸ G | clause, goal | goal
     ∷ row GoalPart ClausePart none (some lolliᴰ)  -- 7 | recipe | G ⊸ D | goal, clause | clause
+    ∷ row GoalPart GoalPart (some oplus) none  -- 8 | one of | ⊕ | goal, goal | goal
+    ∷ row Unused Unused (some (λ u v. zeroᴳ)) none  -- 9 | never | 0 | 0, 0 | goal
+    ∷ row ClausePart ClausePart none (some withᴰ)  -- 10 | menu | D & E | clause, clause | clause
     ∷ []
 
 -- The row of kind k.

@@ -5,6 +5,7 @@ use mathlib.Core.Bool.{false}
 use mathlib.Core.List.{List, _++_, map}
 use lib.ListN.{length, take, drop}
 use lib.Seq.{take-at}
+use Rattle.calculus.specs.Steps.{renumber}
 use Rattle.calculus.specs.Job.{Listed}
 use Rattle.card.specs.Fault.{Sound}
 use Rattle.card.specs.Decode.{jobOf}
@@ -48,11 +49,11 @@ module _ {a b old new : List ℕ} {n : ℕ} (j : Joining a b old (joined n) new)
   joined-asks = subst (JobJoined a b) (sym (joined-bytes j)) (JoinedAsks.joined-asks a b first second fits)
 
   module _ {l m : List ℕ} (x : Listed (jobOf a) l) (y : Listed (jobOf b) m) (h : length l + length m ≤ 255) where
-    -- THEOREM. A list of each card, renumbered, one behind the other, is a list of it.
-    pub joined-lists : Listed (jobOf (take n new)) (map (firstEntry a b) l ++ map (secondEntry a b) m)
+    -- THEOREM. A list of each card, its entries renumbered, one behind the other, is a list of it.
+    pub joined-lists : Listed (jobOf (take n new)) (map (renumber (firstEntry a b)) l ++ map (renumber (secondEntry a b)) m)
     joined-lists =
-        subst (λ (bs : List ℕ). Listed (jobOf bs) (map (firstEntry a b) l ++ map (secondEntry a b) m)) (sym (joined-bytes j))
-        (JoinedLists.joined-listed a b first second fits x y h)
+        subst (λ (bs : List ℕ). Listed (jobOf bs) (map (renumber (firstEntry a b)) l ++ map (renumber (secondEntry a b)) m))
+        (sym (joined-bytes j)) (JoinedLists.joined-listed a b first second fits x y h)
 
     -- THEOREM. With room for its sheet, the planner plans it.
     pub joined-is-planned : {sheet after : List ℕ} {v : PlanVerdict} → roomOf (take n new) ≤ length sheet

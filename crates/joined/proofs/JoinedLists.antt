@@ -1,4 +1,4 @@
--- A list of each card, renumbered, one behind the other, is a list of the joined card.
+-- A list of each card, its entries renumbered, one behind the other, is a list of the joined card.
 use Prim.Native.Nat.{ℕ, _+_, _-_, _<_, _≤_}
 use native.Mathlib.Omega.{arith}
 use native.Mathlib.Decide.{decLt}
@@ -12,13 +12,15 @@ use borrow.Author.Tests.{lt-ltb, le-ltb}
 use Rattle.calculus.specs.Formula.{tensor}
 use Rattle.calculus.specs.Items.{_∪_}
 use Rattle.calculus.specs.Derivation.{Entry, entryAt, clauseAt, linearAt}
+use Rattle.calculus.specs.Steps.{renumber}
 use Rattle.calculus.specs.Job.{Listed}
-use Rattle.calculus.specs.Inner.Renaming.{Renaming, Beside}
+use Rattle.calculus.specs.Inner.Renaming.{Renaming, over, Beside}
 use Rattle.calculus.proofs.JobsBeside.{beside-listed}
 use Rattle.card.specs.Format.{ruleCount, lineCount, stepLimit}
 use Rattle.card.specs.Fault.{Sound}
 use Rattle.card.specs.Decode.{linesWith, scopeOf, jobOf}
 use Rattle.card.proofs.NodesDecoded.{scope-size, rule-at, line-at, line-within, listed-short}
+use Rattle.card.proofs.StepsFitAByte.{over-listed}
 use Rattle.joined.specs.Joined.{joinedRules, joinedCard, overfull}
 use Rattle.joined.specs.JoinedJob.{firstEntry, secondEntry}
 use Rattle.joined.proofs.JoinedBytes.{joined-rule-count, joined-line-count, joined-depth, joined-steps}
@@ -36,6 +38,11 @@ if-false t x y e = ap (λ (u : Bool). cond u x y) e
 fits-alike : (c d : List ℕ) (head wanted : ℕ) → jobOf c .scope .fits head wanted ≡ true → jobOf d .scope .fits head wanted ≡ true
 unfolding jobOf scopeOf
 fits-alike c d head wanted h = h
+
+-- a list of a sound card with its entries renumbered
+renumbered : {bs l : List ℕ} → Sound bs → (f : ℕ → ℕ) (x : Listed (jobOf bs) l) → over f (x .derivation .tree) ≡ map (renumber f) l
+renumbered s f x =
+    over-listed s f (record { derivation = x .derivation; limited = x .limited }) ∙ ap (map (renumber f)) (x .list)
 
 module _ (a b : List ℕ) where
   abbrev J : List ℕ
@@ -290,8 +297,9 @@ module _ (a b : List ℕ) where
         }
 
     -- THEOREM. "If both cards have lists within limits that together fit 255 steps", the joined card has a list: the first's with its entries
-    -- renumbered, then the second's.
+    -- renumbered, then the second's. Choices stay.
     pub joined-listed : {l m : List ℕ} → Listed (jobOf a) l → Listed (jobOf b) m → length l + length m ≤ 255
-        → Listed (jobOf J) (map (firstEntry a b) l ++ map (secondEntry a b) m)
+        → Listed (jobOf J) (map (renumber (firstEntry a b)) l ++ map (renumber (secondEntry a b)) m)
     joined-listed {l} {m} x y h =
-        beside-listed beside x y (long-enough (length l) (length m) (listed-short a l x) (listed-short b m y) h)
+        subst (Listed (jobOf J)) (ap₂ _++_ (renumbered s (firstEntry a b) x) (renumbered r (secondEntry a b) y))
+        (beside-listed beside x y (long-enough (length l) (length m) (listed-short a l x) (listed-short b m y) h))

@@ -165,7 +165,7 @@ module _ (a b : List ℕ) (s : Sound a) (r : Sound b) (fits : overfull a b ≡ f
   last-high : heightAt J last ≡ joinedHeight a b
   unfolding joinedHeight
   last-high =
-      height-of-parts J last last-built (omega (arith, last-kind a b))
+      height-of-parts J last last-built (omega (arith, last-kind a b)) (λ e. omega (arith, e, last-kind a b))
       ∙ ap₂ (λ x y. max x y + 1)
       (ap (heightAt J) first-goal
       ∙ height-copied (first-copied a b) s (goalNode a) (goal-lower a (nodeCount a) (goalNode a) (sound-root s)))

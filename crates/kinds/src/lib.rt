@@ -1,4 +1,4 @@
-// The table of kinds (01, "The card"), and which parts read as a goal and as a clause by it.
+// The table of kinds (01, "The card"; 02, #103), and which parts read as a goal and as a clause by it.
 use card::format::kind;
 use card::kinds::Field;
 ghost use mathlib.Core.Path.{_≡_};
@@ -41,6 +41,9 @@ pub fn row(k: usize) -> Kind
         5 => Kind::new(Field::GoalPart, Field::GoalPart, true, false),
         6 => Kind::new(Field::ClausePart, Field::GoalPart, true, false),
         7 => Kind::new(Field::GoalPart, Field::ClausePart, false, true),
+        8 => Kind::new(Field::GoalPart, Field::GoalPart, true, false),
+        9 => Kind::new(Field::Unused, Field::Unused, true, false),
+        10 => Kind::new(Field::ClausePart, Field::ClausePart, false, true),
         _ => Kind::new(Field::Unknown, Field::Unknown, false, false),
     }
 }

@@ -67,20 +67,26 @@ pub fn enter(card: &[u8], nodes: &mut [u16; 256], linear: &mut [bool; 256])
     }
 }
 
-// Whether the clause at the node can be used for the name: its head, found by following the right parts of recipes, is the name.
+// Whether the clause at the node can be used for the name: one of its heads, found by following the right parts of recipes and both parts
+// of menus, is the name.
 pub fn usable(card: &[u8], node: usize, name: usize) -> bool
     requires { ⌜ Sound (now card) ⌝ }
     requires { ⌜ clausePart (now card) (nodeCount (now card)) node ≡ true ⌝ }
     ensures { λ r. ⌜ r ≡ usableM (scopeOf (now (card .entry)) .fits) name (clauseOf (now (card .entry)) node) ⌝ }
 {
-    let mut at = node;
-    let mut k = kind(card, at);
-    while k == 7 {
-        at = right(card, at);
-        k = kind(card, at);
-    }
+    let k = kind(card, node);
     if k == 1 {
-        return left(card, at) == name;
+        return left(card, node) == name;
+    }
+    if k == 7 {
+        return usable(card, right(card, node), name);
+    }
+    if k == 10 {
+        let first = usable(card, left(card, node), name);
+        if first {
+            return true;
+        }
+        return usable(card, right(card, node), name);
     }
     false
 }

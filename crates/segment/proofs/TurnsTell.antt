@@ -156,7 +156,7 @@ module _ {bs codes : List ℕ} {b : Branch} {k : ℕ} (s : Sound bs) (t : Turnin
     r = rightAt bs (nodeOf c)
 
     heights : (heightAt bs l < heightAt bs (nodeOf c)) × (heightAt bs r < heightAt bs (nodeOf c))
-    heights = height-parts s (nodeOf c) below (omega (arith, is-both))
+    heights = height-parts s (nodeOf c) below (omega (arith, is-both)) (λ e. omega (arith, is-both, e))
 
     pub both-short : b .len < 104
     both-short = omega (arith, heights .0, height-pos bs l, fit .stacked, t .some)

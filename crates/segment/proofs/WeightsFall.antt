@@ -3,15 +3,16 @@ use Prim.Native.Nat.{ℕ, zero, suc, _+_, _*_, _≤_, _<_}
 use native.Mathlib.Nat.{add-mul, mul-lt-mul-of-pos-right}
 use native.Mathlib.Omega.{arith}
 use mathlib.Core.Path.{_≡_, refl, ap}
+use mathlib.Core.Logic.{⊎-elim}
 use mathlib.Core.Bool.{true}
 use mathlib.Core.List.{List}
-use Rattle.calculus.specs.Formula.{Goal, atomᴳ, topᴳ, oneᴳ, zeroᴳ, tensor, with, lolliᴳ}
+use Rattle.calculus.specs.Formula.{Goal, atomᴳ, topᴳ, oneᴳ, zeroᴳ, tensor, with, oplus, lolliᴳ}
 use Rattle.card.specs.Format.{nodeCount, kindAt, leftAt, rightAt}
 use Rattle.card.specs.Fault.{Sound, goalPart, heightAt}
 use Rattle.card.specs.Decode.{goalAt}
-use Rattle.card.proofs.NodesDecoded.{reads-name, reads-rest, reads-done}
+use Rattle.card.proofs.NodesDecoded.{reads-name, reads-rest, reads-done, reads-never}
 use Rattle.card.proofs.SoundNodes.{goal-lower, goal-kind, goal-above, height-pos, height-low, height-parts, both-parts, either-parts}
-use Rattle.card.proofs.SoundNodes.{lend-parts, sound-both, sound-either, sound-lend}
+use Rattle.card.proofs.SoundNodes.{one-of-parts, lend-parts, sound-both, sound-either, sound-one-of, sound-lend}
 use Rattle.segment.specs.Inner.Tasks.{weight}
 
 pub weight-pos : (G : Goal) → 1 ≤ weight G
@@ -22,6 +23,7 @@ weight-pos oneᴳ = omega arith
 weight-pos zeroᴳ = omega arith
 weight-pos (tensor G H) = omega arith
 weight-pos (with G H) = omega arith
+weight-pos (oplus G H) = omega arith
 weight-pos (lolliᴳ D G) = omega arith
 
 -- with the nesting left as a factor
@@ -57,6 +59,7 @@ unfoldable cap : ℕ → ℕ
 cap zero = 0
 cap (suc h) = 1 + cap h + cap h
 
+-- the kinds of goals, one by one
 kinds : {C : Type 0} (k : ℕ) → 1 ≤ k → k ≤ 6 → (k ≡ 1 → C) → (k ≡ 2 → C) → (k ≡ 3 → C) → (k ≡ 4 → C) → (k ≡ 5 → C) → (k ≡ 6 → C) → C
 kinds zero l h a b c d e f = absurd (omega arith)
 kinds (suc zero) l h a b c d e f = a refl
@@ -74,27 +77,36 @@ module _ {bs : List ℕ} (s : Sound bs) where
   unfolding weight cap
   weight-step h i g l part =
       let k = goal-kind bs (nodeCount bs) i g in
-      kinds (kindAt bs i) (k .0) (k .1)
+      ⊎-elim (λ six. kinds (kindAt bs i) (k .0) six
       (λ q. let e = ap weight (reads-name bs i q .0) in omega arith)
       (λ q. let e = ap weight (reads-rest bs i q .0) in omega arith)
       (λ q. let e = ap weight (reads-done bs i q) in omega arith)
       (λ q.
       let e = ap weight (sound-both s i below q) in
       let p = both-parts s i below q in
-      let t = height-parts s i below (omega arith) in
+      let t = height-parts s i below (omega arith) (λ e. omega (arith, e, q)) in
       let x = part (leftAt bs i) (p .0) (t .0) in
       let y = part (rightAt bs i) (p .1) (t .1) in omega arith)
       (λ q.
       let e = ap weight (sound-either s i below q) in
       let p = either-parts s i below q in
-      let t = height-parts s i below (omega arith) in
+      let t = height-parts s i below (omega arith) (λ e. omega (arith, e, q)) in
       let x = part (leftAt bs i) (p .0) (t .0) in
       let y = part (rightAt bs i) (p .1) (t .1) in omega arith)
       (λ q.
       let e = ap weight (sound-lend s i below q) in
       let p = lend-parts s i below q in
-      let t = height-parts s i below (omega arith) in
+      let t = height-parts s i below (omega arith) (λ e. omega (arith, e, q)) in
+      let y = part (rightAt bs i) (p .1) (t .1) in omega arith))
+      (⊎-elim
+      (λ q.
+      let e = ap weight (sound-one-of s i below q) in
+      let p = one-of-parts s i below q in
+      let t = height-parts s i below (omega arith) (λ e. omega (arith, e, q)) in
+      let x = part (leftAt bs i) (p .0) (t .0) in
       let y = part (rightAt bs i) (p .1) (t .1) in omega arith)
+      (λ q. let e = ap weight (reads-never bs i q) in omega arith))
+      (k .1)
     where
       below : i < nodeCount bs
       below = goal-lower bs (nodeCount bs) i g

@@ -75,7 +75,7 @@ fn turn(card: &[u8], agenda: &mut [u16; 104], b: Branch, k: usize) -> Branch
     b.longer()
 }
 
-// The agenda, until its next task is a name, & or ⊸.
+// The agenda, until its next task is a name, &, ⊸, ⊕ or 0.
 pub fn unwind(card: &[u8], agenda: &mut [u16; 104], b: Branch) -> Branch
     requires { ⌜ Sound (now card) ⌝ }
     requires { ⌜ Laid (now card) (now agenda) (b .len) (b .count) ⌝ }
@@ -96,8 +96,14 @@ pub fn unwind(card: &[u8], agenda: &mut [u16; 104], b: Branch) -> Branch
     c
 }
 
-// The conditions of the clause at the node, put behind the first len tasks, the one nearest the head last: how many tasks there are then.
-pub fn push(card: &[u8], agenda: &mut [u16; 104], len: usize, clause: usize, nest: usize) -> usize
+// What there is once a clause's conditions are put: how many tasks, and the clause's core, which is a head or a menu.
+pub struct Pushed {
+    pub len: usize,
+    pub core: usize,
+}
+
+// The conditions of the clause at the node, put behind the first len tasks, the one nearest the head last, up to its core.
+pub fn push(card: &[u8], agenda: &mut [u16; 104], len: usize, clause: usize, nest: usize) -> Pushed
     requires { ⌜ Sound (now card) ⌝ }
     requires { ⌜ clausePart (now card) (nodeCount (now card)) clause ≡ true ⌝ }
     requires { ⌜ (nest < 32) × ((len + heightAt (now card) clause ≤ 105) × (length (now agenda) ≡ 104)) ⌝ }
@@ -112,5 +118,5 @@ pub fn push(card: &[u8], agenda: &mut [u16; 104], len: usize, clause: usize, nes
         at = right(card, at);
         k = kind(card, at);
     }
-    n
+    Pushed { len: n, core: at }
 }

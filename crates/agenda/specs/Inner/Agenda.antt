@@ -5,7 +5,7 @@ use mathlib.Core.Path.{_≡_}
 use mathlib.Core.Logic.{_↔_}
 use mathlib.Core.Bool.{Bool, false, _||_}
 use mathlib.Core.List.{List, [], _∷_, _++_}
-use Rattle.calculus.specs.Formula.{Goal, Clause, atomᴰ, topᴰ, lolliᴰ}
+use Rattle.calculus.specs.Formula.{Goal, Clause, atomᴰ, topᴰ, lolliᴰ, withᴰ}
 use Rattle.calculus.specs.Items.{Items, Empty, Splits}
 use Rattle.calculus.specs.Derivation.{Scope}
 use Rattle.calculus.specs.Inner.Summary.{Sum}
@@ -33,8 +33,15 @@ pub data Reads (es : Scope) : Agenda → List ℕ → Items → Bool → Type 0 
 pub record Alike (es : Scope) (A B : Agenda) : Type 0 where
   pub alike : (l : List ℕ) (U : Items) (v : Bool) → Reads es A l U v ↔ Reads es B l U v
 
--- "The condition nearest the head is met first": a clause's conditions put on an agenda.
+-- "The condition nearest the head is met first": a clause's conditions put on an agenda, up to a head or a menu, which is its core.
 unfoldable pub pushed : ℕ → Clause → Agenda → Agenda
 pushed n (atomᴰ b) A = A
 pushed n topᴰ A = A
 pushed n (lolliᴰ G D) A = pushed n D (task G n ∷ A)
+pushed n (withᴰ D E) A = A
+
+unfoldable pub core : Clause → Clause
+core (atomᴰ b) = atomᴰ b
+core topᴰ = topᴰ
+core (lolliᴰ G D) = core D
+core (withᴰ D E) = withᴰ D E

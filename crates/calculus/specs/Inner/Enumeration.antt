@@ -1,12 +1,13 @@
 -- All lists of a job, to be computed where it is small; and a test whether a list is the first of them.
 use Prim.Native.Nat.{ℕ, zero, suc}
 use mathlib.Core.Bool.{Bool, true, false, not, _&&_, _||_}
-use mathlib.Core.List.{List, [], _∷_, _++_, flatMap}
+use mathlib.Core.List.{List, [], _∷_, _++_, map, flatMap}
 use lib.ListN.{length}
 use lib.Dec.{eqb, leb, ltb}
-use Rattle.calculus.specs.Formula.{Goal, atomᴳ, topᴳ, oneᴳ, zeroᴳ, tensor, with, lolliᴳ}
+use Rattle.calculus.specs.Formula.{Goal, atomᴳ, topᴳ, oneᴳ, zeroᴳ, tensor, with, oplus, lolliᴳ}
 use Rattle.calculus.specs.Items.{Items, ∅, _∪_, _∖_, only}
 use Rattle.calculus.specs.Derivation.{Scope, size, linearAt, residualAt, lend}
+use Rattle.calculus.specs.Steps.{leftChoice, rightChoice}
 use Rattle.calculus.specs.Job.{Job}
 
 -- A list, the outer items that it takes, and whether there is slack.
@@ -62,6 +63,10 @@ unfoldable pub spent : Bool → ℕ → Taking → List Taking
 spent false e x = taking (e ∷ x .list) (x .used) (x .slack) ∷ []
 spent true e x = kept (not (x .used e)) (taking (e ∷ x .list) (x .used ∪ only e) (x .slack))
 
+-- the same behind a choice
+unfoldable pub sideTaken : ℕ → Taking → Taking
+sideTaken c x = taking (c ∷ x .list) (x .used) (x .slack)
+
 -- the takings at a goal, where `names` has those at a name
 unfoldable pub takings : (ℕ → Scope → List Taking) → Goal → Scope → List Taking
 takings names (atomᴳ a) es = names a es
@@ -70,6 +75,7 @@ takings names oneᴳ es = taking [] ∅ false ∷ []
 takings names zeroᴳ es = []
 takings names (tensor G H) es = pairs (tensored es) (takings names G es) (takings names H es)
 takings names (with G H) es = pairs (sided es) (takings names G es) (takings names H es)
+takings names (oplus G H) es = map (sideTaken leftChoice) (takings names G es) ++ map (sideTaken rightChoice) (takings names H es)
 takings names (lolliᴳ D G) es = flatMap (lent es) (takings names G (lend es D))
 
 -- those at a name with nesting n left: every entry is tried

@@ -7,8 +7,9 @@ use mathlib.Core.List.{List, [], _∷_, _++_}
 use native.Mathlib.Decide.{ℕ-discrete}
 use Rattle.calculus.specs.Formula.{Goal, tensor}
 use Rattle.calculus.specs.Items.{Items, _∪_}
-use Rattle.calculus.specs.Derivation.{Scope, size, clauseAt, linearAt, Derives, res-1, res-⊤, res-⊗, res-&, res-⊸, res-atm-int, res-atm-lin}
-use Rattle.calculus.specs.Steps.{steps, nesting}
+use Rattle.calculus.specs.Derivation.{Scope, size, clauseAt, linearAt, Derives, res-1, res-⊤, res-⊗, res-&, res-⊕₁, res-⊕₂, res-⊸}
+use Rattle.calculus.specs.Derivation.{res-atm-int, res-atm-lin}
+use Rattle.calculus.specs.Steps.{steps, nesting, leftChoice, rightChoice}
 use Rattle.calculus.specs.Job.{Job}
 
 -- f takes the entries of one scope to those of another, keeping clauses and linearity; what fits in the one fits in the other; g undoes
@@ -32,6 +33,8 @@ over f (res-1 n) = []
 over f res-⊤ = []
 over f (res-⊗ s l r) = over f l ++ over f r
 over f (res-& l r) = over f l ++ over f r
+over f (res-⊕₁ d) = leftChoice ∷ over f d
+over f (res-⊕₂ d) = rightChoice ∷ over f d
 over f (res-⊸ h d) = over f d
 over f (res-atm-int e n d) = f e ∷ over f d
 over f (res-atm-lin e n h d) = f e ∷ over f d

@@ -4,10 +4,10 @@ use mathlib.Core.Path.{_≡_}
 use mathlib.Core.Logic.{_⊎_}
 use mathlib.Core.Bool.{Bool, true, false, not, _&&_, _||_}
 use mathlib.Core.List.{List, [], _∷_, _++_}
-use Rattle.calculus.specs.Formula.{Goal, Clause, atomᴳ, topᴳ, oneᴳ, tensor, with, lolliᴳ}
+use Rattle.calculus.specs.Formula.{Goal, Clause, atomᴳ, topᴳ, oneᴳ, tensor, with, oplus, lolliᴳ}
 use Rattle.calculus.specs.Items.{Items, only, Empty, Splits, Within}
 use Rattle.calculus.specs.Derivation.{Scope, Derives, size, linearAt, residualAt, lend}
-use Rattle.calculus.specs.Steps.{steps, nesting}
+use Rattle.calculus.specs.Steps.{steps, nesting, leftChoice, rightChoice}
 
 -- the same items
 pub record Same (I J : Items) : Type 0 where
@@ -50,6 +50,11 @@ pub data Sum : ℕ → Scope → Goal → List ℕ → Items → Bool → Type 0
   sum-& : {n : ℕ} {es : Scope} {G H : Goal} {l l₁ l₂ : List ℕ} {U U₁ U₂ : Items} {v v₁ v₂ : Bool}
       → l ≡ l₁ ++ l₂ → Joins U U₁ U₂ → v ≡ (v₁ && v₂) → Covers (spare es v₁) U₁ U₂ → Covers (spare es v₂) U₂ U₁
       → Sum n es G l₁ U₁ v₁ → Sum n es H l₂ U₂ v₂ → Sum n es (with G H) l U v
+  -- a choice takes nothing
+  sum-⊕₁ : {n : ℕ} {es : Scope} {G H : Goal} {l m : List ℕ} {U : Items} {v : Bool}
+      → l ≡ leftChoice ∷ m → Sum n es G m U v → Sum n es (oplus G H) l U v
+  sum-⊕₂ : {n : ℕ} {es : Scope} {G H : Goal} {l m : List ℕ} {U : Items} {v : Bool}
+      → l ≡ rightChoice ∷ m → Sum n es H m U v → Sum n es (oplus G H) l U v
   -- without slack the lent clause is taken
   sum-⊸ : {n : ℕ} {es : Scope} {D : Clause} {G : Goal} {l : List ℕ} {U W : Items} {v : Bool}
       → Without U W (size es) → (spare es v (size es) || W (size es)) ≡ true

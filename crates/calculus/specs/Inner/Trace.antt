@@ -11,13 +11,13 @@ use Rattle.calculus.specs.Items.{Items, _∪_, Empty, Within}
 use Rattle.calculus.specs.Derivation.{Scope, size, clauseAt, linearAt, lend}
 use Rattle.calculus.specs.Job.{Job}
 use Rattle.calculus.specs.Walk.{Walk, goalWalk, clauseWalk, nameWithin}
-use Rattle.calculus.specs.Wanted.{Part, goal, meet}
+use Rattle.calculus.specs.Wanted.{Part, goal, meet, Side}
 use Rattle.calculus.specs.Inner.Summary.{Same, Joins, Without, Plus, spare, Covers}
 
 -- the walk of a part, with nesting n left
 unfoldable pub partWalk : ℕ → Part → Scope → ℕ → List ℕ → Walk
 partWalk n (goal G) = goalWalk (nameWithin n) G
-partWalk n (meet a D) = clauseWalk (nameWithin n) D
+partWalk n (meet a D) = clauseWalk (nameWithin n) a D
 
 -- What a walk gathers: its list, the outer items that it takes, whether there is slack, and whether all items divided.
 pub record Gathered : Type 0 where
@@ -70,7 +70,7 @@ pub record Lends (es : Scope) (w x : Gathered) : Type 0 where
   pub slacks : w .slack ≡ x .slack
   pub alives : Says (w .alive) ((x .alive ≡ true) × ((spare es (x .slack) (size es) || x .used (size es)) ≡ true))
 
--- w at a name for which the rule e is used, from x at its conditions
+-- w at a name for which the rule e is used, from x at its conditions; and at a choice e, from x at the side taken
 pub record UsesRule (e : ℕ) (w x : Gathered) : Type 0 where
   pub lists : w .list ≡ e ∷ x .list
   pub same : Same (w .used) (x .used)
@@ -95,6 +95,8 @@ pub data Trace : ℕ → Scope → Part → Gathered → Type 0 where
       → Trace n es (goal G) x → Trace n es (goal H) y → Trace n es (goal (with G H)) w
   trace-⊸ : {n : ℕ} {es : Scope} {D : Clause} {G : Goal} {w x : Gathered} → Lends es w x
       → Trace n (lend es D) (goal G) x → Trace n es (goal (lolliᴳ D G)) w
+  trace-side : {n c : ℕ} {es : Scope} {p q : Part} {w x : Gathered} → Side es p c q → UsesRule c w x
+      → Trace n es q x → Trace n es p w
   trace-rule : {n : ℕ} {es : Scope} {a e : ℕ} {w x : Gathered} → linearAt es e ≡ false → UsesRule e w x
       → Trace n es (meet a (clauseAt es e)) x → Trace (suc n) es (goal (atomᴳ a)) w
   trace-item : {n : ℕ} {es : Scope} {a e : ℕ} {w x : Gathered} → linearAt es e ≡ true → UsesItem e w x

@@ -22,7 +22,7 @@ next k n h e = omega arith
 told : (k n : ℕ) {x : Row} → k ≡ n → Told x (kindOf n) → Told x (kindOf k)
 told k n {x} e p = subst (λ (m : ℕ). Told x (kindOf m)) (sym e) p
 
-not-told : (k : ℕ) (x : Row) → (1 ≤ k → 7 < k) → Told x unknown → Told x (kindOf k)
+not-told : (k : ℕ) (x : Row) → (1 ≤ k → 10 < k) → Told x unknown → Told x (kindOf k)
 unfolding kindOf kinds
 not-told k x n p = by-size (decLt 0 k)
   where
@@ -54,6 +54,15 @@ new-requires-7 c κs = search needs
 new-requires-8 : tie.Need-new-requires-8
 new-requires-8 c κs = search needs
 
+new-requires-9 : tie.Need-new-requires-9
+new-requires-9 c κs = search needs
+
+new-requires-10 : tie.Need-new-requires-10
+new-requires-10 c κs = search needs
+
+new-requires-11 : tie.Need-new-requires-11
+new-requires-11 c κs = search needs
+
 returns : tie.Need-returns
 unfolding kindOf kinds isGoal isClause given
 returns c = told (c .before .before .args .k) 1 (omega arith) (c .new .ensures)
@@ -84,13 +93,24 @@ returns-7 c = told (c .before .before .args .k) 7 (omega arith) (c .new7 .ensure
 
 returns-8 : tie.Need-returns-8
 unfolding kindOf kinds isGoal isClause given
-returns-8 c =
+returns-8 c = told (c .before .before .args .k) 8 (omega arith) (c .new8 .ensures)
+
+returns-9 : tie.Need-returns-9
+unfolding kindOf kinds isGoal isClause given
+returns-9 c = told (c .before .before .args .k) 9 (omega arith) (c .new9 .ensures)
+
+returns-10 : tie.Need-returns-10
+unfolding kindOf kinds isGoal isClause given
+returns-10 c = told (c .before .before .args .k) 10 (omega arith) (c .new10 .ensures)
+
+returns-11 : tie.Need-returns-11
+unfolding kindOf kinds isGoal isClause given
+returns-11 c =
     let none = c .before .match .rest in
     let k = c .before .before .args .k in
     not-told k _
-    (λ h. next k 7 (next k 6 (next k 5 (next k 4 (next k 3 (next k 2 (next k 1 h (none .0 .0 .0 .0 .0 .0 .1)) (none .0 .0 .0 .0 .0 .1))
-    (none .0 .0 .0 .0 .1)) (none .0 .0 .0 .1)) (none .0 .0 .1)) (none .0 .1)) (none .1))
-    (c .new8 .ensures)
+    (λ h. next k 10 (next k 9 (next k 8 (next k 7 (next k 6 (next k 5 (next k 4 (next k 3 (next k 2 (next k 1 h (none .0 .0 .0 .0 .0 .0 .0 .0 .0 .1)) (none .0 .0 .0 .0 .0 .0 .0 .0 .1)) (none .0 .0 .0 .0 .0 .0 .0 .1)) (none .0 .0 .0 .0 .0 .0 .1)) (none .0 .0 .0 .0 .0 .1)) (none .0 .0 .0 .0 .1)) (none .0 .0 .0 .1)) (none .0 .0 .1)) (none .0 .1)) (none .1))
+    (c .new11 .ensures)
 
 pub row-spec : {M : Type 1} → statement M
 row-spec =
@@ -104,6 +124,9 @@ row-spec =
     new-requires-6
     new-requires-7
     new-requires-8
+    new-requires-9
+    new-requires-10
+    new-requires-11
     returns
     returns-2
     returns-3
@@ -111,4 +134,7 @@ row-spec =
     returns-5
     returns-6
     returns-7
-    returns-8)
+    returns-8
+    returns-9
+    returns-10
+    returns-11)

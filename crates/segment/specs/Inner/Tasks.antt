@@ -5,16 +5,17 @@ use mathlib.Core.Logic.{_⊎_}
 use mathlib.Core.Bool.{Bool, true, _||_}
 use mathlib.Core.List.{List, [], _∷_}
 use lib.ListN.{length, getD, set}
-use Rattle.calculus.specs.Formula.{Goal, atomᴳ, topᴳ, oneᴳ, zeroᴳ, tensor, with, lolliᴳ}
+use Rattle.calculus.specs.Formula.{Goal, atomᴳ, topᴳ, oneᴳ, zeroᴳ, tensor, with, oplus, lolliᴳ}
 use Rattle.calculus.specs.Items.{Items}
 use Rattle.calculus.specs.Derivation.{Scope}
 use Rattle.card.specs.Format.{ruleCount, nodeCount, kindAt, leftAt, rightAt}
-use Rattle.card.specs.Fault.{goalPart, heightAt}
+use Rattle.card.specs.Fault.{goalPart, clausePart, heightAt}
 use Rattle.card.specs.Decode.{goalAt, clauseOf}
 use Rattle.scope.specs.Inner.Sets.{items}
-use Rattle.agenda.specs.Inner.Agenda.{Agenda, Task, task, pushed}
+use Rattle.agenda.specs.Inner.Agenda.{Agenda, Task, task, pushed, core}
 use Rattle.agenda.specs.Inner.Sought.{Place, holding, None, Least}
 use Rattle.branch.specs.declared.Branch.{Branch}
+use Rattle.segment.specs.declared.tasks.Pushed.{Pushed}
 
 -- a task in two bytes: the goal's node and the nesting left
 unfoldable pub nodeOf : ℕ → ℕ
@@ -39,6 +40,7 @@ weight oneᴳ = 1
 weight zeroᴳ = 1
 weight (tensor G H) = 1 + weight G + weight H
 weight (with G H) = 1 + weight G + weight H
+weight (oplus G H) = 1 + weight G + weight H
 weight (lolliᴳ D G) = 1 + weight G
 
 unfoldable pub taskWeight : List ℕ → ℕ → ℕ
@@ -102,7 +104,7 @@ pub record Unwound (bs codes codes′ : List ℕ) (b b′ : Branch) : Type 0 whe
 pub record Lighter (bs codes codes′ : List ℕ) (b b′ : Branch) : Type 0 where
   pub lighter : total bs codes′ (b′ .len) < total bs codes (b .len)
 
--- the next task, if there is one, is a name, & or ⊸
+-- the next task, if there is one, is a name, &, ⊸, ⊕ or 0
 pub record OpenTask (bs codes : List ℕ) (b : Branch) : Type 0 where
   pub some : 1 ≤ b .len
   pub kind : (kindAt bs (nodeOf (getD codes (b .len - 1) 0)) ≡ 1) ⊎ (4 < kindAt bs (nodeOf (getD codes (b .len - 1) 0)))
@@ -110,9 +112,14 @@ pub record OpenTask (bs codes : List ℕ) (b : Branch) : Type 0 where
 unfoldable pub Opened : List ℕ → List ℕ → Branch → Type 0
 Opened bs codes b = (b .len ≡ 0) ⊎ OpenTask bs codes b
 
--- a clause's conditions, put behind the first len tasks
-pub record Pushing (bs codes codes′ : List ℕ) (len clause nest r : ℕ) : Type 0 where
+-- a clause's conditions, put behind the first len tasks, up to its core: a clause of the card that is no recipe
+pub record Pushing (bs codes codes′ : List ℕ) (len clause nest : ℕ) (r : Pushed) : Type 0 where
   pub room : length codes′ ≡ 104
-  pub tasks : agendaOf bs codes′ r ≡ pushed nest (clauseOf bs clause) (agendaOf bs codes len)
+  pub tasks : agendaOf bs codes′ (r .len) ≡ pushed nest (clauseOf bs clause) (agendaOf bs codes len)
+  pub core-node : clausePart bs (nodeCount bs) (r .core) ≡ true
+  pub core-kind : kindAt bs (r .core) ≡ 7 → ⊥
+  pub is-core : clauseOf bs (r .core) ≡ core (clauseOf bs clause)
+  pub no-higher : r .len + heightAt bs (r .core) ≤ len + heightAt bs clause
+  pub lower : heightAt bs (r .core) ≤ heightAt bs clause
   pub laid : (count : ℕ) → Laid bs codes len count → len + heightAt bs clause + 6 * nest ≤ 105
-      → count + heightAt bs clause + 6 * nest ≤ ruleCount bs + 169 → Laid bs codes′ r count
+      → count + heightAt bs clause + 6 * nest ≤ ruleCount bs + 169 → Laid bs codes′ (r .len) count

@@ -15,9 +15,9 @@ use Rattle.card.specs.Decode.{clauseOf}
 use Rattle.card.proofs.CardChecked.{sound-front}
 use Rattle.card.proofs.NodesDecoded.{reads-name, reads-rest}
 use Rattle.card.proofs.SoundNodes.{clause-lower, clause-kind, clause-above, goal-above, node-here, parts-below, recipe-parts}
-use Rattle.card.proofs.SoundNodes.{sound-recipe}
+use Rattle.card.proofs.SoundNodes.{sound-recipe, sound-menu}
 use Rattle.card.proofs.SoundNodes.{height-pos, height-parts}
-use Rattle.agenda.specs.Inner.Agenda.{Agenda, pushed}
+use Rattle.agenda.specs.Inner.Agenda.{Agenda, pushed, core}
 use Rattle.segment.specs.Inner.Tasks.{agendaOf, Laid, Pushing}
 use Rattle.segment.proofs.TasksAreAgendas.{task-code, fit-code, agenda-put, laid-put}
 use Rattle.segment.proofs.tasks.push.Statement.{statement}
@@ -29,6 +29,8 @@ record Putting (bs codes₀ codes : List ℕ) (len clause nest at n : ℕ) : Typ
   room : length codes ≡ 104
   more : len ≤ n
   height : n + heightAt bs at ≤ len + heightAt bs clause
+  same-core : core (clauseOf bs at) ≡ core (clauseOf bs clause)
+  no-lower : heightAt bs at ≤ heightAt bs clause
   tasks : pushed nest (clauseOf bs at) (agendaOf bs codes n) ≡ pushed nest (clauseOf bs clause) (agendaOf bs codes₀ len)
   laid : (count : ℕ) → Laid bs codes₀ len count → len + heightAt bs clause + 6 * nest ≤ 105
       → count + heightAt bs clause + 6 * nest ≤ ruleCount bs + 169 → Laid bs codes n count
@@ -42,13 +44,13 @@ module _ {bs : List ℕ} (s : Sound bs) (i : ℕ) (p : clausePart bs (nodeCount 
 
   module _ (k : kindAt bs i ≡ 7) where
     lower : (leftAt bs i < i) × (rightAt bs i < i)
-    lower = parts-below s i below (omega arith)
+    lower = parts-below s i below (omega arith) (λ e. omega (arith, e, k))
 
     small : leftAt bs i < 512
     small = let f = sound-front bs s .few in omega (arith, lower .0, below)
 
     heights : (heightAt bs (leftAt bs i) < heightAt bs i) × (heightAt bs (rightAt bs i) < heightAt bs i)
-    heights = height-parts s i below (omega arith)
+    heights = height-parts s i below (omega arith) (λ e. omega (arith, e, k))
 
     condition : goalPart bs (nodeCount bs) (leftAt bs i) ≡ true
     condition = goal-above bs i (leftAt bs i) (nodeCount bs) (omega (arith, below)) (recipe-parts s i below k .0)
@@ -56,12 +58,21 @@ module _ {bs : List ℕ} (s : Sound bs) (i : ℕ) (p : clausePart bs (nodeCount 
     rest : clausePart bs (nodeCount bs) (rightAt bs i) ≡ true
     rest = clause-above bs i (rightAt bs i) (nodeCount bs) (omega (arith, below)) (recipe-parts s i below k .1)
 
-  -- a clause that is no recipe has no conditions
+  -- a clause that is no recipe has no conditions, and is its own core
   bare : (kindAt bs i ≡ 7 → ⊥) → (n : ℕ) (A : Agenda) → pushed n (clauseOf bs i) A ≡ A
   unfolding pushed
   bare d n A =
       ⊎-elim (λ k. ap (λ (D : Clause). pushed n D A) (reads-name bs i k .1))
-      (⊎-elim (λ k. ap (λ (D : Clause). pushed n D A) (reads-rest bs i k .1)) (λ k. absurd (d k)))
+      (⊎-elim (λ k. ap (λ (D : Clause). pushed n D A) (reads-rest bs i k .1))
+      (⊎-elim (λ k. absurd (d k)) (λ k. ap (λ (D : Clause). pushed n D A) (sound-menu s i below k))))
+      (clause-kind bs (nodeCount bs) i p)
+
+  own-core : (kindAt bs i ≡ 7 → ⊥) → core (clauseOf bs i) ≡ clauseOf bs i
+  unfolding core
+  own-core d =
+      ⊎-elim (λ k. ap core (reads-name bs i k .1) ∙ sym (reads-name bs i k .1))
+      (⊎-elim (λ k. ap core (reads-rest bs i k .1) ∙ sym (reads-rest bs i k .1))
+      (⊎-elim (λ k. absurd (d k)) (λ k. ap core (sound-menu s i below k) ∙ sym (sound-menu s i below k))))
       (clause-kind bs (nodeCount bs) i p)
 
 module _ {bs codes₀ codes : List ℕ} {len clause nest at n : ℕ} (s : Sound bs) (t : Putting bs codes₀ codes len clause nest at n)
@@ -73,7 +84,7 @@ module _ {bs codes₀ codes : List ℕ} {len clause nest at n : ℕ} (s : Sound 
 
   onward : kindAt bs at ≡ 7
       → Putting bs codes₀ (set codes n (leftAt bs at * 32 + nest)) len clause nest (rightAt bs at) (n + 1)
-  unfolding pushed
+  unfolding pushed core
   onward k =
       let a = heights s at (t .part) k in
       record {
@@ -81,6 +92,8 @@ module _ {bs codes₀ codes : List ℕ} {len clause nest at n : ℕ} (s : Sound 
         room = length-set codes n (leftAt bs at * 32 + nest) ∙ t .room;
         more = omega (arith, t .more);
         height = omega (arith, a .1, t .height);
+        same-core = sym (ap core (sound-recipe s at (below s at (t .part)) k)) ∙ t .same-core;
+        no-lower = omega (arith, a .1, t .no-lower);
         tasks =
             ap (pushed nest (clauseOf bs (rightAt bs at)))
             (agenda-put bs codes n (leftAt bs at * 32 + nest) (omega (arith, inside k, t .room))
@@ -93,8 +106,17 @@ module _ {bs codes₀ codes : List ℕ} {len clause nest at n : ℕ} (s : Sound 
             (t .laid count l d e);
       }
 
-  pushes : (kindAt bs at ≡ 7 → ⊥) → Pushing bs codes₀ codes len clause nest n
-  pushes d = record { room = t .room; tasks = sym (bare s at (t .part) d nest (agendaOf bs codes n)) ∙ t .tasks; laid = t .laid }
+  pushes : (kindAt bs at ≡ 7 → ⊥) → Pushing bs codes₀ codes len clause nest (record { len = n; core = at })
+  pushes d = record {
+    room = t .room;
+    tasks = sym (bare s at (t .part) d nest (agendaOf bs codes n)) ∙ t .tasks;
+    core-node = t .part;
+    core-kind = d;
+    is-core = sym (own-core s at (t .part) d) ∙ t .same-core;
+    no-higher = t .height;
+    lower = t .no-lower;
+    laid = t .laid;
+  }
 
 abbrev Inv-loop : tie.InvT-loop
 Inv-loop card agenda₀ len clause nest at₀ n₀ k₀ agenda at n k = (k ≡ kindAt card at) × Putting card agenda₀ agenda len clause nest at n
@@ -114,6 +136,8 @@ loop-holds c =
         room = start .pre .1 .1 .1 .1;
         more = omega arith;
         height = omega arith;
+        same-core = refl;
+        no-lower = omega arith;
         tasks = refl;
         laid = λ count l d e. l;
       },

@@ -23,7 +23,7 @@ module _ {bs codes : List ℕ} {i : ℕ} (s : Sound bs) (p : Splitting bs codes 
 
   parts : (leftAt bs g < 512) × (rightAt bs g < 512)
   parts =
-      let q = parts-below s g below (rw e (omega (arith, p .is-tensor))) in
+      let q = parts-below s g below (rw e (omega (arith, p .is-tensor))) (rw e (λ k. omega (arith, p .is-tensor, k))) in
       let f = sound-front bs s .few in
       (omega (arith, q .0, below), omega (arith, q .1, below))
 
