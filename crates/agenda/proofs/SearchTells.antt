@@ -21,7 +21,7 @@ use Rattle.calculus.proofs.RenamingKeeps.{entry-past}
 use Rattle.agenda.specs.Inner.Agenda.{Task, task, Agenda, Reads, reads-nil, Alike}
 use Rattle.agenda.specs.Inner.Order.{Floor, ends, Next, next-here, Chosen, none, step}
 use Rattle.agenda.specs.Inner.Sought.{Place, floored, unfloored, holding, past, eased, lead, pastLead, pastWith, lentPlace, spent}
-use Rattle.agenda.specs.Inner.Sought.{spending, pastUse, InWindow, Spares, Sought, None, Least, Trying, Raised}
+use Rattle.agenda.specs.Inner.Sought.{spending, pastUse, pastChoice, InWindow, Spares, Sought, None, Least, Trying, Shut, Raised}
 use Rattle.agenda.proofs.AgendasRead.{reads-unique, reads-same, reads-empty, reads-⊤, reads-alone, reads-⊕, reads-use, reads-unnested, Used}
 use Rattle.agenda.proofs.AgendasRead.{Takes, takes-rule, takes-item}
 use Rattle.agenda.proofs.ListsOrdered.{before-both, before-behind, before-raised, raised-before, not-raised}
@@ -363,24 +363,16 @@ module _ (eligible : List ℕ → ℕ → Bool) where
         ⊎-elim (λ c. omega (arith, ap length (c .list), k, h)) (λ c. omega (arith, ap length (c .list), k, h)) (chose s);
   }
 
-  -- a side shut: no list sought at the agenda begins with the choice
-  pub record Shut (es : Scope) (A : Agenda) (p : Place) (c : ℕ) : Type 0 where
-    pub shut : (m : List ℕ) (U : Items) (v : Bool) → Sought eligible es A p (c ∷ m) U v → ⊥
-
   -- with given steps ahead, or the least step of the floor, above it
-  pub shut-given : {es : Scope} {A : Agenda} {p : Place} {c x : ℕ} {F : List ℕ} → p .given ≡ x ∷ F → c < x → Shut es A p c
+  pub shut-given : {es : Scope} {A : Agenda} {p : Place} {c x : ℕ} {F : List ℕ} → p .given ≡ x ∷ F → c < x → Shut eligible es A p c
   shut-given {p} {c} {x} e h = record {
     shut = λ m U v s. let k : x ≤ c = floor-given (subst (λ (j : List ℕ). Floor (c ∷ m) j (p .from)) e (s .floor)) in omega arith;
   }
 
-  pub shut-open : {es : Scope} {A : Agenda} {p : Place} {c : ℕ} → p .given ≡ [] → c < p .from → Shut es A p c
+  pub shut-open : {es : Scope} {A : Agenda} {p : Place} {c : ℕ} → p .given ≡ [] → c < p .from → Shut eligible es A p c
   shut-open {p} {c} e h = record {
     shut = λ m U v s. let k : p .from ≤ c = floor-open (subst (λ (j : List ℕ). Floor (c ∷ m) j (p .from)) e (s .floor)) in omega arith;
   }
-
-  -- past a choice
-  abbrev pub pastChoice : Place → ℕ → List ℕ → ℕ → Place
-  pastChoice p c F f = past p (c ∷ []) F f (p .strict) (p .lax)
 
   sought-side : {es : Scope} {G : Goal} {n : ℕ} {A B : Agenda} (p : Place) {c : ℕ} {m F : List ℕ} {f : ℕ} {U : Items} {v : Bool}
       → Next (c ∷ []) (p .given) (p .from) F f → Sought eligible es B p (c ∷ m) U v → Reads es (task G n ∷ A) m U v
@@ -402,15 +394,15 @@ module _ (eligible : List ℕ → ℕ → Bool) where
 
     -- past the choice nothing is sought
     pub shut-left : {F : List ℕ} {f : ℕ} → Next (leftChoice ∷ []) (p .given) (p .from) F f
-        → None eligible es (task G n ∷ A) (pastChoice p leftChoice F f) → Shut es (task (oplus G H) n ∷ A) p leftChoice
+        → None eligible es (task G n ∷ A) (pastChoice p leftChoice F f) → Shut eligible es (task (oplus G H) n ∷ A) p leftChoice
     shut-left k h = record { shut = λ m U v s. h .none m U v (sought-side p k s (past-left s)) }
 
     pub shut-right : {F : List ℕ} {f : ℕ} → Next (rightChoice ∷ []) (p .given) (p .from) F f
-        → None eligible es (task H n ∷ A) (pastChoice p rightChoice F f) → Shut es (task (oplus G H) n ∷ A) p rightChoice
+        → None eligible es (task H n ∷ A) (pastChoice p rightChoice F f) → Shut eligible es (task (oplus G H) n ∷ A) p rightChoice
     shut-right k h = record { shut = λ m U v s. h .none m U v (sought-side p k s (past-right s)) }
 
     -- both sides are shut
-    pub choice-none : Shut es (task (oplus G H) n ∷ A) p leftChoice → Shut es (task (oplus G H) n ∷ A) p rightChoice → None eligible es (task (oplus G H) n ∷ A) p
+    pub choice-none : Shut eligible es (task (oplus G H) n ∷ A) p leftChoice → Shut eligible es (task (oplus G H) n ∷ A) p rightChoice → None eligible es (task (oplus G H) n ∷ A) p
     choice-none x y = record {
       none = λ l U v s. ⊎-elim
           (λ c. x .shut (c .onward) U v (subst (λ (k : List ℕ). Sought eligible es (task (oplus G H) n ∷ A) p k U v) (c .list) s))
@@ -449,7 +441,7 @@ module _ (eligible : List ℕ → ℕ → Bool) where
         later j {i} q = subst (Before (leftChoice ∷ m)) (sym q) (here (omega arith))
 
     -- the left side is shut, and the right side is solved
-    pub choice-right : {m F : List ℕ} {f : ℕ} {U : Items} {v : Bool} → Shut es (task (oplus G H) n ∷ A) p leftChoice → eligible (p .done) rightChoice ≡ true
+    pub choice-right : {m F : List ℕ} {f : ℕ} {U : Items} {v : Bool} → Shut eligible es (task (oplus G H) n ∷ A) p leftChoice → eligible (p .done) rightChoice ≡ true
         → 1 ≤ p .room → Next (rightChoice ∷ []) (p .given) (p .from) F f
         → Least eligible es (task H n ∷ A) (pastChoice p rightChoice F f) m U v → Least eligible es (task (oplus G H) n ∷ A) p (rightChoice ∷ m) U v
     choice-right {m} {U = U} {v} x e h k l = record {

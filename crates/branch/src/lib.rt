@@ -6,7 +6,7 @@ ghost use mathlib.Core.Path.{_≡_};
 ghost use lib.ListN.{length};
 ghost use Prim.Native.Nat.{_≤_, _<_};
 ghost use Rattle.lines.specs.Inner.Set.{Words};
-ghost use Rattle.branch.specs.Inner.Values.{droppedB, longerB, easedB, leadB, ownB, pastTensorB, pastWithB, lentB, usingB};
+ghost use Rattle.branch.specs.Inner.Values.{droppedB, longerB, sizedB, choseB, easedB, leadB, ownB, pastTensorB, pastWithB, lentB, usingB};
 ghost use Rattle.branch.specs.Inner.Values.{flagOf, wayIn, answerIn, Awake, closedA, joinedW, besideW, withoutW, followingW, pastF};
 
 // A branch, by value: the place on the tape, how many entries stand in scope, how many tasks on the agenda, the step limit; the free
@@ -141,6 +141,25 @@ impl Branch {
     {
         let mut b = self;
         b.len = self.len + 1;
+        b
+    }
+
+    // With so many tasks.
+    pub fn sized(self, len: usize) -> Branch
+        ensures { λ r. ⌜ r ≡ sizedB self len ⌝ }
+    {
+        let mut b = self;
+        b.len = len;
+        b
+    }
+
+    // Past a choice.
+    pub fn chose(self) -> Branch
+        requires { ⌜ self .at < 255 ⌝ }
+        ensures { λ r. ⌜ r ≡ choseB self ⌝ }
+    {
+        let mut b = self;
+        b.at = self.at + 1;
         b
     }
 

@@ -6,7 +6,12 @@ use card::format::byte;
 ghost use mathlib.Core.Path.{_≡_};
 ghost use Prim.Native.Nat.{_≤_};
 ghost use lib.ListN.{length};
-ghost use Rattle.choice.specs.Inner.Choice.{atHandBy, takableBy, Testing, Seeks, FirstEntry, keepsBy, openBy, gives};
+ghost use mathlib.Core.Bool.{true, _&&_};
+ghost use Rattle.calculus.specs.Formula.{usable as usableM};
+ghost use Rattle.card.specs.Format.{nodeCount};
+ghost use Rattle.card.specs.Fault.{Sound, clausePart};
+ghost use Rattle.card.specs.Decode.{clauseOf, scopeOf};
+ghost use Rattle.choice.specs.Inner.Choice.{atHandBy, openTo, takableBy, Testing, Seeks, FirstEntry, keepsBy, openBy, gives};
 
 // The least usable entry.
 pub enum Sought {
@@ -29,6 +34,19 @@ pub fn at_hand(rules: usize, e: usize, b: Branch) -> bool
     lax.has(e - rules)
 }
 
+// It is so, and the lines that it waits for are seen.
+fn open(card: &[u8], waits: &[u64; 64], b: Branch, e: usize) -> bool
+    requires { ⌜ Sound (now card) × (length (now waits) ≡ 64) ⌝ }
+    ensures { λ r. ⌜ r ≡ openTo (now (card .entry)) (now (waits .entry)) b e ⌝ }
+{
+    let rules = byte(card, 3);
+    let hand = at_hand(rules, e, b);
+    if !hand {
+        return false;
+    }
+    entries::ready(rules, byte(card, 4), waits, b.seen, e)
+}
+
 // The entry can be used for the name.
 pub fn usable(
     card: &[u8],
@@ -45,15 +63,34 @@ pub fn usable(
         return false;
     }
     let head = heads[e] as usize;
+    if 1000 < head {
+        return on_menu(card, waits, b, name, head - 1001, e);
+    }
     if head != name {
         return false;
     }
-    let rules = byte(card, 3);
-    let hand = at_hand(rules, e, b);
-    if !hand {
+    open(card, waits, b, e)
+}
+
+// The same where the heads of the entry are those of a menu.
+fn on_menu(
+    card: &[u8],
+    waits: &[u64; 64],
+    b: Branch,
+    name: usize,
+    menu: usize,
+    e: usize,
+) -> bool
+    requires { ⌜ Sound (now card) × (length (now waits) ≡ 64) ⌝ }
+    requires { ⌜ clausePart (now card) (nodeCount (now card)) menu ≡ true ⌝ }
+    ensures { λ r. ⌜ (let bs = now (card .entry) in
+        r ≡ (usableM (scopeOf bs .fits) name (clauseOf bs menu) && openTo bs (now (waits .entry)) b e)) ⌝ }
+{
+    let fits = scope::usable(card, menu, name);
+    if !fits {
         return false;
     }
-    entries::ready(rules, byte(card, 4), waits, b.seen, e)
+    open(card, waits, b, e)
 }
 
 // The least usable entry from the given one on.

@@ -33,7 +33,7 @@ use Rattle.branch.specs.Inner.Values.{closedA, pastF}
 use Rattle.segment.specs.Inner.Tasks.{agendaOf, Laid, Unwound, Opened, OpenTask, itemsAt}
 use Rattle.segment.proofs.TasksAreAgendas.{laid-short}
 use Rattle.choice.specs.Inner.Choice.{givenAt, fromAt}
-use Rattle.engine.specs.Inner.Engine.{placeOf, Ready, NameNext, PartNext, topNode, Solves, Told, Searches}
+use Rattle.engine.specs.Inner.Engine.{placeOf, Ready, NameNext, PartNext, OpenNext, topNode, Solves, Told, Searches}
 use Rattle.engine.proofs.NumbersFall.{number}
 
 -- The next task of an agenda that is not empty
@@ -55,9 +55,13 @@ module _ {bs codes : List ℕ} {b : Branch} (l : Laid bs codes (b .len) (b .coun
   pub name-next : k ≡ 1 → NameNext bs codes b
   name-next e = record { laid = l; some = omega arith; kind = sym kind ∙ e }
 
+  -- or ⊕ or 0
+  pub open-next : 7 < k → OpenNext bs codes b
+  open-next h = record { laid = l; some = omega arith; kind = omega (arith, kind) }
+
   -- or & or ⊸
-  pub part-next : (k ≡ 1 → ⊥) → PartNext bs codes b
-  part-next n = record { laid = l; some = omega arith; kind = at opened }
+  pub part-next : (k ≡ 1 → ⊥) → k ≤ 7 → PartNext bs codes b
+  part-next n h = record { laid = l; some = omega arith; kind = at opened; no-choice = omega (arith, kind) }
     where
       at : (b .len ≡ 0) ⊎ OpenTask bs codes b → 4 < kindAt bs (topNode codes b)
       at (inl e) = absurd (omega arith)

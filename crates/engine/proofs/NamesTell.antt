@@ -10,14 +10,14 @@ use lib.ListN.{length, getD, take, set, length-set}
 use lib.Seq.{slice, set-getD}
 use lib.Dec.{leb, ltb, eqb}
 use borrow.Author.Tests.{lt-ltb, le-ltb, eq-eqb, ne-eqb, eqb-true, ltb-true, ltb-false}
-use Rattle.calculus.specs.Formula.{atomᴳ, usable}
+use Rattle.calculus.specs.Formula.{Clause, Fits, atomᴳ, residual, usable}
 use Rattle.calculus.specs.Items.{Items, _∪_, _∖_, only, Within}
-use Rattle.calculus.specs.Derivation.{Scope, size, clauseAt, linearAt}
+use Rattle.calculus.specs.Derivation.{Scope, size, clauseAt, linearAt, residualAt}
 use Rattle.calculus.specs.Inner.Summary.{Bounded}
 use Rattle.calculus.proofs.SetLaws.{∪-cases, ∪-joins, join-left, join-right, ∖-within}
 use Rattle.card.specs.Format.{ruleCount, lineCount, nodeCount, leftAt, byteAt}
 use Rattle.card.specs.Fault.{Sound, clausePart, heightAt}
-use Rattle.card.specs.Decode.{clauseOf}
+use Rattle.card.specs.Decode.{clauseOf, scopeOf}
 use Rattle.card.proofs.CardChecked.{sound-front}
 use Rattle.card.proofs.NodesDecoded.{reads-name}
 use Rattle.card.proofs.SoundNodes.{goal-lower, clause-lower, node-here, name-low, height-low, height-pos}
@@ -25,13 +25,13 @@ use Rattle.lines.specs.Inner.Set.{addS}
 use Rattle.scope.specs.Inner.Sets.{items}
 use Rattle.scope.specs.Inner.Tables.{Kept}
 use Rattle.scope.proofs.TablesAreScopes.{kept-self, kept-trans, kept-again, kept-set}
-use Rattle.entries.specs.Inner.Entries.{scopeIn}
+use Rattle.entries.specs.Inner.Entries.{scopeIn, codeFits}
 use Rattle.entries.specs.Inner.Twins.{eligible}
 use Rattle.entries.specs.Inner.Masks.{Seen, readyBy}
-use Rattle.entries.proofs.TablesAreScopes.{scope-len, scope-clause, scope-linear, scope-usable, scope-past, scope-kept, entered-kept}
+use Rattle.entries.proofs.TablesAreScopes.{scope-len, scope-fits, scope-clause, scope-linear, scope-usable, scope-past, scope-kept, entered-kept}
 use Rattle.entries.proofs.MasksAreTwins.{ready-eligible, seen-rule, seen-item, seen-lent}
 use Rattle.entries.proofs.TestLaws.{and-true}
-use Rattle.agenda.specs.Inner.Agenda.{Agenda, task, Reads, pushed}
+use Rattle.agenda.specs.Inner.Agenda.{Agenda, task, Reads}
 use Rattle.agenda.specs.Inner.Order.{Floor as FloorOf, ends, above, opens, Next, next-here, next-same, next-above, next-open}
 use Rattle.agenda.specs.Inner.Sought.{Place, floored, pastUse, spent, spending, Sought, None, Least, Trying}
 use Rattle.agenda.proofs.AgendasRead.{reads-use}
@@ -44,14 +44,14 @@ use Rattle.branch.specs.declared.Way.{Way}
 use Rattle.branch.specs.declared.Floor.{Floor}
 use Rattle.branch.specs.Inner.Values.{Answer, Solved, Stuck, Tired}
 use Rattle.branch.specs.Inner.Values.{usingB, pastF, followingW, answerIn}
-use Rattle.segment.specs.Inner.Tasks.{taskOf, agendaOf, Laid, Pushing}
+use Rattle.segment.specs.Inner.Tasks.{taskOf, agendaOf, Laid}
 use Rattle.segment.proofs.TasksAreAgendas.{agenda-next, nest-low, laid-less, laid-short}
 use Rattle.choice.specs.declared.Sought.{Sought as Found}
 use Rattle.choice.specs.declared.Sought.the-variants.{At, Nothing}
-use Rattle.choice.specs.Inner.Choice.{atHandBy, takableBy, Testing, SeeksAt, Seeks, givenAt, fromAt}
+use Rattle.choice.specs.Inner.Choice.{atHandBy, openTo, takableBy, Testing, SeeksAt, Seeks, givenAt, fromAt}
 use Rattle.engine.specs.Inner.Engine.{placeOf, Ready, topNode}
 use Rattle.engine.specs.Inner.Engine.{topNest}
-use Rattle.engine.specs.Inner.Engine.{NameNext, NameOpen, CanUse, found, Solves, Told, Searches, Solving, Using}
+use Rattle.engine.specs.Inner.Engine.{NameNext, NameOpen, CanUse, PartGood, PartReady, partGoal, found, Solves, Told, Searches, Solving, Entering, Using}
 use Rattle.choice.specs.Inner.Choice.{FirstEntry, firstAt, keepsBy, openBy, gives}
 use Rattle.dead.specs.Inner.Barren.{BarrenIn}
 use Rattle.dead.proofs.DeadStaysDead.{none-barren}
@@ -59,7 +59,7 @@ use Rattle.prune.specs.Inner.Prune.{Rooted, Asks, Doom}
 use Rattle.engine.proofs.PlacesMove.{openF, ready-moved, next-from, from-low}
 use Rattle.engine.proofs.PlacesMove.{run-cons, run-length, written, given-past, from-here, from-past, floor-gone, open-floor}
 use Rattle.engine.proofs.PlacesMove.{given-step, floor-place, spending-items, spent-items, use-place}
-use Rattle.engine.proofs.NumbersFall.{number, step-falls}
+use Rattle.engine.proofs.NumbersFall.{number, most, step-most}
 
 -- Tests and sets
 
@@ -133,7 +133,7 @@ pub record AlikePast (f g : Floor) (b : Branch) (t : List ℕ) : Type 0 where
 alike-self : (f : Floor) (b : Branch) (t : List ℕ) → AlikePast f f b t
 alike-self f b t = record { alike = λ kept z h. (refl, refl) }
 
-next-past : {l F F₁ F₂ : List ℕ} {f f₁ f₂ : ℕ} → (F₁ ≡ F₂) × (f₁ ≡ f₂) → Next l F f F₁ f₁ → Next l F f F₂ f₂
+pub next-past : {l F F₁ F₂ : List ℕ} {f f₁ f₂ : ℕ} → (F₁ ≡ F₂) × (f₁ ≡ f₂) → Next l F f F₁ f₁ → Next l F f F₂ f₂
 next-past e n = rw (← e .0, ← e .1) n
 
 -- What is told at a place is told at the same place on another tape.
@@ -157,7 +157,7 @@ told-same bs es A f g b t t₀ t′ Tired p q s T = T
 
 -- Searches from tables and a tape that agree with others up to the branch
 
-kept-scope : (bs : List ℕ) {nodes nodes′ : List ℕ} {n : ℕ} → Kept n nodes nodes′ → scopeIn bs nodes′ n ≡ scopeIn bs nodes n
+pub kept-scope : (bs : List ℕ) {nodes nodes′ : List ℕ} {n : ℕ} → Kept n nodes nodes′ → scopeIn bs nodes′ n ≡ scopeIn bs nodes n
 kept-scope bs {nodes} {nodes′} {n} k = scope-kept bs nodes′ nodes n (k .same)
 
 module _ {bs : List ℕ} {A : Agenda} {f g : Floor} {b : Branch} {t₀ t t′ nodes₀ nodes nodes′ heads₀ heads heads′ : List ℕ} {r : Answer}
@@ -223,6 +223,7 @@ module _ {bs waits tape nodes heads : List ℕ} {f : Floor} {b : Branch} (R : Re
     head-room = R .entered .head-room;
     few = let p = sound-front bs (R .sound) .rules in let k = R .few in omega arith;
     heads-low = λ e h. R .entered .headed e h .small;
+    menus = λ e h. R .entered .headed e h .menu;
   }
 
   module _ {codes : List ℕ} (N : NameNext bs codes b) where
@@ -267,7 +268,7 @@ module _ {bs waits tape nodes heads : List ℕ} {f : Floor} {b : Branch} (R : Re
 
     module _ (e : ℕ) where
       module _ (h : e < b .count) where
-        fits-test : eqb (getD heads e 0) a ≡ usable (es .fits) a (clauseAt es e)
+        fits-test : codeFits bs (getD heads e 0) a ≡ usable (es .fits) a (clauseAt es e)
         fits-test = R .entered .headed e h .tells a (name-low (R .sound) (topNode codes b) top-node (N .kind))
             ∙ sym (scope-usable bs nodes (b .count) e h a)
 
@@ -284,22 +285,22 @@ module _ {bs waits tape nodes heads : List ℕ} {f : Floor} {b : Branch} (R : Re
         -- an entry that can be used
         pub taken : takableBy bs waits heads b a e ≡ true → (usable (es .fits) a (clauseAt es e) ≡ true)
             × ((not (linearAt es e) || (place .strict ∪ place .lax) e) ≡ true) × (eligible bs (place .done) e ≡ true)
-        unfolding takableBy
+        unfolding takableBy openTo
         taken t =
             let x = and-true (ltb e (b .count)) _ t .1 in
-            let y = and-true (eqb (getD heads e 0) a) _ x in
+            let y = and-true (codeFits bs (getD heads e 0) a) _ x in
             let z = and-true (atHandBy (ruleCount bs) e b) _ (y .1) in
             (sym fits-test ∙ y .0, sym hand-test ∙ z .0, sym ready-test ∙ z .1)
 
       -- one that cannot is passed over
       pub untaken : takableBy bs waits heads b a e ≡ false → Tries bs codes tape nodes f b e → Tries bs codes tape nodes f b (suc e)
-      unfolding takableBy usable
+      unfolding takableBy openTo usable
       untaken u t = by-cases (decLt e (b .count))
           (λ h. ⊎-elim (λ x. absurd (true≢false (sym (lt-ltb e (b .count) h) ∙ x)))
           (λ x. ⊎-elim (λ y. record { tried = trying-unfit (eligible bs) (t .tried) (sym (fits-test h) ∙ y) })
           (λ y. ⊎-elim (λ z. record { tried = trying-gone (eligible bs) (t .tried) (sym (hand-test h) ∙ z) })
           (λ z. record { tried = trying-ineligible (eligible bs) (t .tried) (sym (ready-test h) ∙ z) })
-          (and-false (atHandBy (ruleCount bs) e b) _ y)) (and-false (eqb (getD heads e 0) a) _ x)) (and-false (ltb e (b .count)) _ u))
+          (and-false (atHandBy (ruleCount bs) e b) _ y)) (and-false (codeFits bs (getD heads e 0) a) _ x)) (and-false (ltb e (b .count)) _ u))
           (λ h. record {
             tried = trying-unfit (eligible bs) (t .tried)
                 (ap (usable (es .fits) a) (scope-past bs nodes (b .count) e (omega arith)));
@@ -356,21 +357,18 @@ module _ {bs waits tape nodes heads : List ℕ} {f : Floor} {b : Branch} (R : Re
       linear-test : linearAt es e ≡ leb (ruleCount bs) e
       linear-test = scope-linear bs nodes (b .count) e (U .inside)
 
-      -- what putting the clause's conditions behind the rest asks
-      pub push-room : (c m : ℕ) → c ≡ getD nodes e 0 → m ≡ n - 1 → (clausePart bs (nodeCount bs) c ≡ true) × ((m < 32)
-          × (b .len - 1 + heightAt bs c ≤ 105)) × (b .len - 1 + heightAt bs c + 6 * m ≤ 105)
-          × (b .count + heightAt bs c + 6 * m ≤ ruleCount bs + 169)
-      push-room c m ec em = rw (ec, em) (
+      entry-usable : usable (scopeOf bs .fits) a (clauseOf bs (getD nodes e 0)) ≡ true
+      entry-usable = sym (scope-usable bs nodes (b .count) e (U .inside) a) ∙ taken e (U .inside) (U .takable) .0
+
+      -- what is left of the clause goes before the rest, with room for it
+      part-good : PartGood bs true (getD nodes e 0) (n - 1) (usingB b (ruleCount bs) (lineCount bs) e (b .len - 1))
+      unfolding PartGood usingB
+      part-good =
           let fit = N .laid .fits (b .len - 1) (let s = N .some in omega arith) in
           let h = height-pos bs (topNode codes b) in
           let l = clause-height in
-          let d = U .step .deep in (
-            entry-clause,
-            (let k = nest-low (getD codes (b .len - 1) 0) in omega arith, omega (arith, fit .stacked, h, l, d)),
-            omega (arith, fit .stacked, h, l, d),
-            omega (arith, fit .deep, h, l, d),
-          )
-          )
+          let d = U .step .deep in
+          (entry-clause, omega (arith, fit .stacked, h, l, d), omega (arith, fit .deep, h, l, d))
 
       -- the branch past the use
       module _ (len : ℕ) where
@@ -430,37 +428,36 @@ module _ {bs waits tape nodes heads : List ℕ} {f : Floor} {b : Branch} (R : Re
                 → (items (ruleCount bs) (b .strict) ∪ items (ruleCount bs) (b .lax)) i ≡ true
             right i h = join-right (∪-joins (items (ruleCount bs) (b .strict)) (items (ruleCount bs) (b .lax))) .kept i h
 
-      -- the conditions put behind the rest: the agenda past the use
-      module _ (c m len : ℕ) (ec : c ≡ getD nodes e 0) (em : m ≡ n - 1) {codes′ : List ℕ} (P : Pushing bs codes codes′ (b .len - 1) c m len)
-        where
-          pub laid-next : Laid bs codes′ len (b .count)
-          laid-next = let q = push-room c m ec em in P .laid (b .count) (laid-less (N .laid)) (q .2) (q .3)
+      -- what is left of the clause is entered with the branch past the use, by the counts that the code reads of the card
+      module _ (c m name len p q : ℕ) (ec : c ≡ getD nodes e 0) (em : m ≡ n - 1) (ea : name ≡ a) (el : len ≡ b .len - 1) (ep : p ≡ ruleCount bs)
+          (eq : q ≡ lineCount bs) (b₂ : Branch) (eb : b₂ ≡ usingB b p q e len) where
+        is-next : b₂ ≡ next (b .len - 1)
+        is-next = eb ∙ ap₂ (λ x y. usingB b x y e len) ep eq ∙ ap (λ k. usingB b (ruleCount bs) (lineCount bs) e k) el
 
-          -- the branch by the counts that the code reads of the card
-          module _ (p q : ℕ) (ep : p ≡ ruleCount bs) (eq : q ≡ lineCount bs) (b₂ : Branch) (eb : b₂ ≡ usingB b p q e len) where
-            is-next : b₂ ≡ next len
-            is-next = eb ∙ ap₂ (λ x y. usingB b x y e len) ep eq
+        pub use-call : (t : ℕ) → 8 * number bs codes b + 1 ≡ t
+            → (8 * most b₂ + 3 < t) × (Ready bs waits (set tape (b .at) e) nodes heads f b₂ × PartReady bs codes true c name m b₂)
+        unfolding usingB
+        use-call t et = rw is-next (rw (ec, em, ea) (
+          let k = step-most bs codes b (next (b .len - 1)) (R .sound) (N .laid) (N .some) refl refl (U .step .room) in omega arith,
+          (
+            ready-next (b .len - 1),
+            record {
+              laid = laid-less (N .laid);
+              nested = let k = nest-low (getD codes (b .len - 1) 0) in omega arith;
+              good = part-good;
+              fitting = λ h. entry-usable;
+            },
+          ),
+        ))
 
-            pub use-call : (t : ℕ) → 8 * number bs codes b + 1 ≡ t
-                → (8 * number bs codes′ b₂ + 7 < t)
-                × (Ready bs waits (set tape (b .at) e) nodes heads f b₂ × Laid bs codes′ (b₂ .len) (b₂ .count))
-            unfolding usingB
-            use-call t et = rw is-next (
-              let k = step-falls bs codes codes′ b (next len) (R .sound) laid-next refl refl (U .step .room) in omega arith,
-              (ready-next len, laid-next),
-            )
-
-            pub use-told : {tape′ nodes′ heads′ : List ℕ} {r : Answer}
-                → Solving bs codes′ f b₂ (set tape (b .at) e) tape′ nodes nodes′ heads heads′ r
-                → Using bs codes e f b tape tape′ nodes nodes′ heads heads′ r
-            unfolding usingB
-            use-told {tape′} {nodes′} {heads′} {r} S = record {
-              len = len;
-              searched = subst (λ A. Searches bs A f (next len) (set tape (b .at) e) tape′ nodes nodes′ heads heads′ r)
-                  (P .tasks ∙ ap₂ (λ x y. pushed x (clauseOf bs y) rest) em ec)
-                  (subst (λ d. Searches bs (agendaOf bs codes′ (d .len)) f d (set tape (b .at) e) tape′ nodes nodes′ heads heads′ r)
-                  is-next S);
-            }
+        pub use-told : {tape′ nodes′ heads′ : List ℕ} {r : Answer}
+            → Entering bs codes true c name m f b₂ (set tape (b .at) e) tape′ nodes nodes′ heads heads′ r
+            → Using bs codes e f b tape tape′ nodes nodes′ heads heads′ r
+        unfolding usingB
+        use-told {tape′} {nodes′} {heads′} {r} S = record {
+          searched = subst (λ d. Searches bs (task (partGoal bs true a (getD nodes e 0)) (n - 1) ∷ agendaOf bs codes (d .len)) f d
+              (set tape (b .at) e) tape′ nodes nodes′ heads heads′ r) is-next (rw (ec, em, ea) at S);
+        }
 
     -- a name with nesting left
     deeper : 1 ≤ n → suc (n - 1) ≡ n
@@ -486,10 +483,11 @@ module _ {bs waits tape nodes heads : List ℕ} {f : Floor} {b : Branch} (R : Re
         unfolding usingB
         use-heads = X .searched .head-kept
 
-        tells : Told bs es (pushed (n - 1) (clauseAt es e) rest) g (next U (X .len)) (set tape (b .at) e) tape′ r
-        unfolding usingB
-        tells = subst (λ D. Told bs es (pushed (n - 1) D rest) g (next U (X .len)) (set tape (b .at) e) tape′ r)
-            (sym (scope-clause bs nodes (b .count) e (U .inside))) (X .searched .told)
+        tells : Told bs es (task (residualAt es a e) (n - 1) ∷ rest) g (next U (b .len - 1)) (set tape (b .at) e) tape′ r
+        unfolding usingB partGoal residualAt
+        tells = subst (λ G. Told bs es (task G (n - 1) ∷ rest) g (next U (b .len - 1)) (set tape (b .at) e) tape′ r)
+            (sym (ap₂ (λ (t : Fits) (D : Clause). residual t a D) (scope-fits bs nodes (b .count)) (scope-clause bs nodes (b .count) e (U .inside))))
+            (X .searched .told)
 
       module _ (on : PastStep f g b tape e) (t : Tries bs codes tape nodes f b e) where
         -- past the use nothing is found: the next entry
@@ -498,12 +496,12 @@ module _ {bs waits tape nodes heads : List ℕ} {f : Floor} {b : Branch} (R : Re
         use-stuck X = record {
           tried = subst (λ k. Trying (eligible bs) es a k rest place (suc e)) (deeper (U .step .deep))
               (trying-next (eligible bs) (deep-name (U .step .deep) t) on
-              (subst (λ z. None (eligible bs) es (pushed (n - 1) (clauseAt es e) rest) z) (one-more U (X .len) g) (tells X)));
+              (subst (λ z. None (eligible bs) es (task (residualAt es a e) (n - 1) ∷ rest) z) (one-more U (b .len - 1) g) (tells X)));
         }
 
         -- a way past the use: the way for the name
         module _ {w : Way} (X : Using bs codes e g b tape tape′ nodes nodes′ heads heads′ (Solved w)) where
-          way : Solves bs es (pushed (n - 1) (clauseAt es e) rest) g (next U (X .len)) (set tape (b .at) e) tape′ w
+          way : Solves bs es (task (residualAt es a e) (n - 1) ∷ rest) g (next U (b .len - 1)) (set tape (b .at) e) tape′ w
           unfolding Told
           way = tells X
 
@@ -540,10 +538,10 @@ module _ {bs waits tape nodes heads : List ℕ} {f : Floor} {b : Branch} (R : Re
               let left : 1 ≤ b .limit - b .at = let r = U .step .room in omega arith in
               trying-found (eligible bs) (deep-name (U .step .deep) t) (s .0) (s .1) (s .2) left
               on
-              (subst (λ z. Least (eligible bs) es (pushed (n - 1) (clauseAt es e) rest) z (slice (b .at + 1) (w .at) tape′)
-              (way .items-used) (way .slack-left)) (one-more U (X .len) g) (way .least))
+              (subst (λ z. Least (eligible bs) es (task (residualAt es a e) (n - 1) ∷ rest) z (slice (b .at + 1) (w .at) tape′)
+              (way .items-used) (way .slack-left)) (one-more U (b .len - 1) g) (way .least))
 
-          pub use-found : AlikePast f g (next U (X .len)) tape′ → Solving bs codes f b tape tape′ nodes nodes′ heads heads′ (Solved w)
+          pub use-found : AlikePast f g (next U (b .len - 1)) tape′ → Solving bs codes f b tape tape′ nodes nodes′ heads heads′ (Solved w)
           unfolding Told usingB
           use-found alike = record {
             told = record {
@@ -710,7 +708,7 @@ module _ {bs waits codes : List ℕ} {first : ℕ} {b : Branch} {tape₀ tape no
         turn-found w eq = rw eq (
             let Y : Using bs codes e noF b tape tape′ nodes nodes′ heads heads′ (Solved w) = rw eq at used-free in
             turn-told (use-found (T .ready) (N .next) turn-use noF on tries-here Y
-            (free-alike (openF b first) (usingB b (ruleCount bs) (lineCount bs) e (Y .len)) tape′ (omega arith))))
+            (free-alike (openF b first) (usingB b (ruleCount bs) (lineCount bs) e (b .len - 1)) tape′ (omega arith))))
 
 -- The entries above a given step: a list found does not keep to the given steps
 
@@ -949,7 +947,7 @@ round-start {tape} {f} {b} {first} R e from ef = by-cases (decLt (b .at) (f .fix
     e .is ∙ ap (λ c. cond c (byteAt tape (b .at)) (fromAt f (b .at))) (le-ltb (b .at) (f .fixed) (omega arith)) in
     open-round (omega arith) q (turn-start (ready-open R first q) from ef))
 
-keeps-not : (f : Floor) (a first e : ℕ) → (f .fixed ≤ a) ⊎ (first < e) → keepsBy f a first e ≡ false
+pub keeps-not : (f : Floor) (a first e : ℕ) → (f .fixed ≤ a) ⊎ (first < e) → keepsBy f a first e ≡ false
 unfolding keepsBy
 keeps-not f a first e (inl h) = ap (λ c. cond c (eqb e first) false) (le-ltb a (f .fixed) h)
 keeps-not f a first e (inr h) =
@@ -959,7 +957,7 @@ keeps-not f a first e (inr h) =
     both-off true = refl
     both-off false = refl
 
-keeps-so : (f : Floor) (a first e : ℕ) → a < f .fixed → e ≡ first → keepsBy f a first e ≡ true
+pub keeps-so : (f : Floor) (a first e : ℕ) → a < f .fixed → e ≡ first → keepsBy f a first e ≡ true
 unfolding keepsBy
 keeps-so f a first e h q =
     ap (λ c. cond c (eqb e first) false) (lt-ltb a (f .fixed) h) ∙ eq-eqb e first q

@@ -62,6 +62,7 @@ module _ {bs codes : List ℕ} {b : Branch} (q : PartNext bs codes b) where
       record {
         goal-node = f .goal-node;
         kind = q .kind;
+        no-choice = q .no-choice;
         nested = nest-low (getD codes (b .len - 1) 0);
         stacked = let s = f .stacked in omega arith;
         deep = f .deep;
@@ -103,10 +104,10 @@ searched-past {bs} {tape} {tape′} {nodes} {nodes′} {heads} {heads′} {A} {c
 
 -- the same goal, in a branch with as many entries
 pub goal-own : {bs : List ℕ} {goal n : ℕ} {b : Branch} → GoalReady bs goal n b → GoalReady bs goal n (ownB b)
-goal-own g = record { goal-node = g .goal-node; kind = g .kind; nested = g .nested; stacked = g .stacked; deep = g .deep }
+goal-own g = record { goal-node = g .goal-node; kind = g .kind; no-choice = g .no-choice; nested = g .nested; stacked = g .stacked; deep = g .deep }
 
 pub goal-lead : {bs : List ℕ} {goal n : ℕ} {b : Branch} → GoalReady bs goal n b → GoalReady bs goal n (leadB b)
-goal-lead g = record { goal-node = g .goal-node; kind = g .kind; nested = g .nested; stacked = g .stacked; deep = g .deep }
+goal-lead g = record { goal-node = g .goal-node; kind = g .kind; no-choice = g .no-choice; nested = g .nested; stacked = g .stacked; deep = g .deep }
 
 -- Numbers fall
 
@@ -176,10 +177,13 @@ module _ {bs : List ℕ} (sd : Sound bs) {goal n : ℕ} {b : Branch} (g : GoalRe
   goal-low = goal-lower bs (nodeCount bs) goal (g .goal-node)
 
   pub goal-six : (kindAt bs goal ≡ 5 → ⊥) → kindAt bs goal ≡ 6
-  goal-six h = let k = goal-kind bs (nodeCount bs) goal (g .goal-node) in omega (arith, k .1, g .kind, h)
+  goal-six h =
+      ⊎-elim (λ k. omega (arith, k, g .kind, h))
+      (⊎-elim (λ k. absurd (omega (arith, k, g .no-choice))) (λ k. absurd (omega (arith, k, g .no-choice))))
+      (goal-kind bs (nodeCount bs) goal (g .goal-node) .1)
 
   heights : (heightAt bs (leftAt bs goal) < heightAt bs goal) × (heightAt bs (rightAt bs goal) < heightAt bs goal)
-  heights = height-parts sd goal goal-low (omega (arith, g .kind))
+  heights = height-parts sd goal goal-low (omega (arith, g .kind)) (λ e. omega (arith, e, g .no-choice))
 
   -- a part put on an agenda of its own
   module _ (codes : List ℕ) (room : length codes ≡ 104) where

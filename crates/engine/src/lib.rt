@@ -1,6 +1,6 @@
 // The engine: what a segment still has to do is an agenda, handed on by value. A name goes on at once with the conditions of the entry that
-// serves it before the rest; & and ⊸ are segments of their own, raised in place where the rest finds nothing behind them. Nothing is ever
-// given back: each try goes on with a branch and an agenda of its own.
+// serves it before the rest, ⊕ with the side taken; & and ⊸ are segments of their own, raised in place where the rest finds nothing behind
+// them. Nothing is ever given back: each try goes on with a branch and an agenda of its own.
 use branch::Branch;
 use branch::Floor;
 use branch::Outcome;
@@ -17,21 +17,24 @@ use choice::given_up;
 use choice::keeps;
 use choice::seek;
 use choice::unfloored;
-use moves::conditions;
+use moves::inner;
 use moves::left_alone;
 use moves::lent_item;
 use moves::raise;
 use moves::right_alone;
+use moves::shut;
 use segment::tasks::nest;
 use segment::tasks::node;
+use segment::tasks::push;
+use segment::tasks::put;
 use segment::tasks::unwind;
 ghost use mathlib.Core.Path.{_≡_};
-ghost use Rattle.card.specs.Format.{kindAt};
+ghost use Rattle.card.specs.Format.{kindAt, leftAt};
 ghost use Rattle.segment.specs.Inner.Tasks.{Laid};
 ghost use Rattle.branch.specs.Inner.Values.{answerIn};
 ghost use Rattle.choice.specs.Inner.Choice.{FirstEntry};
 ghost use Rattle.engine.specs.Inner.Engine.{Ready, NameNext, NameOpen, CanUse, PartNext, GoalReady, Fresh, Solving, Alone, Using};
-ghost use Rattle.engine.specs.Inner.Engine.{Equipped, Stays};
+ghost use Rattle.engine.specs.Inner.Engine.{topNode, OpenNext, PartReady, ChoiceReady, Choosing, Entering, Siding, Equipped, Stays};
 
 // The agenda in the branch, its lists not below the floor.
 pub fn solve(
@@ -65,6 +68,24 @@ pub fn solve(
         return c.closed(way);
     }
     let k = kind(card, node(agenda, c.len - 1));
+    if 7 < k {
+        return open(
+            card,
+            waits,
+            tape,
+            nodes,
+            heads,
+            way,
+            names,
+            table,
+            masks,
+            codes,
+            words,
+            agenda,
+            f,
+            c,
+        );
+    }
     if k == 1 {
         return need(
             card,
@@ -217,6 +238,7 @@ fn others(
             codes,
             words,
             agenda,
+            name,
             e,
             f.past(same),
             b,
@@ -234,7 +256,62 @@ fn others(
     }
 }
 
-// The use of an entry: its conditions, with one nesting less, before the rest.
+// The next task is ⊕ or 0.
+fn open(
+    card: &[u8],
+    waits: &[u64; 64],
+    tape: &mut [u8; 255],
+    nodes: &mut [u16; 256],
+    heads: &mut [u16; 256],
+    way: &mut [u64; 9],
+    names: &[u16],
+    table: &[u8],
+    masks: &[u64],
+    codes: &mut [u16],
+    words: &mut [u64],
+    agenda: &[u16; 104],
+    f: Floor,
+    b: Branch,
+) -> Outcome
+    requires { ⌜ Ready (now card) (now waits) (now tape) (now nodes) (now heads) f b ⌝ }
+    requires { ⌜ OpenNext (now card) (now agenda) b ⌝ }
+    requires { ⌜ Equipped (now card) (now names) (now table) (now masks) (now codes) (now words) (now way)
+        (now nodes) (b .count) ⌝ }
+    ensures { λ r. ⌜ Solving (now (card .entry)) (now (agenda .entry)) f b (now (tape .entry)) (now (tape .exit))
+        (now (nodes .entry)) (now (nodes .exit)) (now (heads .entry)) (now (heads .exit))
+        (answerIn r (now (way .exit))) ⌝ }
+    ensures { λ r. ⌜ Stays (now (card .entry)) (now (names .entry)) (now (table .entry)) (now (masks .entry))
+        (now (codes .entry)) (now (words .entry)) (now (codes .exit)) (now (words .exit)) (now (way .exit)) r ⌝ }
+{
+    let top = b.len - 1;
+    let goal = node(agenda, top);
+    let n = nest(agenda, top);
+    if kind(card, goal) == 9 {
+        return Outcome::Stuck;
+    }
+    choose(
+        card,
+        waits,
+        tape,
+        nodes,
+        heads,
+        way,
+        names,
+        table,
+        masks,
+        codes,
+        words,
+        agenda,
+        false,
+        goal,
+        0,
+        n,
+        f,
+        b.dropped(),
+    )
+}
+
+// The use of an entry: what is left of its clause, with one nesting less, before the rest.
 fn use_clause(
     card: &[u8],
     waits: &[u64; 64],
@@ -248,12 +325,14 @@ fn use_clause(
     codes: &mut [u16],
     words: &mut [u64],
     agenda: &[u16; 104],
+    name: usize,
     e: usize,
     f: Floor,
     b: Branch,
 ) -> Outcome
     requires { ⌜ Ready (now card) (now waits) (now tape) (now nodes) (now heads) f b ⌝ }
-    requires { ⌜ CanUse (now card) (now waits) (now heads) (now agenda) b e ⌝ }
+    requires { ⌜ CanUse (now card) (now waits) (now heads) (now agenda) b e
+        × (name ≡ leftAt (now card) (topNode (now agenda) b)) ⌝ }
     requires { ⌜ Equipped (now card) (now names) (now table) (now masks) (now codes) (now words) (now way)
         (now nodes) (b .count) ⌝ }
     ensures { λ r. ⌜ Using (now (card .entry)) (now (agenda .entry)) e f b (now (tape .entry)) (now (tape .exit))
@@ -266,10 +345,10 @@ fn use_clause(
     tape[at] = e as u8;
     let top = b.len - 1;
     let clause = nodes[e] as usize;
+    let n = inner(agenda, top);
     let mut rest = *agenda;
-    let len = conditions(card, &mut rest, top, clause);
-    let c = b.using(byte(card, 3), byte(card, 4), e, len);
-    solve(
+    let c = b.using(byte(card, 3), byte(card, 4), e, top);
+    enter(
         card,
         waits,
         tape,
@@ -282,9 +361,260 @@ fn use_clause(
         codes,
         words,
         &mut rest,
+        true,
+        clause,
+        name,
+        n,
         f,
         c,
     )
+}
+
+// A part before the tasks of the agenda: a goal, or what is left of a clause that is used for the name.
+fn enter(
+    card: &[u8],
+    waits: &[u64; 64],
+    tape: &mut [u8; 255],
+    nodes: &mut [u16; 256],
+    heads: &mut [u16; 256],
+    way: &mut [u64; 9],
+    names: &[u16],
+    table: &[u8],
+    masks: &[u64],
+    codes: &mut [u16],
+    words: &mut [u64],
+    agenda: &mut [u16; 104],
+    meets: bool,
+    part: usize,
+    name: usize,
+    n: usize,
+    f: Floor,
+    b: Branch,
+) -> Outcome
+    requires { ⌜ Ready (now card) (now waits) (now tape) (now nodes) (now heads) f b ⌝ }
+    requires { ⌜ PartReady (now card) (now agenda) meets part name n b ⌝ }
+    requires { ⌜ Equipped (now card) (now names) (now table) (now masks) (now codes) (now words) (now way)
+        (now nodes) (b .count) ⌝ }
+    ensures { λ r. ⌜ Entering (now (card .entry)) (now (agenda .entry)) meets part name n f b (now (tape .entry))
+        (now (tape .exit)) (now (nodes .entry)) (now (nodes .exit)) (now (heads .entry)) (now (heads .exit))
+        (answerIn r (now (way .exit))) ⌝ }
+    ensures { λ r. ⌜ Stays (now (card .entry)) (now (names .entry)) (now (table .entry)) (now (masks .entry))
+        (now (codes .entry)) (now (words .entry)) (now (codes .exit)) (now (words .exit)) (now (way .exit)) r ⌝ }
+{
+    if !meets {
+        put(agenda, b.len, part, n);
+        return solve(
+            card,
+            waits,
+            tape,
+            nodes,
+            heads,
+            way,
+            names,
+            table,
+            masks,
+            codes,
+            words,
+            agenda,
+            f,
+            b.longer(),
+        );
+    }
+    let p = push(card, agenda, b.len, part, n);
+    let c = b.sized(p.len);
+    if kind(card, p.core) == 10 {
+        return choose(
+            card,
+            waits,
+            tape,
+            nodes,
+            heads,
+            way,
+            names,
+            table,
+            masks,
+            codes,
+            words,
+            agenda,
+            true,
+            p.core,
+            name,
+            n,
+            f,
+            c,
+        );
+    }
+    solve(
+        card,
+        waits,
+        tape,
+        nodes,
+        heads,
+        way,
+        names,
+        table,
+        masks,
+        codes,
+        words,
+        agenda,
+        f,
+        c,
+    )
+}
+
+// ⊕, or a menu that is used for the name, before the tasks of the agenda: its left side; where that finds nothing, its right side.
+fn choose(
+    card: &[u8],
+    waits: &[u64; 64],
+    tape: &mut [u8; 255],
+    nodes: &mut [u16; 256],
+    heads: &mut [u16; 256],
+    way: &mut [u64; 9],
+    names: &[u16],
+    table: &[u8],
+    masks: &[u64],
+    codes: &mut [u16],
+    words: &mut [u64],
+    agenda: &[u16; 104],
+    meets: bool,
+    node: usize,
+    name: usize,
+    n: usize,
+    f: Floor,
+    b: Branch,
+) -> Outcome
+    requires { ⌜ Ready (now card) (now waits) (now tape) (now nodes) (now heads) f b ⌝ }
+    requires { ⌜ ChoiceReady (now card) (now agenda) meets node name n b ⌝ }
+    requires { ⌜ Equipped (now card) (now names) (now table) (now masks) (now codes) (now words) (now way)
+        (now nodes) (b .count) ⌝ }
+    ensures { λ r. ⌜ Entering (now (card .entry)) (now (agenda .entry)) meets node name n f b (now (tape .entry))
+        (now (tape .exit)) (now (nodes .entry)) (now (nodes .exit)) (now (heads .entry)) (now (heads .exit))
+        (answerIn r (now (way .exit))) ⌝ }
+    ensures { λ r. ⌜ Stays (now (card .entry)) (now (names .entry)) (now (table .entry)) (now (masks .entry))
+        (now (codes .entry)) (now (words .entry)) (now (codes .exit)) (now (words .exit)) (now (way .exit)) r ⌝ }
+{
+    if b.limit <= b.at {
+        return Outcome::Stuck;
+    }
+    let first = first_at(tape, f, b.at);
+    let r = side(
+        card,
+        waits,
+        tape,
+        nodes,
+        heads,
+        way,
+        names,
+        table,
+        masks,
+        codes,
+        words,
+        agenda,
+        meets,
+        node,
+        name,
+        n,
+        254,
+        first,
+        f,
+        b,
+    );
+    let Outcome::Stuck = r else {
+        return r;
+    };
+    side(
+        card,
+        waits,
+        tape,
+        nodes,
+        heads,
+        way,
+        names,
+        table,
+        masks,
+        codes,
+        words,
+        agenda,
+        meets,
+        node,
+        name,
+        n,
+        255,
+        first,
+        f,
+        b,
+    )
+}
+
+// One side, by its choice: none below the given step, and none that is shut.
+fn side(
+    card: &[u8],
+    waits: &[u64; 64],
+    tape: &mut [u8; 255],
+    nodes: &mut [u16; 256],
+    heads: &mut [u16; 256],
+    way: &mut [u64; 9],
+    names: &[u16],
+    table: &[u8],
+    masks: &[u64],
+    codes: &mut [u16],
+    words: &mut [u64],
+    agenda: &[u16; 104],
+    meets: bool,
+    node: usize,
+    name: usize,
+    n: usize,
+    choice: usize,
+    first: usize,
+    f: Floor,
+    b: Branch,
+) -> Outcome
+    requires { ⌜ Ready (now card) (now waits) (now tape) (now nodes) (now heads) f b ⌝ }
+    requires { ⌜ ChoiceReady (now card) (now agenda) meets node name n b × Choosing choice b ⌝ }
+    requires { ⌜ Equipped (now card) (now names) (now table) (now masks) (now codes) (now words) (now way)
+        (now nodes) (b .count) ⌝ }
+    ensures { λ r. ⌜ Siding (now (card .entry)) (now (agenda .entry)) meets node name n choice first f b
+        (now (tape .entry)) (now (tape .exit)) (now (nodes .entry)) (now (nodes .exit)) (now (heads .entry))
+        (now (heads .exit)) (answerIn r (now (way .exit))) ⌝ }
+    ensures { λ r. ⌜ Stays (now (card .entry)) (now (names .entry)) (now (table .entry)) (now (masks .entry))
+        (now (codes .entry)) (now (words .entry)) (now (codes .exit)) (now (words .exit)) (now (way .exit)) r ⌝ }
+{
+    if choice < first {
+        return Outcome::Stuck;
+    }
+    let at = b.at;
+    tape[at] = choice as u8;
+    let part = moves::side(card, node, choice);
+    if shut(card, meets, name, part) {
+        return Outcome::Stuck;
+    }
+    let same = keeps(f, at, first, choice);
+    let mut rest = *agenda;
+    let r = enter(
+        card,
+        waits,
+        tape,
+        nodes,
+        heads,
+        way,
+        names,
+        table,
+        masks,
+        codes,
+        words,
+        &mut rest,
+        meets,
+        part,
+        name,
+        n,
+        f.past(same),
+        b.chose(),
+    );
+    let Outcome::Solved = r else {
+        return r;
+    };
+    follow(way, same);
+    Outcome::Solved
 }
 
 // The next task is & or ⊸, a segment of its own: the rest behind its first list; where that finds nothing, behind its next.

@@ -1,5 +1,5 @@
 -- Swapping two lines of one clause, where the first is must if the second is, and the second is used.
-use Prim.Native.Nat.{ℕ, _+_, _<_}
+use Prim.Native.Nat.{ℕ, _+_, _≤_, _<_}
 use mathlib.Core.Path.{_≡_, sym, ap, _∙_, subst}
 use mathlib.Core.Logic.{_⊎_, inl, inr, ⊎-elim, ⊎-map}
 use mathlib.Core.Bool.{Bool, true, not, _||_, false≢true}
@@ -11,8 +11,8 @@ use borrow.Author.Tests.{eqb-true, ne-eqb}
 use Rattle.calculus.specs.Formula.{Goal, Clause}
 use Rattle.calculus.specs.Items.{Items, _∪_, _∖_, only, Splits, Within}
 use Rattle.calculus.specs.Derivation.{Scope, Entry, size, clauseAt, linearAt, lend, Derives, res-1, res-⊤}
-use Rattle.calculus.specs.Derivation.{res-⊗, res-&, res-⊸, res-atm-int, res-atm-lin}
-use Rattle.calculus.specs.Steps.{steps, stands}
+use Rattle.calculus.specs.Derivation.{res-⊗, res-&, res-⊕₁, res-⊕₂, res-⊸, res-atm-int, res-atm-lin}
+use Rattle.calculus.specs.Steps.{steps, stands, leftChoice, rightChoice}
 use Rattle.calculus.specs.Job.{Job, Derivation, Limited, Listed}
 use Rattle.calculus.specs.Inner.Renaming.{Renaming, Image, over, swap}
 use Rattle.calculus.proofs.SummaryExact.{lend-size}
@@ -47,28 +47,32 @@ stands-cons : (e x : ℕ) (l : List ℕ) → stands e (x ∷ l) ≡ true → (e 
 unfolding stands
 stands-cons e x l t = ⊎-map (eqb-true e x) (λ u. u) (or-true (eqb e x) (stands e l) t)
 
--- THEOREM. A linear entry of the scope that stands in the list of a derivation is one of its items.
-pub used-item : {es : Scope} {I : Items} {G : Goal} (e : ℕ) → e < size es → linearAt es e ≡ true → (d : Derives es I G)
+-- THEOREM. A linear entry of the scope, no choice, that stands in the list of a derivation is one of its items.
+pub used-item : {es : Scope} {I : Items} {G : Goal} (e : ℕ) → e < leftChoice → e < size es → linearAt es e ≡ true → (d : Derives es I G)
     → stands e (steps d) ≡ true → I e ≡ true
 unfolding steps stands
-used-item e h n (res-1 v) t = absurd (false≢true t)
-used-item e h n res-⊤ t = absurd (false≢true t)
-used-item e h n (res-⊗ s c d) t =
-    in-either e s (⊎-map (used-item e h n c) (used-item e h n d) (stands-in e (steps c) (steps d) t))
-used-item e h n (res-& c d) t = ⊎-elim (used-item e h n c) (used-item e h n d) (stands-in e (steps c) (steps d) t)
-used-item {I} e h n (res-⊸ {es} {D} f d) t =
-    lent-out I (size es) e h (used-item e (omega (arith, lend-size es D)) (lent-linear es D e h ∙ n) d t)
-used-item {es} e h n (res-atm-int k m d) t =
-    ⊎-elim (λ u. absurd (false≢true (sym m ∙ ap (linearAt es) (sym u) ∙ n))) (used-item e h n d) (stands-cons e k (steps d) t)
-used-item {I} e h n (res-atm-lin k m g d) t =
-    ⊎-elim (λ u. ap I u ∙ g) (λ u. item-left I k e (used-item e h n d u)) (stands-cons e k (steps d) t)
+used-item e k h n (res-1 v) t = absurd (false≢true t)
+used-item e k h n res-⊤ t = absurd (false≢true t)
+used-item e k h n (res-⊗ s c d) t =
+    in-either e s (⊎-map (used-item e k h n c) (used-item e k h n d) (stands-in e (steps c) (steps d) t))
+used-item e k h n (res-& c d) t = ⊎-elim (used-item e k h n c) (used-item e k h n d) (stands-in e (steps c) (steps d) t)
+used-item e k h n (res-⊕₁ d) t = ⊎-elim (λ u. absurd (omega arith)) (used-item e k h n d) (stands-cons e leftChoice (steps d) t)
+used-item e k h n (res-⊕₂ d) t = ⊎-elim (λ u. absurd (omega arith)) (used-item e k h n d) (stands-cons e rightChoice (steps d) t)
+used-item {I} e k h n (res-⊸ {es} {D} f d) t =
+    lent-out I (size es) e h (used-item e k (omega (arith, lend-size es D)) (lent-linear es D e h ∙ n) d t)
+used-item {es} e k h n (res-atm-int x m d) t =
+    ⊎-elim (λ u. absurd (false≢true (sym m ∙ ap (linearAt es) (sym u) ∙ n))) (used-item e k h n d) (stands-cons e x (steps d) t)
+used-item {I} e k h n (res-atm-lin x m g d) t =
+    ⊎-elim (λ u. ap I u ∙ g) (λ u. item-left I x e (used-item e k h n d u)) (stands-cons e x (steps d) t)
 
 -- Swapping
 
--- x and y are linear entries of the scope with the same clause; x is a line if y is one, and must if y is.
+-- x and y are linear entries of the scope, no choices, with the same clause; x is a line if y is one, and must if y is.
 pub record WiderLine (j : Job) (x y : ℕ) : Type 0 where
   pub x-within : x < size (j .scope)
   pub y-within : y < size (j .scope)
+  pub x-no-choice : x < leftChoice
+  pub y-no-choice : y < leftChoice
   pub same-clause : clauseAt (j .scope) x ≡ clauseAt (j .scope) y
   pub x-linear : linearAt (j .scope) x ≡ true
   pub y-linear : linearAt (j .scope) y ≡ true
@@ -113,7 +117,7 @@ module _ (j : Job) (x y : ℕ) (w : WiderLine j x y) where
       let J = pushed f f (d .items) in
       let m : Image f f (d .items) J = image-pushed f f (swap-swap x y) (d .items) in
       let z = rename swapped-scope m (d .tree) in
-      let used = used-item y (w .y-within) (w .y-linear) (d .tree) t in
+      let used = used-item y (w .y-no-choice) (w .y-within) (w .y-linear) (d .tree) t in
       record {
         derivation =
             record {
@@ -133,5 +137,10 @@ module _ (j : Job) (x y : ℕ) (w : WiderLine j x y) where
 -- THEOREM. In a list that has y the wider line x and y may be swapped, whether or not x stands in it.
 pub swap-wider : (j : Job) (x y : ℕ) → WiderLine j x y → (l : List ℕ) → Listed j l → stands y l ≡ true → Listed j (map (swap x y) l)
 swap-wider j x y w l m t =
-    subst (Listed j) (over-steps (swap x y) (m .derivation .tree) ∙ ap (map (swap x y)) (m .list))
+    subst (Listed j)
+    (over-steps (swap x y) (kept leftChoice (omega arith)) (kept rightChoice (omega arith)) (m .derivation .tree)
+    ∙ ap (map (swap x y)) (m .list))
     (swapped-listed j x y w (m .derivation) (m .limited) (ap (stands y) (m .list) ∙ t))
+  where
+    kept : (c : ℕ) → leftChoice ≤ c → swap x y c ≡ c
+    kept c h = swap-other x y c (λ e. omega (arith, e, h, w .x-no-choice)) (λ e. omega (arith, e, h, w .y-no-choice))

@@ -13,7 +13,7 @@ use lib.Seq.{append-snoc}
 use borrow.Author.Tests.{eqb-true, eqb-false, ltb-true, not-false, lt-ltb, le-ltb, le-leb, lt-leb, eq-eqb}
 use Rattle.calculus.specs.Items.{_∪_}
 use Rattle.calculus.specs.Derivation.{Entry, clauseAt, linearAt}
-use Rattle.calculus.specs.Steps.{stands, Before, here, there}
+use Rattle.calculus.specs.Steps.{stands, leftChoice, Before, here, there}
 use Rattle.calculus.specs.Job.{Listed, First}
 use Rattle.calculus.specs.Inner.Renaming.{swap}
 use Rattle.calculus.proofs.RenamingKeeps.{swap-second, swap-other}
@@ -176,7 +176,7 @@ module _ (bs : List ℕ) where
       let P = ruleCount bs in
       rw (le-leb P (P + i) (omega arith), lt-ltb (P + i) (P + lineCount bs) (omega arith), add-sub-cancel-left P i)
 
-  module _ (i k : ℕ) (h : i < lineCount bs) (w : Wait bs i k) where
+  module _ (i k : ℕ) (h : i < lineCount bs) (w : Wait bs i k) (few : ruleCount bs + lineCount bs ≤ leftChoice) where
     low : k < lineCount bs
     low = omega (arith, w .lower)
 
@@ -201,6 +201,8 @@ module _ (bs : List ℕ) where
         record {
           x-within = omega (arith, low, scope-size bs);
           y-within = omega (arith, scope-size bs);
+          x-no-choice = omega (arith, low, few);
+          y-no-choice = omega (arith, few);
           same-clause =
               ap (λ (x : Entry). x .clause) (line-at bs k low) ∙ ap (clauseOf bs) (w .node)
               ∙ sym (ap (λ (x : Entry). x .clause) (line-at bs i h));
@@ -229,13 +231,13 @@ module _ {bs q : List ℕ} {e : ℕ} (w : Unmet bs q e) where
   partner-below = omega (arith, w .entry, w .awaited .lower)
 
   -- a step that is not eligible is swapped with one that it waits for: nothing changes before it
-  swap-step : (s : List ℕ) → Closed bs q → eligible bs q e ≡ false → Listed (jobOf bs) (q ++ (e ∷ s))
+  swap-step : ruleCount bs + lineCount bs ≤ leftChoice → (s : List ℕ) → Closed bs q → eligible bs q e ≡ false → Listed (jobOf bs) (q ++ (e ∷ s))
       → Listed (jobOf bs) (q ++ (partner w ∷ map (swap (partner w) e) s))
   unfolding partner
-  swap-step s c h m =
+  swap-step few s c h m =
       let t = partner w in
       let lines : WiderLine (jobOf bs) t e =
-      subst (WiderLine (jobOf bs) t) (sym (w .entry)) (wider-line bs (w .i) (w .k) (w .low) (w .awaited)) in
+      subst (WiderLine (jobOf bs) t) (sym (w .entry)) (wider-line bs (w .i) (w .k) (w .low) (w .awaited) few) in
       let out : stands e q ≡ false = ⊎-elim (λ k. absurd (true≢false (sym (c .kept e k) ∙ h))) (λ k. k) (either (stands e q)) in
       let same : map (swap t e) (q ++ (e ∷ s)) ≡ q ++ (t ∷ map (swap t e) s) =
       map-append (swap t e) q (e ∷ s)
@@ -257,7 +259,7 @@ abbrev Heads : List ℕ → ℕ → ℕ → Type 0
 Heads bs n b =
     (e : ℕ) → e < b → (q s : List ℕ) → Closed bs q → length s ≡ n → Listed (jobOf bs) (q ++ (e ∷ s)) → NoLater bs q (e ∷ s)
 
-module _ (bs : List ℕ) (n : ℕ) (tails : Tails bs n) where
+module _ (bs : List ℕ) (few : ruleCount bs + lineCount bs ≤ leftChoice) (n : ℕ) (tails : Tails bs n) where
   module _ (e : ℕ) (q s : List ℕ) (c : Closed bs q) (p : length s ≡ n) (m : Listed (jobOf bs) (q ++ (e ∷ s))) where
     kept-head : eligible bs q e ≡ true → NoLater bs q (e ∷ s)
     kept-head h =
@@ -271,7 +273,7 @@ module _ (bs : List ℕ) (n : ℕ) (tails : Tails bs n) where
         let w = unmet bs q e h in
         let t = partner w in
         let same = length-map s (swap t e) ∙ p in
-        let (l, x, d, o) = heads t (omega (arith, partner-below w)) q (map (swap t e) s) c same (swap-step w s c h m) in
+        let (l, x, d, o) = heads t (omega (arith, partner-below w)) q (map (swap t e) s) c same (swap-step w few s c h m) in
         (l, x, d, no-later-trans o (inr (here (partner-below w))))
 
   heads : (b : ℕ) → Heads bs n b
@@ -289,27 +291,27 @@ no-tail : (bs : List ℕ) → Tails bs zero
 no-tail bs q [] c p m = ([], m, none, inl refl)
 no-tail bs q (e ∷ s) c p m = absurd (omega arith)
 
-tails : (bs : List ℕ) (n : ℕ) → Tails bs n
-tails bs zero = no-tail bs
-tails bs (suc n) = longer bs n (tails bs n)
+tails : (bs : List ℕ) → ruleCount bs + lineCount bs ≤ leftChoice → (n : ℕ) → Tails bs n
+tails bs few zero = no-tail bs
+tails bs few (suc n) = longer bs few n (tails bs few n)
 
--- THEOREM. From every list of the job one gets an eligible list that is no later.
-pub no-later : (bs m : List ℕ) → Listed (jobOf bs) m
+-- THEOREM. From every list of the job, whose lines are no choices, one gets an eligible list that is no later.
+pub no-later : (bs m : List ℕ) → ruleCount bs + lineCount bs ≤ leftChoice → Listed (jobOf bs) m
     → (m′ : List ℕ) × Listed (jobOf bs) m′ × Chosen (eligible bs) [] m′ × ((m′ ≡ m) ⊎ Before m′ m)
-no-later bs m l = tails bs (length m) [] m (closed-none bs) refl l
+no-later bs m few l = tails bs few (length m) [] m (closed-none bs) refl l
 
 -- THEOREM. The first eligible list is the first list.
-pub first-eligible : (bs l : List ℕ) → Listed (jobOf bs) l
+pub first-eligible : (bs l : List ℕ) → ruleCount bs + lineCount bs ≤ leftChoice → Listed (jobOf bs) l
     → ((m : List ℕ) → Listed (jobOf bs) m → Chosen (eligible bs) [] m → (m ≡ l) ⊎ Before l m) → First (jobOf bs) l
-first-eligible bs l x least =
+first-eligible bs l few x least =
     record {
       listed = x;
       least = λ m y.
-          let (k, z, c, o) = no-later bs m y in
+          let (k, z, c, o) = no-later bs m few y in
           ⊎-map sym (λ b. b) (no-later-trans (⊎-map sym (λ b. b) (least k z c)) o);
     }
 
 -- THEOREM. Where no list is eligible there is none.
-pub none-eligible : (bs : List ℕ) → ((m : List ℕ) → Listed (jobOf bs) m → Chosen (eligible bs) [] m → ⊥)
+pub none-eligible : (bs : List ℕ) → ruleCount bs + lineCount bs ≤ leftChoice → ((m : List ℕ) → Listed (jobOf bs) m → Chosen (eligible bs) [] m → ⊥)
     → (m : List ℕ) → Listed (jobOf bs) m → ⊥
-none-eligible bs f m l = let x = no-later bs m l in f (x .0) (x .1) (x .2)
+none-eligible bs few f m l = let x = no-later bs m few l in f (x .0) (x .1) (x .2)

@@ -1,4 +1,4 @@
-// The tables of the search: each entry's node and head, and which lines each line waits for.
+// The tables of the search: each entry's node and heads, and which lines each line waits for.
 use card::format::byte;
 use card::format::kind;
 use card::format::left;
@@ -17,7 +17,8 @@ ghost use Rattle.card.specs.Decode.{jobOf};
 ghost use Rattle.entries.specs.Inner.Entries.{HeadCode, Headed, scopeIn, Entered};
 ghost use Rattle.entries.specs.Inner.Masks.{withLine, wider, Waiting, readyBy};
 
-// The head of the clause at the node, found by following the right parts of recipes; 1000 where there is none.
+// The head of the clause at the node, found by following the right parts of recipes; 1000 where there is none; where there is a menu, its
+// node and 1001.
 pub fn head_code(card: &[u8], node: usize) -> u16
     requires { ⌜ Sound (now card) ⌝ }
     requires { ⌜ clausePart (now card) (nodeCount (now card)) node ≡ true ⌝ }
@@ -32,10 +33,13 @@ pub fn head_code(card: &[u8], node: usize) -> u16
     if k == 1 {
         return left(card, at) as u16;
     }
+    if k == 10 {
+        return (1001 + at) as u16;
+    }
     1000
 }
 
-// Entry e: the node and its head.
+// Entry e: the node and its heads.
 pub fn put(card: &[u8], nodes: &mut [u16; 256], heads: &mut [u16; 256], e: usize, node: usize)
     requires { ⌜ Sound (now card) ⌝ }
     requires { ⌜ clausePart (now card) (nodeCount (now card)) node ≡ true ⌝ }

@@ -7,9 +7,9 @@ use Rattle.card.specs.Fault.{Sound}
 use Rattle.card.proofs.CardChecked.{sound-front}
 use Rattle.card.proofs.SoundNodes.{parts-below}
 
-pub parts-fit : {bs : List ℕ} → Sound bs → (goal : ℕ) → goal < nodeCount bs → 3 < kindAt bs goal
+pub parts-fit : {bs : List ℕ} → Sound bs → (goal : ℕ) → goal < nodeCount bs → 3 < kindAt bs goal → kindAt bs goal < 9
     → (leftAt bs goal < 512) × (rightAt bs goal < 512)
-parts-fit {bs} s goal h k =
-    let q = parts-below s goal h k in
+parts-fit {bs} s goal h k l =
+    let q = parts-below s goal h k (λ e. omega (arith, e, l)) in
     let f = sound-front bs s .few in
     (omega (arith, q .0, h), omega (arith, q .1, h))

@@ -1,5 +1,5 @@
-// The engine's moves, each by itself: the floor behind a list, the agenda of a part or of a clause's conditions, the item of a lent clause,
-// the branch at the start.
+// The engine's moves, each by itself: the floor behind a list, the sides of a choice, the agenda of a part, the item of a lent clause, the
+// branch at the start.
 use branch::Branch;
 use branch::Floor;
 use card::format::byte;
@@ -7,7 +7,6 @@ use card::format::left;
 use card::format::right;
 use lines::LineSet;
 use segment::tasks::nest;
-use segment::tasks::push;
 use segment::tasks::put;
 ghost use mathlib.Core.Path.{_≡_};
 ghost use mathlib.Core.Bool.{true};
@@ -15,8 +14,8 @@ ghost use Prim.Native.Nat.{ℕ, _+_, _-_, _*_, _≤_, _<_};
 ghost use lib.ListN.{length, getD, set};
 ghost use Rattle.card.specs.Format.{nodeCount, ruleCount, kindAt, leftAt, rightAt, byteAt};
 ghost use Rattle.card.specs.Fault.{Sound, clausePart, heightAt};
-ghost use Rattle.segment.specs.Inner.Tasks.{nestOf, Pushing};
-ghost use Rattle.moves.specs.Inner.Moves.{raisedF, startB};
+ghost use Rattle.segment.specs.Inner.Tasks.{nestOf};
+ghost use Rattle.moves.specs.Inner.Moves.{raisedF, sideAt, shutBy, startB};
 
 // The floor behind the first `at` steps of the tape, the last of which is to be passed.
 pub fn raise(tape: &[u8], at: usize) -> Floor
@@ -31,24 +30,44 @@ pub fn raise(tape: &[u8], at: usize) -> Floor
     }
 }
 
-// The conditions of the clause at the node, with one nesting less than the task at the given place, which they take: how many tasks there are
-// then.
-pub fn conditions(card: &[u8], agenda: &mut [u16; 104], top: usize, clause: usize) -> usize
-    requires { ⌜ Sound (now card) ⌝ }
-    requires { ⌜ clausePart (now card) (nodeCount (now card)) clause ≡ true ⌝ }
-    requires { ⌜ (top < 104) × ((top + heightAt (now card) clause ≤ 105) × (length (now agenda) ≡ 104)) ⌝ }
+// The nesting left to the conditions of an entry that is used for the name at the given place: one less.
+pub fn inner(agenda: &[u16; 104], top: usize) -> usize
+    requires { ⌜ (top < 104) × (length (now agenda) ≡ 104) ⌝ }
     requires { ⌜ 1 ≤ nestOf (getD (now agenda) top 0) ⌝ }
-    ensures { λ r. ⌜ Pushing (now (card .entry)) (now (agenda .entry)) (now (agenda .exit)) top clause
-        (nestOf (getD (now (agenda .entry)) top 0) - 1) r ⌝ }
+    ensures { λ r. ⌜ r ≡ nestOf (getD (now (agenda .entry)) top 0) - 1 ⌝ }
 {
     let n = nest(agenda, top);
-    push(card, agenda, top, clause, n - 1)
+    n - 1
+}
+
+// The side that a choice takes.
+pub fn side(card: &[u8], node: usize, choice: usize) -> usize
+    requires { ⌜ 16 + 5 * node ≤ length (now card) ⌝ }
+    ensures { λ r. ⌜ r ≡ sideAt (now (card .entry)) node choice ⌝ }
+{
+    if choice == 254 {
+        return left(card, node);
+    }
+    right(card, node)
+}
+
+// Whether it is shut: of a menu, a side whose heads are not the name wanted.
+pub fn shut(card: &[u8], meets: bool, name: usize, part: usize) -> bool
+    requires { ⌜ Sound (now card) ⌝ }
+    requires { ⌜ (meets ≡ true → clausePart (now card) (nodeCount (now card)) part ≡ true) ⌝ }
+    ensures { λ r. ⌜ r ≡ shutBy (now (card .entry)) meets name part ⌝ }
+{
+    if meets {
+        let fits = scope::usable(card, part, name);
+        return !fits;
+    }
+    false
 }
 
 // The left part of the goal at the node as the only task.
 pub fn left_alone(card: &[u8], agenda: &mut [u16; 104], goal: usize, nest: usize)
     requires { ⌜ Sound (now card) ⌝ }
-    requires { ⌜ (goal < nodeCount (now card)) × (3 < kindAt (now card) goal) ⌝ }
+    requires { ⌜ (goal < nodeCount (now card)) × ((3 < kindAt (now card) goal) × (kindAt (now card) goal < 9)) ⌝ }
     requires { ⌜ (nest < 32) × (length (now agenda) ≡ 104) ⌝ }
     ensures { λ _. ⌜ now (agenda .exit) ≡ set (now (agenda .entry)) 0 (leftAt (now (card .entry)) goal * 32 + nest) ⌝ }
 {
@@ -59,7 +78,7 @@ pub fn left_alone(card: &[u8], agenda: &mut [u16; 104], goal: usize, nest: usize
 // Its right part.
 pub fn right_alone(card: &[u8], agenda: &mut [u16; 104], goal: usize, nest: usize)
     requires { ⌜ Sound (now card) ⌝ }
-    requires { ⌜ (goal < nodeCount (now card)) × (3 < kindAt (now card) goal) ⌝ }
+    requires { ⌜ (goal < nodeCount (now card)) × ((3 < kindAt (now card) goal) × (kindAt (now card) goal < 9)) ⌝ }
     requires { ⌜ (nest < 32) × (length (now agenda) ≡ 104) ⌝ }
     ensures { λ _. ⌜ now (agenda .exit) ≡ set (now (agenda .entry)) 0 (rightAt (now (card .entry)) goal * 32 + nest) ⌝ }
 {

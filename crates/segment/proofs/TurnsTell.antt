@@ -68,6 +68,10 @@ unfolding taskWeight
 task-pos bs c =
     one-le-mul {a = weight (goalAt bs (nodeOf c))} {b = nestOf c + 1} (weight-pos (goalAt bs (nodeOf c))) (omega arith)
 
+-- an agenda with a task has a weight
+pub total-pos : (bs codes : List ℕ) (len : ℕ) → 1 ≤ len → 1 ≤ total bs codes len
+total-pos bs codes len h = let e = total-next bs codes len h in let p = task-pos bs (getD codes (len - 1) 0) in omega arith
+
 -- the place with the items of a branch past ⊤
 eased-at : (P : ℕ) (b : Branch) (p : Place) → itemsAt P (easedB b) p ≡ eased (itemsAt P b p)
 eased-at P b p = ap₂ (λ (S L : Items). holding p S L (p .room)) (items-empty P) (items-join P (b .strict) (b .lax))

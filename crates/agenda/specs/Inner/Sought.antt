@@ -75,6 +75,10 @@ spending es e U = cond (linearAt es e) (U ∪ only e) U
 abbrev pub pastUse : Scope → Place → ℕ → List ℕ → ℕ → Place
 pastUse es p e F f = past p (e ∷ []) F f (spent es e (p .strict)) (spent es e (p .lax))
 
+-- past a choice
+abbrev pub pastChoice : Place → ℕ → List ℕ → ℕ → Place
+pastChoice p c F f = past p (c ∷ []) F f (p .strict) (p .lax)
+
 -- The window: only what is at hand is taken and, without slack, all that is strict.
 pub record InWindow (S L U : Items) (v : Bool) : Type 0 where
   pub within : Within U (S ∪ L)
@@ -106,6 +110,10 @@ module _ (eligible : List ℕ → ℕ → Bool) where
   -- at a name: every list sought begins with e or higher
   pub record Trying (es : Scope) (a n : ℕ) (A : Agenda) (p : Place) (e : ℕ) : Type 0 where
     pub trying : (x : ℕ) (m : List ℕ) (U : Items) (v : Bool) → Sought es (task (atomᴳ a) n ∷ A) p (x ∷ m) U v → e ≤ x
+
+  -- a side of ⊕ is shut: no list sought begins with its choice
+  pub record Shut (es : Scope) (A : Agenda) (p : Place) (c : ℕ) : Type 0 where
+    pub shut : (m : List ℕ) (U : Items) (v : Bool) → Sought es A p (c ∷ m) U v → ⊥
 
   -- The part B is raised in place: its lists, sought at pp, begin those sought at the agenda A in p. What is sought in p is not below the
   -- floor (F, f), and what is not below that is not below p's own floor. As long as nothing was raised it is p's own floor; then every

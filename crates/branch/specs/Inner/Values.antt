@@ -36,6 +36,12 @@ answerIn IsSolved words = Solved (wayIn words)
 answerIn IsStuck words = Stuck
 answerIn IsTired words = Tired
 
+-- an answer past a step that keeps to the given steps or not
+unfoldable pub followed : Bool → Answer → Answer
+followed kept (Solved w) = Solved (record { at = w .at; used = w .used; seen = w .seen; slack = w .slack; kept = w .kept && kept })
+followed kept Stuck = Stuck
+followed kept Tired = Tired
+
 -- the search has not given up
 unfoldable pub Awake : Outcome → Type 0
 Awake IsSolved = Unit {0}
@@ -63,6 +69,32 @@ longerB b = record {
   at = b .at;
   count = b .count;
   len = b .len + 1;
+  limit = b .limit;
+  strict = b .strict;
+  lax = b .lax;
+  used = b .used;
+  seen = b .seen;
+  slack = b .slack;
+}
+
+abbrev pub sizedB : Branch → ℕ → Branch
+sizedB b len = record {
+  at = b .at;
+  count = b .count;
+  len = len;
+  limit = b .limit;
+  strict = b .strict;
+  lax = b .lax;
+  used = b .used;
+  seen = b .seen;
+  slack = b .slack;
+}
+
+abbrev pub choseB : Branch → Branch
+choseB b = record {
+  at = b .at + 1;
+  count = b .count;
+  len = b .len;
   limit = b .limit;
   strict = b .strict;
   lax = b .lax;

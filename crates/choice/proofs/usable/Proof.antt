@@ -1,19 +1,22 @@
--- An entry past the scope is none; else the head of the table, at hand, and the lines it waits for.
+-- An entry past the scope is none; else the code of its heads, at hand, and the lines it waits for.
+use Prim.Native.Nat.{ℕ, _≤_, _<_}
 use native.Mathlib.Omega.{arith}
 use mathlib.Core.Path.{refl, sym, _∙_}
-use borrow.Author.Tests.{not-true, not-false, le-ltb, lt-ltb, eq-eqb, ne-eqb}
+use borrow.Author.Tests.{le-ltb, lt-ltb, eq-eqb, ne-eqb}
 use borrow.Author.Needs.{needs}
-use Rattle.card.proofs.CardChecked.{sound-front}
+use Rattle.entries.specs.Inner.Entries.{codeFits}
 use Rattle.choice.specs.Inner.Choice.{takableBy}
 use Rattle.choice.proofs.usable.Statement.{statement}
 use Rattle.choice.proofs.usable.Tie as tie
 
+low : (n : ℕ) → n ≤ 1000 → n < 1001
+low n h = omega arith
+
 returns : tie.Need-returns
 unfolding takableBy
 returns c =
-    let at-if1 = c in
-    let start = at-if1 .before .before .before in
-    rw (le-ltb (start .args .e) (start .args .b .count) (at-if1 .if1 .taken)) refl
+    let start = c .before .before .before in
+    rw (le-ltb (start .args .e) (start .args .b .count) (c .if1 .taken)) refl
 
 mul-head : tie.Need-mul-head
 mul-head c = search needs
@@ -30,68 +33,47 @@ cast-head c =
     let low = start .pre .heads-low (start .args .e) (at-if1 .if1 .left) in
     omega arith
 
+sub-on-menu : tie.Need-sub-on-menu
+sub-on-menu c = search needs
+
+on-menu-requires : tie.Need-on-menu-requires
+on-menu-requires c κs =
+    let at-if1 = c .before .before in
+    let start = at-if1 .before .before .before in
+    ((start .pre .sound, start .pre .wait-room), start .pre .menus (start .args .e) (at-if1 .if1 .left) (c .if2 .taken))
+
 returns-2 : tie.Need-returns-2
-unfolding takableBy
+unfolding takableBy codeFits
 returns-2 c =
-    let at-if2 = c in
+    let at-if2 = c .before in
     let at-if1 = at-if2 .before .before in
     let start = at-if1 .before .before .before in
     let in-scope = lt-ltb (start .args .e) (start .args .b .count) (at-if1 .if1 .left) in
-    rw (in-scope, ne-eqb _ (start .args .name) (at-if2 .if2 .taken)) refl
-
-byte-requires : tie.Need-byte-requires
-byte-requires c κs =
-    let start = c .before .before .before .before .before in
-    let front = sound-front (start .args .card .now) (start .pre .sound) .whole in
-    omega (arith, front)
-
-at-hand-requires : tie.Need-at-hand-requires
-at-hand-requires c κs = search needs
+    rw (in-scope, le-ltb _ 1001 (at-if2 .if2 .taken)) (c .on-menu .ensures)
 
 returns-3 : tie.Need-returns-3
-unfolding takableBy
+unfolding takableBy codeFits
 returns-3 c =
-    let at-if3 = c in
-    let at-at-hand = at-if3 .before in
-    let at-byte = at-at-hand .before in
-    let at-if2 = at-byte .before in
+    let at-if2 = c .before in
     let at-if1 = at-if2 .before .before in
     let start = at-if1 .before .before .before in
     let in-scope = lt-ltb (start .args .e) (start .args .b .count) (at-if1 .if1 .left) in
-    let away = sym (at-at-hand .at-hand .ensures) ∙ not-true _ (at-if3 .if3 .taken) in
-    rw (in-scope, eq-eqb _ (start .args .name) (at-if2 .if2 .left), ← at-byte .byte .ensures .0, away) refl
+    rw (in-scope, lt-ltb _ 1001 (low _ (at-if2 .if2 .left)), ne-eqb _ (start .args .name) (c .if3 .taken)) refl
 
-byte-requires-2 : tie.Need-byte-requires-2
-byte-requires-2 c κs =
-    let start = c .before .before .before .before .before .before .before .before in
-    let front = sound-front (start .args .card .now) (start .pre .sound) .whole in
-    omega (arith, front)
-
-ready-requires : tie.Need-ready-requires
-ready-requires c κs =
-    let at-byte2 = c in
-    let at-byte = at-byte2 .before .before .before in
-    let start = at-byte .before .before .before .before .before .before in
-    let front = sound-front (start .args .card .now) (start .pre .sound) in
-    let p = at-byte .byte .ensures .0 in
-    let t = at-byte2 .byte2 .ensures .0 in
-    ((omega (arith, at-byte .byte .ensures .1), omega (arith, front .lines)), start .pre .wait-room)
+open-requires : tie.Need-open-requires
+open-requires c κs =
+    let start = c .before .before .before .before .before .before in
+    (start .pre .sound, start .pre .wait-room)
 
 returns-4 : tie.Need-returns-4
-unfolding takableBy
+unfolding takableBy codeFits
 returns-4 c =
-    let at-ready = c in
-    let at-byte2 = at-ready .before in
-    let at-if3 = at-byte2 .before in
-    let at-at-hand = at-if3 .before in
-    let at-byte = at-at-hand .before in
-    let at-if2 = at-byte .before in
+    let at-if3 = c .before in
+    let at-if2 = at-if3 .before in
     let at-if1 = at-if2 .before .before in
     let start = at-if1 .before .before .before in
     let in-scope = lt-ltb (start .args .e) (start .args .b .count) (at-if1 .if1 .left) in
-    let near = sym (at-at-hand .at-hand .ensures) ∙ not-false _ (at-if3 .if3 .left) in
-    rw (in-scope, eq-eqb _ (start .args .name) (at-if2 .if2 .left), ← at-byte .byte .ensures .0, near, ← at-byte2 .byte2 .ensures .0)
-    (at-ready .ready .ensures)
+    rw (in-scope, lt-ltb _ 1001 (low _ (at-if2 .if2 .left)), eq-eqb _ (start .args .name) (at-if3 .if3 .left)) (c .open .ensures)
 
 pub usable-spec : {M : Type 1} → statement M
 usable-spec =
@@ -101,10 +83,9 @@ usable-spec =
     mul-head
     element-copy-out-head
     cast-head
+    sub-on-menu
+    on-menu-requires
     returns-2
-    byte-requires
-    at-hand-requires
     returns-3
-    byte-requires-2
-    ready-requires
+    open-requires
     returns-4)

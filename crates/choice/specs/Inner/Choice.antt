@@ -1,14 +1,15 @@
 -- The terms of the contracts: which entry is tried next at a name, and where the given steps bear on it.
-use Prim.Native.Nat.{ℕ, _≤_, _<_}
+use Prim.Native.Nat.{ℕ, _-_, _≤_, _<_}
 use mathlib.Core.Path.{_≡_}
 use mathlib.Core.Bool.{Bool, true, false, not, cond, _&&_, _||_}
 use mathlib.Core.List.{List}
 use lib.ListN.{length, getD, take, drop}
 use lib.Dec.{leb, ltb, eqb}
 use Rattle.calculus.specs.Items.{_∪_}
-use Rattle.card.specs.Format.{ruleCount, lineCount, byteAt}
-use Rattle.card.specs.Fault.{Sound}
+use Rattle.card.specs.Format.{ruleCount, lineCount, nodeCount, byteAt}
+use Rattle.card.specs.Fault.{Sound, clausePart}
 use Rattle.scope.specs.Inner.Sets.{items}
+use Rattle.entries.specs.Inner.Entries.{codeFits}
 use Rattle.entries.specs.Inner.Masks.{readyBy}
 use Rattle.branch.specs.declared.Branch.{Branch}
 use Rattle.branch.specs.declared.Floor.{Floor}
@@ -21,12 +22,14 @@ use Rattle.choice.specs.declared.Sought.the-variants.{At, Nothing}
 unfoldable pub atHandBy : ℕ → ℕ → Branch → Bool
 atHandBy P e b = not (leb P e) || (items P (b .strict) ∪ items P (b .lax)) e
 
--- the entry can be used for the name: it is in scope, its head is the name, it is a rule or an item at hand, and the lines that it waits
--- for are seen
+-- and the lines that it waits for are seen
+unfoldable pub openTo : List ℕ → List ℕ → Branch → ℕ → Bool
+openTo bs waits b e = atHandBy (ruleCount bs) e b && readyBy (ruleCount bs) (lineCount bs) waits (b .seen) e
+
+-- the entry can be used for the name: it is in scope, some head of it is the name, it is a rule or an item at hand, and the lines that it
+-- waits for are seen
 unfoldable pub takableBy : List ℕ → List ℕ → List ℕ → Branch → ℕ → ℕ → Bool
-takableBy bs waits heads b name e =
-    ltb e (b .count)
-    && (eqb (getD heads e 0) name && (atHandBy (ruleCount bs) e b && readyBy (ruleCount bs) (lineCount bs) waits (b .seen) e))
+takableBy bs waits heads b name e = ltb e (b .count) && (codeFits bs (getD heads e 0) name && openTo bs waits b e)
 
 -- What the test of an entry asks.
 pub record Testing (bs waits heads : List ℕ) (b : Branch) : Type 0 where
@@ -34,7 +37,8 @@ pub record Testing (bs waits heads : List ℕ) (b : Branch) : Type 0 where
   pub wait-room : length waits ≡ 64
   pub head-room : length heads ≡ 256
   pub few : b .count ≤ 256
-  pub heads-low : (e : ℕ) → e < b .count → getD heads e 0 ≤ 1000
+  pub heads-low : (e : ℕ) → e < b .count → getD heads e 0 < 1513
+  pub menus : (e : ℕ) → e < b .count → 1001 ≤ getD heads e 0 → clausePart bs (nodeCount bs) (getD heads e 0 - 1001) ≡ true
 
 -- What the least usable entry from the given one on is.
 pub record SeeksAt (bs waits heads : List ℕ) (b : Branch) (name from e : ℕ) : Type 0 where

@@ -1,23 +1,26 @@
 -- What each function of the engine asks and tells.
 use Prim.Native.Nat.{ℕ, _+_, _-_, _*_, _≤_, _<_}
 use mathlib.Core.Path.{_≡_}
+use mathlib.Core.Logic.{_⊎_}
 use mathlib.Core.Bool.{Bool, true, false, _||_}
 use mathlib.Core.List.{List, [], _∷_}
 use lib.ListN.{length, getD, take, set}
 use lib.Seq.{slice}
+use Rattle.calculus.specs.Formula.{Goal, residual, usable}
 use Rattle.calculus.specs.Items.{Items, _∪_}
 use Rattle.calculus.specs.Derivation.{Scope}
+use Rattle.calculus.specs.Steps.{leftChoice, rightChoice}
 use Rattle.calculus.specs.Inner.Summary.{Bounded}
 use Rattle.card.specs.Format.{ruleCount, lineCount, nodeCount, kindAt, leftAt}
-use Rattle.card.specs.Fault.{Sound, goalPart, heightAt}
-use Rattle.card.specs.Decode.{goalAt, clauseOf}
+use Rattle.card.specs.Fault.{Sound, goalPart, clausePart, heightAt}
+use Rattle.card.specs.Decode.{goalAt, clauseOf, scopeOf}
 use Rattle.lines.specs.Inner.Set.{emptyS}
 use Rattle.scope.specs.Inner.Sets.{items}
 use Rattle.scope.specs.Inner.Tables.{Kept}
 use Rattle.entries.specs.Inner.Entries.{scopeIn, Entered}
 use Rattle.entries.specs.Inner.Twins.{eligible}
 use Rattle.entries.specs.Inner.Masks.{Waiting, Seen}
-use Rattle.agenda.specs.Inner.Agenda.{Agenda, task, pushed}
+use Rattle.agenda.specs.Inner.Agenda.{Agenda, task}
 use Rattle.agenda.specs.Inner.Order.{Next}
 use Rattle.agenda.specs.Inner.Sought.{Place, None, Least}
 use Rattle.branch.specs.declared.Branch.{Branch}
@@ -25,10 +28,11 @@ use Rattle.branch.specs.declared.Way.{Way}
 use Rattle.branch.specs.declared.Floor.{Floor}
 use Rattle.branch.specs.declared.Outcome.{Outcome}
 use Rattle.branch.specs.declared.Outcome.the-variants.{Solved as IsSolved, Stuck as IsStuck, Tired as IsTired}
-use Rattle.branch.specs.Inner.Values.{Answer, Solved, Stuck, Tired, usingB, pastF}
+use Rattle.branch.specs.Inner.Values.{Answer, Solved, Stuck, Tired, usingB, choseB, pastF, followed}
 use Rattle.segment.specs.Inner.Tasks.{nodeOf, nestOf, agendaOf, Laid}
 use Rattle.prune.specs.Inner.Prune.{Rooted, Stocked}
-use Rattle.choice.specs.Inner.Choice.{takableBy, givenAt, fromAt}
+use Rattle.choice.specs.Inner.Choice.{takableBy, givenAt, fromAt, keepsBy}
+use Rattle.moves.specs.Inner.Moves.{sideAt}
 
 -- Where a branch stands.
 unfoldable pub placeOf : ℕ → Floor → Branch → List ℕ → Place
@@ -87,11 +91,19 @@ pub record PartNext (bs codes : List ℕ) (b : Branch) : Type 0 where
   pub laid : Laid bs codes (b .len) (b .count)
   pub some : 1 ≤ b .len
   pub kind : 4 < kindAt bs (topNode codes b)
+  pub no-choice : kindAt bs (topNode codes b) ≤ 7
+
+-- the next task is ⊕ or 0
+pub record OpenNext (bs codes : List ℕ) (b : Branch) : Type 0 where
+  pub laid : Laid bs codes (b .len) (b .count)
+  pub some : 1 ≤ b .len
+  pub kind : 7 < kindAt bs (topNode codes b)
 
 -- The node is a goal of the card, & or ⊸, with room for what it may grow to.
 pub record GoalReady (bs : List ℕ) (goal n : ℕ) (b : Branch) : Type 0 where
   pub goal-node : goalPart bs (nodeCount bs) goal ≡ true
   pub kind : 4 < kindAt bs goal
+  pub no-choice : kindAt bs goal ≤ 7
   pub nested : n < 32
   pub stacked : heightAt bs goal + 6 * n ≤ 104
   pub deep : b .count + heightAt bs goal + 6 * n ≤ ruleCount bs + 168
@@ -144,12 +156,65 @@ abbrev pub Alone : List ℕ → ℕ → ℕ → Floor → Branch → List ℕ �
 Alone bs goal n f b tape tape′ nodes nodes′ heads heads′ r =
     Searches bs (task (goalAt bs goal) n ∷ []) f b tape tape′ nodes nodes′ heads heads′ r
 
--- of what is left once the entry e is used: its conditions before the rest
+-- What is walked at a part: the goal at a node, or what is left of the clause at it that is used for a name.
+unfoldable pub partGoal : List ℕ → Bool → ℕ → ℕ → Goal
+partGoal bs false name node = goalAt bs node
+partGoal bs true name node = residual (scopeOf bs .fits) name (clauseOf bs node)
+
+-- of a part before the tasks of the agenda
+abbrev pub Entering : List ℕ → List ℕ → Bool → ℕ → ℕ → ℕ → Floor → Branch → List ℕ → List ℕ → List ℕ → List ℕ → List ℕ → List ℕ
+    → Answer → Type 0
+Entering bs codes meets part name n f b tape tape′ nodes nodes′ heads heads′ r =
+    Searches bs (task (partGoal bs meets name part) n ∷ agendaOf bs codes (b .len)) f b tape tape′ nodes nodes′ heads heads′ r
+
+-- of what is left once the entry e is used, before the rest
 pub record Using (bs codes : List ℕ) (e : ℕ) (f : Floor) (b : Branch) (tape tape′ nodes nodes′ heads heads′ : List ℕ) (r : Answer)
     : Type 0 where
-  pub len : ℕ
-  pub searched : Searches bs (pushed (topNest codes b - 1) (clauseOf bs (getD nodes e 0)) (agendaOf bs codes (b .len - 1))) f
-      (usingB b (ruleCount bs) (lineCount bs) e len) (set tape (b .at) e) tape′ nodes nodes′ heads heads′ r
+  pub searched : Searches bs
+      (task (partGoal bs true (leftAt bs (topNode codes b)) (getD nodes e 0)) (topNest codes b - 1) ∷ agendaOf bs codes (b .len - 1)) f
+      (usingB b (ruleCount bs) (lineCount bs) e (b .len - 1)) (set tape (b .at) e) tape′ nodes nodes′ heads heads′ r
+
+-- The part is a goal of the card, or a clause of it that can be used for the name, with room for what it may grow to.
+unfoldable pub PartGood : List ℕ → Bool → ℕ → ℕ → Branch → Type 0
+PartGood bs false part n b =
+    (goalPart bs (nodeCount bs) part ≡ true) × (b .len + heightAt bs part + 6 * n ≤ 104)
+    × (b .count + heightAt bs part + 6 * n ≤ ruleCount bs + 168)
+PartGood bs true part n b =
+    (clausePart bs (nodeCount bs) part ≡ true) × (b .len + heightAt bs part + 6 * n ≤ 105)
+    × (b .count + heightAt bs part + 6 * n ≤ ruleCount bs + 169)
+
+pub record PartReady (bs codes : List ℕ) (meets : Bool) (part name n : ℕ) (b : Branch) : Type 0 where
+  pub laid : Laid bs codes (b .len) (b .count)
+  pub nested : n < 32
+  pub good : PartGood bs meets part n b
+  pub fitting : meets ≡ true → usable (scopeOf bs .fits) name (clauseOf bs part) ≡ true
+
+-- the node is ⊕, or a menu
+unfoldable pub choiceKind : Bool → ℕ
+choiceKind false = 8
+choiceKind true = 10
+
+pub record ChoiceReady (bs codes : List ℕ) (meets : Bool) (node name n : ℕ) (b : Branch) : Type 0 where
+  pub laid : Laid bs codes (b .len) (b .count)
+  pub nested : n < 32
+  pub good : PartGood bs meets node n b
+  pub kind : kindAt bs node ≡ choiceKind meets
+
+-- a choice, and a step may be taken for it
+pub record Choosing (c : ℕ) (b : Branch) : Type 0 where
+  pub choice : (c ≡ leftChoice) ⊎ (c ≡ rightChoice)
+  pub room : b .at < b .limit
+
+-- Of one side, where `first` is the least step to be taken: below it nothing is found; else what is told past the choice.
+pub record Siding (bs codes : List ℕ) (meets : Bool) (node name n c first : ℕ) (f : Floor) (b : Branch)
+    (tape tape′ nodes nodes′ heads heads′ : List ℕ) (r : Answer) : Type 0 where
+  pub tape-kept : Kept (b .at) tape tape′
+  pub node-kept : Kept (b .count) nodes nodes′
+  pub head-kept : Kept (b .count) heads heads′
+  pub below : c < first → (r ≡ Stuck) × (tape′ ≡ tape)
+  pub past : first ≤ c → (s : Answer) × (r ≡ followed (keepsBy f (b .at) first c) s)
+      × Searches bs (task (partGoal bs meets name (sideAt bs node c)) n ∷ agendaOf bs codes (b .len)) (pastF f (keepsBy f (b .at) first c))
+      (choseB b) (set tape (b .at) c) tape′ nodes nodes′ heads heads′ s
 
 -- What the prunings are stocked with, and a place for a way.
 pub record Equipped (bs names table masks codes words way nodes : List ℕ) (n : ℕ) : Type 0 where

@@ -1,23 +1,28 @@
--- The tables of the search: each entry's node and head.
-use Prim.Native.Nat.{ℕ, _<_, _≤_}
+-- The tables of the search: each entry's node and heads.
+use Prim.Native.Nat.{ℕ, _-_, _<_, _≤_}
 use mathlib.Core.Path.{_≡_}
-use mathlib.Core.Bool.{true}
+use mathlib.Core.Bool.{Bool, true, cond}
 use mathlib.Core.List.{List}
 use lib.ListN.{length, getD, set}
-use lib.Dec.{leb, eqb}
+use lib.Dec.{leb, ltb, eqb}
 use Rattle.calculus.specs.Formula.{usable}
 use Rattle.calculus.specs.Derivation.{Scope}
 use Rattle.card.specs.Format.{ruleCount, nodeCount, listing}
 use Rattle.card.specs.Fault.{clausePart}
 use Rattle.card.specs.Decode.{clauseOf, scopeOf}
 
--- The head of the clause at the node, in two bytes: of the names, which are at most 999, the code equals those that the clause can be
--- used for.
-pub record HeadCode (bs : List ℕ) (node c : ℕ) : Type 0 where
-  pub small : c ≤ 1000
-  pub tells : (a : ℕ) → a ≤ 999 → eqb c a ≡ usable (scopeOf bs .fits) a (clauseOf bs node)
+-- A code of heads, in two bytes: that of a name is the name, 1000 stands for none, and what is more for the heads of the menu at the node
+-- 1001 less.
+unfoldable pub codeFits : List ℕ → ℕ → ℕ → Bool
+codeFits bs c a = cond (ltb c 1001) (eqb c a) (usable (scopeOf bs .fits) a (clauseOf bs (c - 1001)))
 
--- the table of heads, with the code of the node's head written at the entry e
+-- The heads of the clause at the node: of the names, which are at most 999, the code fits those that the clause can be used for.
+pub record HeadCode (bs : List ℕ) (node c : ℕ) : Type 0 where
+  pub small : c < 1513
+  pub menu : 1001 ≤ c → clausePart bs (nodeCount bs) (c - 1001) ≡ true
+  pub tells : (a : ℕ) → a ≤ 999 → codeFits bs c a ≡ usable (scopeOf bs .fits) a (clauseOf bs node)
+
+-- the table of heads, with the code of the node's heads written at the entry e
 pub record Headed (bs heads heads′ : List ℕ) (e node : ℕ) : Type 0 where
   pub code : ℕ
   pub written : heads′ ≡ set heads e code
@@ -31,7 +36,7 @@ scopeIn bs nodes n =
       fits = scopeOf bs .fits;
     }
 
--- The first n entries of the tables: clauses of the card, each with its head.
+-- The first n entries of the tables: clauses of the card, each with its heads.
 pub record Entered (bs nodes heads : List ℕ) (n : ℕ) : Type 0 where
   pub node-room : length nodes ≡ 256
   pub head-room : length heads ≡ 256

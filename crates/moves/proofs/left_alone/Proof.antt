@@ -15,7 +15,7 @@ left-requires c κs =
 put-requires : tie.Need-put-requires
 put-requires c κs =
     let start = c .before .before .before in
-    let q = parts-fit (start .pre .0) (start .args .goal) (start .pre .1 .0 .0) (start .pre .1 .0 .1) in
+    let q = parts-fit (start .pre .0) (start .args .goal) (start .pre .1 .0 .0) (start .pre .1 .0 .1 .0) (start .pre .1 .0 .1 .1) in
     let e = c .before .left .ensures .0 in
     ((omega arith, (omega (arith, e, q .0, q .1), start .pre .1 .1 .0)), start .pre .1 .1 .1)
 
