@@ -10,14 +10,15 @@ use mathlib.Core.Logic.{⊎-elim}
 use lib.ListN.{length, length-append}
 use lib.Dec.{leb}
 use borrow.Author.Tests.{leb-true, leb-false}
-use Rattle.calculus.specs.Formula.{Fits, Goal, Clause, zeroᴳ, tensor, atomᴰ, topᴰ, lolliᴰ, matched, residual, usable}
+use Rattle.calculus.specs.Formula.{Fits, Goal, Clause, oneᴳ, zeroᴳ, tensor, oplus, atomᴰ, topᴰ, lolliᴰ, withᴰ, matched, residual}
 use Rattle.calculus.specs.Items.{Items, Splits, Within, Empty}
 use Rattle.calculus.specs.Derivation.{Scope, Entry, size, clauseAt, linearAt, residualAt, lend}
-use Rattle.calculus.specs.Inner.Summary.{Sum, sum-1, sum-⊤, sum-⊗, sum-&, sum-⊸, sum-rule, sum-item, Joins, Without, Plus, Covers, spare}
+use Rattle.calculus.specs.Inner.Summary.{Sum, sum-1, sum-⊤, sum-⊗, sum-&, sum-⊕₁, sum-⊕₂, sum-⊸, sum-rule, sum-item, Joins, Without, Plus}
+use Rattle.calculus.specs.Inner.Summary.{Covers, spare}
 use Rattle.calculus.proofs.SetLaws.{join-left, join-right, join-within, covers}
 use Rattle.calculus.proofs.RenamingKeeps.{entry-past, entry-before, entry-lent, fits-lend, lent-cases}
 use Rattle.bounds.specs.Inner.Count.{bit, Class, count}
-use Rattle.bounds.specs.Inner.Bound.{Names, off, leastG, lowG, highG, leastD, lowD, highD, Settles, Kin, LendsG, LendsD, Scoped}
+use Rattle.bounds.specs.Inner.Bound.{Names, off, leastG, lowG, highG, TakesIn, Allows, Settles, Kin, LendsG, LendsD, Scoped}
 use Rattle.bounds.specs.Inner.Bound.{Closed, Keeps}
 use Rattle.bounds.proofs.CountLaws.{count-none, count-within, count-split, count-plus, count-lend}
 
@@ -26,27 +27,6 @@ use Rattle.bounds.proofs.CountLaws.{count-none, count-within, count-spl
 no-zero : {n : ℕ} {es : Scope} {l : List ℕ} {U : Items} {v : Bool} → Sum n es zeroᴳ l U v → ⊥
 no-zero {n = zero} s = elim s [ ]
 no-zero {n = suc n} s = elim s [ ]
-
-record Left (n : ℕ) (es : Scope) (G : Goal) : Type 0 where
-  list : List ℕ
-  used : Items
-  slack : Bool
-  sum : Sum n es G list used slack
-
-left-part : {n : ℕ} {es : Scope} {G H : Goal} {l : List ℕ} {U : Items} {v : Bool} → Sum n es (tensor G H) l U v → Left n es G
-left-part (sum-⊗ {l₁} {U₁} {v₁} p s q x y) = record { list = l₁; used = U₁; slack = v₁; sum = x }
-
-matched-true : {n : ℕ} {es : Scope} {l : List ℕ} {U : Items} {v : Bool} (b : Bool) → Sum n es (matched b) l U v → b ≡ true
-unfolding matched
-matched-true true s = refl
-matched-true false s = absurd (no-zero s)
-
-pub sum-usable : {n : ℕ} {es : Scope} {l : List ℕ} {U : Items} {v : Bool} (fits : Fits) (a : ℕ) (D : Clause)
-    → Sum n es (residual fits a D) l U v → usable fits a D ≡ true
-unfolding residual usable
-sum-usable fits a (atomᴰ b) s = matched-true (fits b a) s
-sum-usable fits a topᴰ s = absurd (no-zero s)
-sum-usable fits a (lolliᴰ G D) s = sum-usable fits a D (left-part s .sum)
 
 pub sum-in : {n : ℕ} {es : Scope} {l : List ℕ} {U : Items} {v : Bool} (a e : ℕ) → Sum n es (residualAt es a e) l U v → e < size es
 unfolding residualAt clauseAt residual
@@ -57,52 +37,23 @@ sum-in {n} {es} {l} {U} {v} a e s = go (decLt e (size es))
     go (no h) =
         absurd (no-zero (subst (λ (x : Entry). Sum n es (residual (es .fits) a (x .clause)) l U v) (entry-past es e (omega arith)) s))
 
--- What is left of a clause that is used has the bounds of its conditions.
-module _ (K : Class) (t : Names) (fits : Fits) (a : ℕ) where
-  matched-least : (b : Bool) → leastG K t (matched b) ≡ 0
-  unfolding matched leastG
-  matched-least true = refl
-  matched-least false = refl
+-- What is left of a clause for a name: of a head that fits, of one that does not or of rest, of a recipe, of a menu.
+data Left (fits : Fits) (a : ℕ) : Clause → Goal → Type 0 where
+  left-head : {b : ℕ} → fits b a ≡ true → Left fits a (atomᴰ b) oneᴳ
+  left-none : {D : Clause} → Left fits a D zeroᴳ
+  left-recipe : {G H : Goal} {D : Clause} → Left fits a D H → Left fits a (lolliᴰ G D) (tensor H G)
+  left-menu : {G H : Goal} {D E : Clause} → Left fits a D G → Left fits a E H → Left fits a (withᴰ D E) (oplus G H)
 
-  matched-low : (b : Bool) → lowG K t (matched b) ≡ 0
-  unfolding matched lowG
-  matched-low true = refl
-  matched-low false = refl
-
-  matched-high : (b : Bool) → highG K t (matched b) ≡ 0
-  unfolding matched highG
-  matched-high true = refl
-  matched-high false = refl
-
-  residual-least : (D : Clause) → leastG K t (residual fits a D) ≡ leastD K t D
-  unfolding residual leastG leastD
-  residual-least (atomᴰ b) = matched-least (fits b a)
-  residual-least topᴰ = refl
-  residual-least (lolliᴰ G D) = ap (λ x. x + leastG K t G) (residual-least D)
-
-  residual-low : (D : Clause) → lowG K t (residual fits a D) ≡ lowD K t D
-  unfolding residual lowG lowD
-  residual-low (atomᴰ b) = matched-low (fits b a)
-  residual-low topᴰ = refl
-  residual-low (lolliᴰ G D) = ap (λ x. x + lowG K t G) (residual-low D)
-
-  residual-high : (D : Clause) → highG K t (residual fits a D) ≡ highD K t D
-  unfolding residual highG highD
-  residual-high (atomᴰ b) = matched-high (fits b a)
-  residual-high topᴰ = refl
-  residual-high (lolliᴰ G D) = ap (λ x. x + highG K t G) (residual-high D)
-
-module _ (P : Kin) (fits : Fits) (a : ℕ) where
-  matched-lends : (b : Bool) → LendsG P (matched b)
-  unfolding matched LendsG
-  matched-lends true = tt
-  matched-lends false = tt
-
-  pub residual-lends : (D : Clause) → LendsD P D → LendsG P (residual fits a D)
-  unfolding residual LendsG LendsD
-  residual-lends (atomᴰ b) h = matched-lends (fits b a)
-  residual-lends topᴰ h = tt
-  residual-lends (lolliᴰ G D) h = (residual-lends D (h .0), h .1)
+left-of : (fits : Fits) (a : ℕ) (D : Clause) → Left fits a D (residual fits a D)
+unfolding residual matched
+left-of fits a (atomᴰ b) = at (fits b a) refl
+  where
+    at : (c : Bool) → fits b a ≡ c → Left fits a (atomᴰ b) (matched c)
+    at true e = left-head e
+    at false e = left-none
+left-of fits a topᴰ = left-none
+left-of fits a (lolliᴰ G D) = left-recipe (left-of fits a D)
+left-of fits a (withᴰ D E) = left-menu (left-of fits a D) (left-of fits a E)
 
 -- Slack of both, of either
 either-false : (v w : Bool) → v ≡ false → w ≡ false → (v || w) ≡ false
@@ -200,33 +151,67 @@ keeps-⊸ K {es} D {a} {b} {c} {l} {U} {W} {v} s q x =
           (f .0, omega (arith, f .1, o .1));
     }
 
--- a rule stays; an item is one more
-keeps-rule : (K : Class) (t : Names) {es : Scope} {a : ℕ} {D : Clause} {g h k : ℕ} {e : ℕ} {l : List ℕ} {U : Items} {v : Bool}
-    → Settles K t a D false → g ≡ leastD K t D → h ≡ lowD K t D → k ≡ highD K t D
-    → Keeps K es g h k l U v → Keeps K es (t .least a) (t .low a) (t .high a) (e ∷ l) U v
-unfolding bit
-keeps-rule K t s p q r x =
-    let sl = s .least in let so = s .low in let xl = x .long in let xs = x .some in
+keeps-⊕ : (K : Class) {es : Scope} {a b c d e f x : ℕ} {l m : List ℕ} {U : Items} {v : Bool} → a ≤ d → b ≤ e → f ≤ c
+    → l ≡ x ∷ m → Keeps K es d e f m U v → Keeps K es (suc a) b c l U v
+keeps-⊕ K p q r g k =
+    let n = ap length g in
+    let kl = k .long in let ks = k .some in
     record {
       long = omega arith;
       some = omega arith;
-      few = λ h. let sh = s .high h in let xf = x .few (omega arith) in (xf .0, omega (arith, xf .1));
+      few = λ h. let kf = k .few (omega arith) in (kf .0, omega (arith, kf .1));
     }
 
-keeps-item : (K : Class) (t : Names) {es : Scope} {a : ℕ} {g h k : ℕ} {e : ℕ} {l : List ℕ} {U W : Items} {v : Bool}
-    → (D : Clause) → D ≡ clauseAt es e → e < size es → W e ≡ false → Plus U W e
-    → Settles K t a D true → g ≡ leastD K t D → h ≡ lowD K t D → k ≡ highD K t D
-    → Keeps K es g h k l W v → Keeps K es (t .least a) (t .low a) (t .high a) (e ∷ l) U v
-unfolding bit
-keeps-item K t {es} {e} D d i n u s p q r x =
+-- A list of what is left of a clause for the name a keeps to the name's bounds, after s steps and l to h items.
+record Within-bounds (K : Class) (t : Names) (es : Scope) (a s l h : ℕ) (m : List ℕ) (U : Items) (v : Bool) : Type 0 where
+  long : t .least a ≤ s + length m
+  some : t .low a ≤ l + count es K U
+  few : t .high a < 255 → (v ≡ false) × (h + count es K U ≤ t .high a)
+
+module _ (K : Class) (t : Names) {es : Scope} {a s l h : ℕ} where
+  way-head : {U : Items} → Empty U → TakesIn K t a s l h → Within-bounds K t es a s l h [] U false
+  way-head e k =
+      let z = count-none es K e in
+      let kl = k .least in let ks = k .low in
+      record { long = omega arith; some = omega arith; few = λ g. let f = k .high g in (refl, omega arith) }
+
+  way-⊗ : {x y z : ℕ} {m m₁ m₂ : List ℕ} {U U₁ U₂ : Items} {v v₁ v₂ : Bool}
+      → m ≡ m₁ ++ m₂ → Splits U U₁ U₂ → v ≡ (v₁ || v₂)
+      → Within-bounds K t es a (s + x) (l + y) (h + z) m₁ U₁ v₁ → Keeps K es x y z m₂ U₂ v₂ → Within-bounds K t es a s l h m U v
+  way-⊗ {m₁} {m₂} {v₁} {v₂} p d q w k =
+      let n = count-split es K d in
+      let o = ap length p ∙ length-append m₁ m₂ in
+      let wl = w .long in let kl = k .long in let ws = w .some in let ks = k .some in
+      record {
+        long = omega arith;
+        some = omega arith;
+        few = λ g.
+            let wf = w .few g in
+            let kf = k .few (omega (arith, wf .1)) in
+            (q ∙ either-false v₁ v₂ (wf .0) (kf .0), omega (arith, wf .1, kf .1));
+      }
+
+  way-⊕ : {x : ℕ} {m n : List ℕ} {U : Items} {v : Bool}
+      → m ≡ x ∷ n → Within-bounds K t es a (suc s) l h n U v → Within-bounds K t es a s l h m U v
+  way-⊕ p w =
+      let o = ap length p in
+      let wl = w .long in
+      record { long = omega arith; some = w .some; few = w .few }
+
+-- a rule stays; an item is one more
+keeps-rule : (K : Class) (t : Names) {es : Scope} {a e : ℕ} {l : List ℕ} {U : Items} {v : Bool}
+    → Within-bounds K t es a 1 0 0 l U v → Keeps K es (t .least a) (t .low a) (t .high a) (e ∷ l) U v
+keeps-rule K t w =
+    let wl = w .long in let ws = w .some in
+    record { long = omega arith; some = omega arith; few = λ h. let f = w .few h in (f .0, omega (arith, f .1)) }
+
+keeps-item : (K : Class) (t : Names) {es : Scope} {a e b : ℕ} {l : List ℕ} {U W : Items} {v : Bool}
+    → e < size es → W e ≡ false → Plus U W e → b ≡ bit (K (clauseAt es e)) → Within-bounds K t es a 1 b b l W v
+    → Keeps K es (t .least a) (t .low a) (t .high a) (e ∷ l) U v
+keeps-item K t {es} i n u p w =
     let c = count-plus es K i n u in
-    let b : bit (K (clauseAt es e)) ≡ bit (K D) = ap (λ z. bit (K z)) (sym d) in
-    let sl = s .least in let so = s .low in let xl = x .long in let xs = x .some in
-    record {
-      long = omega arith;
-      some = omega arith;
-      few = λ h. let sh = s .high h in let xf = x .few (omega arith) in (xf .0, omega (arith, xf .1));
-    }
+    let wl = w .long in let ws = w .some in
+    record { long = omega arith; some = omega arith; few = λ h. let f = w .few h in (f .0, omega (arith, f .1)) }
 
 -- The family grows by what is lent.
 module _ (P : Kin) (fits : Fits) where
@@ -244,38 +229,43 @@ module _ (P : Kin) (fits : Fits) where
     -- the clause at e, which is used for a
     record Used (es : Scope) (a e : ℕ) (b : Bool) : Type 0 where
       within : e < size es
-      settled : Settles K t a (clauseAt es e) b
-      lends : LendsG P (residualAt es a e)
+      settled : Settles K t (es .fits) a (clauseAt es e) b
+      lends : LendsD P (clauseAt es e)
 
     used : {n : ℕ} {es : Scope} {a e : ℕ} {l : List ℕ} {U : Items} {v : Bool} {b : Bool}
         → Scoped P fits es → linearAt es e ≡ b → Sum n es (residualAt es a e) l U v → Used es a e b
-    unfolding residualAt
     used {n} {es} {a} {e} {l} {U} {v} {b} s p x =
         let i = sum-in a e x in
         let k : P (clauseAt es e) b = subst (P (clauseAt es e)) p (s .kin e i) in
-        let f : usable fits a (clauseAt es e) ≡ true =
-        subst (λ (z : Fits). usable z a (clauseAt es e) ≡ true) (s .same-fits) (sum-usable (es .fits) a (clauseAt es e) x) in
         record {
           within = i;
-          settled = c .settles (clauseAt es e) b k a f;
-          lends = residual-lends P (es .fits) a (clauseAt es e) (c .lends (clauseAt es e) b k);
+          settled = subst (λ (z : Fits). Settles K t z a (clauseAt es e) b) (sym (s .same-fits)) (c .settles (clauseAt es e) b k a);
+          lends = c .lends (clauseAt es e) b k;
         }
 
-    pub keeps : {n : ℕ} {es : Scope} {G : Goal} {l : List ℕ} {U : Items} {v : Bool} → Scoped P fits es → LendsG P G → Sum n es G l U v
-        → Keeps K es (leastG K t G) (lowG K t G) (highG K t G) l U v
-    unfolding leastG lowG highG LendsG residualAt
-    keeps s h (sum-1 e) = keeps-none K e
-    keeps s h (sum-⊤ e) = keeps-top K e
-    keeps s h (sum-⊗ p d q x y) = keeps-⊗ K p d q (keeps s (h .0) x) (keeps s (h .1) y)
-    keeps s h (sum-& p j q g k x y) = keeps-& K p j q g k (keeps s (h .0) x) (keeps s (h .1) y)
-    keeps s h (sum-⊸ {D} d q x) = keeps-⊸ K D d q (keeps (scoped-lend D (h .0) s) (h .1) x)
-    keeps s h (sum-rule {es} {a} {e} r x) =
-        let u = used s r x in
-        let D = clauseAt es e in
-        keeps-rule K t (u .settled) (residual-least K t (es .fits) a D) (residual-low K t (es .fits) a D) (residual-high K t (es .fits) a D)
-        (keeps s (u .lends) x)
-    keeps s h (sum-item {es} {a} {e} r n p x) =
-        let u = used s r x in
-        let D = clauseAt es e in
-        keeps-item K t D refl (u .within) n p (u .settled) (residual-least K t (es .fits) a D) (residual-low K t (es .fits) a D)
-        (residual-high K t (es .fits) a D) (keeps s (u .lends) x)
+    mutual
+      unfolding leastG lowG highG LendsG LendsD Allows Settles residualAt bit
+
+      pub keeps : {n : ℕ} {es : Scope} {G : Goal} {l : List ℕ} {U : Items} {v : Bool} → Scoped P fits es → LendsG P G → Sum n es G l U v
+          → Keeps K es (leastG K t G) (lowG K t G) (highG K t G) l U v
+      keeps s h (sum-1 e) = keeps-none K e
+      keeps s h (sum-⊤ e) = keeps-top K e
+      keeps s h (sum-⊗ p d q x y) = keeps-⊗ K p d q (keeps s (h .0) x) (keeps s (h .1) y)
+      keeps s h (sum-& p j q g k x y) = keeps-& K p j q g k (keeps s (h .0) x) (keeps s (h .1) y)
+      keeps s h (sum-⊕₁ p x) = keeps-⊕ K (omega arith) (omega arith) (omega arith) p (keeps s (h .0) x)
+      keeps s h (sum-⊕₂ p x) = keeps-⊕ K (omega arith) (omega arith) (omega arith) p (keeps s (h .1) x)
+      keeps s h (sum-⊸ {D} d q x) = keeps-⊸ K D d q (keeps (scoped-lend D (h .0) s) (h .1) x)
+      keeps s h (sum-rule {es} {a} {e} r x) =
+          let u = used s r x in
+          keeps-rule K t (keeps-left s (u .lends) (u .settled) x (left-of (es .fits) a (clauseAt es e)))
+      keeps s h (sum-item {es} {a} {e} r n p x) =
+          let u = used s r x in
+          keeps-item K t (u .within) n p refl (keeps-left s (u .lends) (u .settled) x (left-of (es .fits) a (clauseAt es e)))
+
+      keeps-left : {n : ℕ} {es : Scope} {a : ℕ} {D : Clause} {G : Goal} {l : List ℕ} {U : Items} {v : Bool} {i j k : ℕ}
+          → Scoped P fits es → LendsD P D → Allows K t (es .fits) a D i j k → Sum n es G l U v → Left (es .fits) a D G
+          → Within-bounds K t es a i j k l U v
+      keeps-left s h w (sum-1 e) (left-head f) = way-head K t e (w f)
+      keeps-left s h w (sum-⊗ p d q x y) (left-recipe z) = way-⊗ K t p d q (keeps-left s (h .0) w x z) (keeps s (h .1) y)
+      keeps-left s h w (sum-⊕₁ p x) (left-menu y z) = way-⊕ K t p (keeps-left s (h .0) (w .0) x y)
+      keeps-left s h w (sum-⊕₂ p x) (left-menu y z) = way-⊕ K t p (keeps-left s (h .1) (w .1) x z)

@@ -2,28 +2,26 @@
 -- these allow every use of a clause of the card.
 use Prim.Native.Nat.{ℕ, zero, suc, max, min, _+_, _-_, _≤_, _<_}
 use native.Mathlib.Omega.{arith}
-use native.Mathlib.Decide.{decLe}
-use mathlib.Core.Path.{_≡_, refl, sym, ap, _∙_, subst}
-use mathlib.Core.Logic.{⊎-elim}
-use mathlib.Core.Bool.{Bool, true, false, cond, _&&_, false≢true}
+use native.Mathlib.Decide.{decLe, decLt}
+use mathlib.Core.Path.{_≡_, refl, sym, ap, ap₂, _∙_, subst}
+use mathlib.Core.Logic.{_⊎_, inl, inr, ⊎-elim}
+use mathlib.Core.Bool.{Bool, true, false, cond, _&&_, _||_, false≢true}
 use mathlib.Core.List.{List}
 use lib.Dec.{eqb, leb}
 use borrow.Author.Tests.{eqb-true, ne-eqb, leb-true}
-use Rattle.calculus.specs.Formula.{Goal, Clause, atomᴳ, topᴳ, oneᴳ, tensor, with, lolliᴳ, atomᴰ, topᴰ, lolliᴰ, usable}
+use Rattle.calculus.specs.Formula.{Goal, Clause, atomᴳ, topᴳ, oneᴳ, zeroᴳ, tensor, with, oplus, lolliᴳ, atomᴰ, topᴰ, lolliᴰ, withᴰ, usable}
 use Rattle.card.specs.Format.{nodeCount, kindAt, leftAt, rightAt}
 use Rattle.card.specs.Fault.{Sound, goalPart, clausePart}
 use Rattle.card.specs.Decode.{goalAt, clauseOf}
-use Rattle.card.proofs.NodesDecoded.{reads-name, reads-rest, reads-done}
+use Rattle.card.proofs.NodesDecoded.{reads-name, reads-rest, reads-done, reads-never}
 use Rattle.card.proofs.SoundNodes.{goal-lower, goal-kind, clause-lower, clause-kind, goal-above, clause-above, name-low, both-parts}
-use Rattle.card.proofs.SoundNodes.{either-parts}
-use Rattle.card.proofs.SoundNodes.{lend-parts, recipe-parts, sound-both, sound-either, sound-lend, sound-recipe, usable-name, usable-rest}
-use Rattle.card.proofs.SoundNodes.{usable-recipe}
-use Rattle.bounds.specs.Inner.Count.{bit}
-use Rattle.bounds.specs.Inner.Bound.{off, leastG, lowG, highG, leastD, lowD, highD, Settles, LendsG, LendsD, Closed}
-use Rattle.bounds.specs.Inner.Table.{headOf, takesIn, headAt, rowOf, classAt, classes, lowAt, highAt, leastAt, byKind, ifRecipe}
-use Rattle.bounds.specs.Inner.Table.{inClass, headStep}
-use Rattle.bounds.specs.Inner.Table.{leastStep, lowStep, highStep, leastUse, lowUse, highUse, NodeFits, NodeSettled}
-use Rattle.bounds.specs.Inner.Table.{Origin, lent, OfCard, Settled, namesOf, classOf}
+use Rattle.card.proofs.SoundNodes.{either-parts, one-of-parts, lend-parts, recipe-parts, menu-parts, sound-both, sound-either}
+use Rattle.card.proofs.SoundNodes.{sound-one-of, sound-lend, sound-recipe, sound-menu, usable-name, usable-rest, usable-recipe, usable-menu}
+use Rattle.bounds.specs.Inner.Count.{bit, Class}
+use Rattle.bounds.specs.Inner.Bound.{Names, off, leastG, lowG, highG, leastD, lowD, highD, TakesIn, Allows, Settles, LendsG, LendsD, Closed}
+use Rattle.bounds.specs.Inner.Table.{headOf, menuCode, takesIn, headAt, rowOf, classAt, classes, lowAt, highAt, leastAt, byKind}
+use Rattle.bounds.specs.Inner.Table.{ifRecipe, inClass, headStep, leastStep, lowStep, highStep, leastUse, lowUse, highUse}
+use Rattle.bounds.specs.Inner.Table.{NodeFits, HeadFits, WaysFit, NodeSettled, UseSettled, lent, OfCard, Settled, namesOf, classOf}
 use Rattle.bounds.proofs.GoalsBounded.{off-below}
 
 -- what is shown of a node: bounds of a goal or of conditions
@@ -52,7 +50,7 @@ no-recipe : (bs : List ℕ) (i : ℕ) → (kindAt bs i ≡ 7 → ⊥) → (v : �
 unfolding ifRecipe
 no-recipe bs i k v = rw (ne-eqb (kindAt bs i) 7 k) refl
 
--- a kind of goals
+-- the kinds of goals, one by one
 six : (k : ℕ) (A : Type 0) → 1 ≤ k → k ≤ 6 → (k ≡ 1 → A) → (k ≡ 2 → A) → (k ≡ 3 → A) → (k ≡ 4 → A) → (k ≡ 5 → A) → (k ≡ 6 → A) → A
 six zero A l h a b c d e f = absurd (omega arith)
 six (suc zero) A l h a b c d e f = a refl
@@ -63,12 +61,37 @@ six (suc (suc (suc (suc (suc zero))))) A l h a b c d e f = e refl
 six (suc (suc (suc (suc (suc (suc zero)))))) A l h a b c d e f = f refl
 six (suc (suc (suc (suc (suc (suc (suc k))))))) A l h a b c d e f = absurd (omega arith)
 
--- a clause that can be used for a name has it for its head
-usable-head : (a : ℕ) (D : Clause) → usable eqb a D ≡ true → headOf D ≡ a
-unfolding usable headOf
-usable-head a (atomᴰ b) h = eqb-true b a h
-usable-head a topᴰ h = absurd (false≢true h)
-usable-head a (lolliᴰ G D) h = usable-head a D h
+goal-kinds : (k : ℕ) (A : Type 0) → (1 ≤ k) × ((k ≤ 6) ⊎ ((k ≡ 8) ⊎ (k ≡ 9)))
+    → (k ≡ 1 → A) → (k ≡ 2 → A) → (k ≡ 3 → A) → (k ≡ 4 → A) → (k ≡ 5 → A) → (k ≡ 6 → A) → (k ≡ 8 → A) → (k ≡ 9 → A) → A
+goal-kinds k A g a b c d e f one-of never = ⊎-elim (λ h. six k A (g .0) h a b c d e f) (⊎-elim one-of never) (g .1)
+
+-- a clause without a menu that can be used for a name has it for its head
+usable-head : (a : ℕ) (D : Clause) → headOf D < 1002 → usable eqb a D ≡ true → headOf D ≡ a
+unfolding usable headOf menuCode
+usable-head a (atomᴰ b) m h = eqb-true b a h
+usable-head a topᴰ m h = absurd (false≢true h)
+usable-head a (lolliᴰ G D) m h = usable-head a D m h
+usable-head a (withᴰ D E) m h = absurd (omega arith)
+
+-- of a clause without a menu, the conditions up to its head
+one-head : (K : Class) (T : Names) (a : ℕ) (D : Clause) (u v w : ℕ) → headOf D < 1002
+    → (usable eqb a D ≡ true → TakesIn K T a (u + leastD K T D) (v + lowD K T D) (w + highD K T D)) → Allows K T eqb a D u v w
+unfolding Allows usable headOf menuCode leastD lowD highD
+one-head K T a (atomᴰ b) u v w m g =
+    λ e.
+    let x = g e in
+    record { least = omega (arith, x .least); low = omega (arith, x .low); high = λ h. omega (arith, x .high h) }
+one-head K T a topᴰ u v w m g = tt
+one-head K T a (lolliᴰ G D) u v w m g =
+    one-head K T a D (u + leastG K T G) (v + lowG K T G) (w + highG K T G) m
+    (λ e.
+    let x = g e in
+    record { least = omega (arith, x .least); low = omega (arith, x .low); high = λ h. omega (arith, x .high h) })
+one-head K T a (withᴰ D E) u v w m g = absurd (omega arith)
+
+either-true : (b c : Bool) → (b || c) ≡ true → (b ≡ true) ⊎ (c ≡ true)
+either-true true c h = inl refl
+either-true false c h = inr h
 
 -- the bounds at the node are bounds of the goal, of the clause's conditions
 abbrev pub GoalUnder : List ℕ → List ℕ → ℕ → ℕ → Goal → Type 0
@@ -83,6 +106,20 @@ ClauseUnder bs names t c j D =
     let T = namesOf names t c in
     Under (ifRecipe bs j (leastAt t j)) (ifRecipe bs j (lowAt t j c)) (ifRecipe bs j (highAt t j c))
     (leastD K T D) (lowD K T D) (highD K T D)
+
+-- the bounds of a head take in less
+head-takes : (bs names t : List ℕ) (c : ℕ) {a b u v w u′ v′ w′ : ℕ} → b ≡ a → u ≤ u′ → v ≤ v′ → (w < 255 → w′ ≤ w)
+    → HeadFits bs names t b c u v w → TakesIn (classOf names c) (namesOf names t c) a u′ v′ w′
+unfolding namesOf
+head-takes bs names t c {a} {b} e x y j f =
+    let lo : lowAt t (rowOf names b) c ≡ lowAt t (rowOf names a) c = ap (λ d. lowAt t (rowOf names d) c) e in
+    let hi : highAt t (rowOf names b) c ≡ highAt t (rowOf names a) c = ap (λ d. highAt t (rowOf names d) c) e in
+    let le : leastAt t (rowOf names b) ≡ leastAt t (rowOf names a) = ap (λ d. leastAt t (rowOf names d)) e in
+    record {
+      least = omega (arith, f .least);
+      low = omega (arith, f .low);
+      high = λ m. let g = f .high (omega arith) in omega (arith, j (omega arith));
+    }
 
 -- One node, from its parts
 module _ (bs names t : List ℕ) (c i : ℕ) (w : NodeSettled bs names t i) (f : NodeFits bs names t i c) where
@@ -107,6 +144,13 @@ module _ (bs names t : List ℕ) (c i : ℕ) (w : NodeSettled bs names t i) (f :
   done-under k =
       let a : leastStep bs names t i ≡ 0 = rw k refl in
       let b : lowStep bs names t i c ≡ 0 = rw k refl in
+      record { long = omega (arith, w .least); some = omega (arith, f .low); few = λ h. omega arith }
+
+  never-under : kindAt bs i ≡ 9 → GoalUnder names t c i zeroᴳ
+  unfolding leastStep lowStep highStep byKind leastG lowG highG
+  never-under k =
+      let a : leastStep bs names t i ≡ 255 = rw k refl in
+      let b : lowStep bs names t i c ≡ 255 = rw k refl in
       record { long = omega (arith, w .least); some = omega (arith, f .low); few = λ h. omega arith }
 
   module _ (G H : Goal) (x : GoalUnder names t c (leftAt bs i) G) (y : GoalUnder names t c (rightAt bs i) H) where
@@ -139,6 +183,18 @@ module _ (bs names t : List ℕ) (c i : ℕ) (w : NodeSettled bs names t i) (f :
             → min (highG (classOf names c) (namesOf names t c) G) (highG (classOf names c) (namesOf names t c) H) ≤ highAt t i c
         at h (yes q) g = omega (arith, x .few (omega arith))
         at h (no q) g = omega (arith, y .few (omega arith))
+
+    one-of-under : kindAt bs i ≡ 8 → GoalUnder names t c i (oplus G H)
+    unfolding leastStep lowStep highStep byKind leastG lowG highG
+    one-of-under k =
+        let a : leastStep bs names t i ≡ suc (min (leastAt t (leftAt bs i)) (leastAt t (rightAt bs i))) = rw k refl in
+        let b : lowStep bs names t i c ≡ min (lowAt t (leftAt bs i) c) (lowAt t (rightAt bs i) c) = rw k refl in
+        let d : highStep bs names t i c ≡ max (highAt t (leftAt bs i) c) (highAt t (rightAt bs i) c) = rw k refl in
+        record {
+          long = omega (arith, w .least, x .long, y .long);
+          some = omega (arith, f .low, x .some, y .some);
+          few = λ h. let g = f .high h in omega (arith, x .few (omega arith), y .few (omega arith));
+        }
 
   module _ (D : Clause) (G : Goal) (e : headAt names (leftAt bs i) ≡ headOf D) (y : GoalUnder names t c (rightAt bs i) G) where
     lend-under : kindAt bs i ≡ 6 → GoalUnder names t c i (lolliᴳ D G)
@@ -182,18 +238,20 @@ module _ {bs names t masks : List ℕ} (s : Sound bs) (z : Settled bs names t ma
   unfolding headStep byKind headOf
   head-at zero i h p = absurd (omega arith)
   head-at (suc n) i h p =
+      let low : i < N = clause-lower bs N i p in
+      let part : (j : ℕ) → clausePart bs i j ≡ true → headAt names j ≡ headOf (clauseOf bs j) =
+      λ j g. head-at n j (omega (arith, clause-lower bs i j g)) (clause-above bs i j N (omega (arith, low)) g) in
+      let own = z .nodes i low .head in
       ⊎-elim
-      (λ k. z .nodes i low .head ∙ (rw k refl) ∙ sym (ap headOf (reads-name bs i k .1)))
+      (λ k. own ∙ (rw k refl) ∙ sym (ap headOf (reads-name bs i k .1)))
       (⊎-elim
-      (λ k. z .nodes i low .head ∙ (rw k refl) ∙ sym (ap headOf (reads-rest bs i k .1)))
-      (λ k. z .nodes i low .head ∙ (rw k refl)
-      ∙ head-at n (rightAt bs i) (omega (arith, clause-lower bs i (rightAt bs i) (recipe-parts s i low k .1)))
-      (clause-above bs i (rightAt bs i) N (omega (arith, low)) (recipe-parts s i low k .1))
-      ∙ sym (ap headOf (sound-recipe s i low k))))
+      (λ k. own ∙ (rw k refl) ∙ sym (ap headOf (reads-rest bs i k .1)))
+      (⊎-elim
+      (λ k. own ∙ (rw k refl) ∙ part (rightAt bs i) (recipe-parts s i low k .1) ∙ sym (ap headOf (sound-recipe s i low k)))
+      (λ k.
+      let g = menu-parts s i low k in
+      own ∙ (rw k refl) ∙ ap₂ menuCode (part (leftAt bs i) (g .0)) (part (rightAt bs i) (g .1)) ∙ sym (ap headOf (sound-menu s i low k)))))
       (clause-kind bs N i p)
-    where
-      low : i < N
-      low = clause-lower bs N i p
 
   module _ (c : ℕ) (q : c < classes names) where
     pub goal-under : (n i : ℕ) → i < n → goalPart bs N i ≡ true → GoalUnder names t c i (goalAt bs i)
@@ -204,7 +262,7 @@ module _ {bs names t masks : List ℕ} (s : Sound bs) (z : Settled bs names t ma
         let f = w .class c q in
         let part : (j : ℕ) → goalPart bs i j ≡ true → GoalUnder names t c j (goalAt bs j) =
         λ j g. goal-under n j (omega (arith, goal-lower bs i j g)) (goal-above bs i j N (omega (arith, low)) g) in
-        six (kindAt bs i) (GoalUnder names t c i (goalAt bs i)) (goal-kind bs N i p .0) (goal-kind bs N i p .1)
+        goal-kinds (kindAt bs i) (GoalUnder names t c i (goalAt bs i)) (goal-kind bs N i p)
         (λ k. rw (reads-name bs i k .0) (name-under bs names t c i w f k))
         (λ k. rw (reads-rest bs i k .0) (rest-under bs names t c i w f k))
         (λ k. rw (reads-done bs i k) (done-under bs names t c i w f k))
@@ -221,6 +279,10 @@ module _ {bs names t masks : List ℕ} (s : Sound bs) (z : Settled bs names t ma
         (lend-under bs names t c i w f _ _
         (head-at (suc (leftAt bs i)) (leftAt bs i) (omega arith) (clause-above bs i (leftAt bs i) N (omega (arith, low)) (g .0)))
         (part (rightAt bs i) (g .1)) k))
+        (λ k.
+        let g = one-of-parts s i low k in
+        rw (sound-one-of s i low k) (one-of-under bs names t c i w f _ _ (part (leftAt bs i) (g .0)) (part (rightAt bs i) (g .1)) k))
+        (λ k. rw (reads-never bs i k) (never-under bs names t c i w f k))
 
     clause-under : (n i : ℕ) → i < n → clausePart bs N i ≡ true → ClauseUnder bs names t c i (clauseOf bs i)
     unfolding leastD lowD highD
@@ -233,13 +295,15 @@ module _ {bs names t masks : List ℕ} (s : Sound bs) (z : Settled bs names t ma
         (λ k. rw (reads-name bs i k .1) (plain i (λ m. omega arith)))
         (⊎-elim
         (λ k. rw (reads-rest bs i k .1) (plain i (λ m. omega arith)))
+        (⊎-elim
         (λ k.
         let g = recipe-parts s i low k in
         let r = clause-lower bs i (rightAt bs i) (g .1) in
         rw (sound-recipe s i low k)
         (recipe-under bs names t c i w f (goalAt bs (leftAt bs i)) (clauseOf bs (rightAt bs i))
         (goal-under (suc (leftAt bs i)) (leftAt bs i) (omega arith) (goal-above bs i (leftAt bs i) N (omega (arith, low)) (g .0)))
-        (clause-under n (rightAt bs i) (omega arith) (clause-above bs i (rightAt bs i) N (omega (arith, low)) (g .1))) k)))
+        (clause-under n (rightAt bs i) (omega arith) (clause-above bs i (rightAt bs i) N (omega (arith, low)) (g .1))) k))
+        (λ k. rw (sound-menu s i low k) (plain i (λ m. omega arith)))))
         (clause-kind bs N i p)
       where
         plain : (i : ℕ) → (kindAt bs i ≡ 7 → ⊥)
@@ -250,6 +314,38 @@ module _ {bs names t masks : List ℕ} (s : Sound bs) (z : Settled bs names t ma
           few = λ h. omega arith;
         }
 
+    -- every way to a head of a clause, by the table and by the bounds of its conditions
+    ways-allow : (a n i : ℕ) → i < n → clausePart bs N i ≡ true → (u v w u′ v′ w′ : ℕ) → u ≤ u′ → v ≤ v′ → (w < 255 → w′ ≤ w)
+        → WaysFit bs names t (clauseOf bs i) i c u v w
+        → Allows (classOf names c) (namesOf names t c) eqb a (clauseOf bs i) u′ v′ w′
+    unfolding WaysFit Allows
+    ways-allow a zero i h p u v w u′ v′ w′ x y j = absurd (omega arith)
+    ways-allow a (suc n) i h p u v w u′ v′ w′ x y j =
+        let low : i < N = clause-lower bs N i p in
+        let part : (k : ℕ) → clausePart bs i k ≡ true → (u v w u′ v′ w′ : ℕ) → u ≤ u′ → v ≤ v′ → (w < 255 → w′ ≤ w)
+        → WaysFit bs names t (clauseOf bs k) k c u v w → Allows (classOf names c) (namesOf names t c) eqb a (clauseOf bs k) u′ v′ w′ =
+        λ k g. ways-allow a n k (omega (arith, clause-lower bs i k g)) (clause-above bs i k N (omega (arith, low)) g) in
+        ⊎-elim
+        (λ k. rw (reads-name bs i k .1) (λ f e. head-takes bs names t c (eqb-true (leftAt bs i) a e) x y j f))
+        (⊎-elim
+        (λ k. rw (reads-rest bs i k .1) (λ f. tt))
+        (⊎-elim
+        (λ k.
+        let g = recipe-parts s i low k in
+        let r =
+        goal-under (suc (leftAt bs i)) (leftAt bs i) (omega arith) (goal-above bs i (leftAt bs i) N (omega (arith, low)) (g .0)) in
+        rw (sound-recipe s i low k)
+        (part (rightAt bs i) (g .1) _ _ _ _ _ _ (omega (arith, r .long)) (omega (arith, r .some))
+        (λ m. omega (arith, j (omega arith), r .few (omega arith)))))
+        (λ k.
+        let g = menu-parts s i low k in
+        rw (sound-menu s i low k)
+        (λ f. (
+          part (leftAt bs i) (g .0) _ _ _ _ _ _ (omega arith) y j (f .0),
+          part (rightAt bs i) (g .1) _ _ _ _ _ _ (omega arith) y j (f .1),
+        )))))
+        (clause-kind bs N i p)
+
   -- what goals and conditions of the card lend is of the card
   pub goal-lends : (n i : ℕ) → i < n → goalPart bs N i ≡ true → LendsG (OfCard bs) (goalAt bs i)
   unfolding LendsG
@@ -258,7 +354,7 @@ module _ {bs names t masks : List ℕ} (s : Sound bs) (z : Settled bs names t ma
       let low : i < N = goal-lower bs N i p in
       let part : (j : ℕ) → goalPart bs i j ≡ true → LendsG (OfCard bs) (goalAt bs j) =
       λ j g. goal-lends n j (omega (arith, goal-lower bs i j g)) (goal-above bs i j N (omega (arith, low)) g) in
-      six (kindAt bs i) (LendsG (OfCard bs) (goalAt bs i)) (goal-kind bs N i p .0) (goal-kind bs N i p .1)
+      goal-kinds (kindAt bs i) (LendsG (OfCard bs) (goalAt bs i)) (goal-kind bs N i p)
       (λ k. rw (reads-name bs i k .0) tt)
       (λ k. rw (reads-rest bs i k .0) tt)
       (λ k. rw (reads-done bs i k) tt)
@@ -275,23 +371,28 @@ module _ {bs names t masks : List ℕ} (s : Sound bs) (z : Settled bs names t ma
         },
         part (rightAt bs i) (g .1),
       ))
+      (λ k. let g = one-of-parts s i low k in rw (sound-one-of s i low k) (part (leftAt bs i) (g .0), part (rightAt bs i) (g .1)))
+      (λ k. rw (reads-never bs i k) tt)
 
   clause-lends : (n i : ℕ) → i < n → clausePart bs N i ≡ true → LendsD (OfCard bs) (clauseOf bs i)
   unfolding LendsD
   clause-lends zero i h p = absurd (omega arith)
   clause-lends (suc n) i h p =
       let low : i < N = clause-lower bs N i p in
+      let part : (j : ℕ) → clausePart bs i j ≡ true → LendsD (OfCard bs) (clauseOf bs j) =
+      λ j g. clause-lends n j (omega (arith, clause-lower bs i j g)) (clause-above bs i j N (omega (arith, low)) g) in
       ⊎-elim
       (λ k. rw (reads-name bs i k .1) tt)
       (⊎-elim
       (λ k. rw (reads-rest bs i k .1) tt)
+      (⊎-elim
       (λ k.
       let g = recipe-parts s i low k in
-      let r = clause-lower bs i (rightAt bs i) (g .1) in
       rw (sound-recipe s i low k) (
-        clause-lends n (rightAt bs i) (omega arith) (clause-above bs i (rightAt bs i) N (omega (arith, low)) (g .1)),
+        part (rightAt bs i) (g .1),
         goal-lends (suc (leftAt bs i)) (leftAt bs i) (omega arith) (goal-above bs i (leftAt bs i) N (omega (arith, low)) (g .0)),
-      )))
+      ))
+      (λ k. let g = menu-parts s i low k in rw (sound-menu s i low k) (part (leftAt bs i) (g .0), part (rightAt bs i) (g .1)))))
       (clause-kind bs N i p)
 
   -- heads of the clauses of the card
@@ -303,24 +404,28 @@ module _ {bs names t masks : List ℕ} (s : Sound bs) (z : Settled bs names t ma
   usable-low zero i h p a u = absurd (omega arith)
   usable-low (suc n) i h p a u =
       let low : i < N = clause-lower bs N i p in
+      let part : (j : ℕ) → clausePart bs i j ≡ true → usable eqb a (clauseOf bs j) ≡ true → a < 1000 =
+      λ j g. usable-low n j (omega (arith, clause-lower bs i j g)) (clause-above bs i j N (omega (arith, low)) g) a in
       ⊎-elim
       (λ k. omega (arith, eqb-true (leftAt bs i) a (sym (usable-name bs i k eqb a) ∙ u), name-low s i low k))
       (⊎-elim
       (λ k. absurd (false≢true (sym (usable-rest bs i k eqb a) ∙ u)))
+      (⊎-elim
+      (λ k. part (rightAt bs i) (recipe-parts s i low k .1) (sym (usable-recipe s i low k eqb a) ∙ u))
       (λ k.
-      let g = recipe-parts s i low k in
-      let r = clause-lower bs i (rightAt bs i) (g .1) in
-      usable-low n (rightAt bs i) (omega arith) (clause-above bs i (rightAt bs i) N (omega (arith, low)) (g .1)) a
-      (sym (usable-recipe s i low k eqb a) ∙ u)))
+      let g = menu-parts s i low k in
+      ⊎-elim (part (leftAt bs i) (g .0)) (part (rightAt bs i) (g .1)) (either-true _ _ (sym (usable-menu s i low k eqb a) ∙ u)))))
       (clause-kind bs N i p)
 
-  use-settles : (c : ℕ) → c < classes names → (i : ℕ) (b : Bool) → clausePart bs N i ≡ true → Origin bs i b → (a : ℕ)
-      → usable eqb a (clauseOf bs i) ≡ true → Settles (classOf names c) (namesOf names t c) a (clauseOf bs i) b
+  -- the use of a clause without a menu
+  one-settles : (c : ℕ) → c < classes names → (i : ℕ) (b : Bool) → clausePart bs N i ≡ true → UseSettled bs names t i b → (a : ℕ)
+      → headOf (clauseOf bs i) < 1002 → usable eqb a (clauseOf bs i) ≡ true
+      → (let K = classOf names c in let T = namesOf names t c in let D = clauseOf bs i in
+      TakesIn K T a (1 + leastD K T D) (bit (b && K D) + lowD K T D) (bit (b && K D) + highD K T D))
   unfolding namesOf classOf leastUse lowUse highUse inClass
-  use-settles c q i b p o a u =
-      let e : headAt names i ≡ a = head-is i p ∙ usable-head a (clauseOf bs i) u in
+  one-settles c q i b p x a j u =
+      let e : headAt names i ≡ a = head-is i p ∙ usable-head a (clauseOf bs i) j u in
       let l : headAt names i < 1000 = omega (arith, usable-low (suc i) i (omega arith) p a u) in
-      let x = z .uses i b o in
       let f = x .class l c q in
       let y = clause-under c q (suc i) i (omega arith) p in
       let k = classAt names c in
@@ -335,11 +440,25 @@ module _ {bs names t masks : List ℕ} (s : Sound bs) (z : Settled bs names t ma
         high = λ h. let g = f .high (omega arith) in omega (arith, y .few (omega arith));
       }
 
+  use-settles : (c : ℕ) → c < classes names → (i : ℕ) (b : Bool) → clausePart bs N i ≡ true → UseSettled bs names t i b → (a : ℕ)
+      → Settles (classOf names c) (namesOf names t c) eqb a (clauseOf bs i) b
+  unfolding Settles classOf inClass
+  use-settles c q i b p x a = at (decLt (headOf (clauseOf bs i)) 1002)
+    where
+      at : Dec (headOf (clauseOf bs i) < 1002) → Settles (classOf names c) (namesOf names t c) eqb a (clauseOf bs i) b
+      at (yes j) = one-head (classOf names c) (namesOf names t c) a (clauseOf bs i) 1 _ _ j (one-settles c q i b p x a j)
+      at (no j) =
+          let e = head-is i p in
+          let m : bit (b && takesIn (classAt names c) (headAt names i)) ≡ bit (b && takesIn (classAt names c) (headOf (clauseOf bs i))) =
+          ap (λ d. bit (b && takesIn (classAt names c) d)) e in
+          ways-allow c q a (suc i) i (omega arith) p 1 _ _ 1 _ _ (omega arith) (omega arith) (λ h. omega arith)
+          (x .menu (omega arith) c q)
+
   -- THEOREM. The bounds of names allow every use of a clause of the card.
   pub closed : (c : ℕ) → c < classes names → Closed (OfCard bs) eqb (classOf names c) (namesOf names t c)
   closed c q = record {
-    settles = λ D b o a u.
-        subst (λ (E : Clause). Settles (classOf names c) (namesOf names t c) a E b) (o .reads)
-        (use-settles c q (o .node) b (o .here) (o .origin) a (subst (λ (E : Clause). usable eqb a E ≡ true) (sym (o .reads)) u));
+    settles = λ D b o a.
+        subst (λ (E : Clause). Settles (classOf names c) (namesOf names t c) eqb a E b) (o .reads)
+        (use-settles c q (o .node) b (o .here) (z .uses (o .node) b (o .origin)) a);
     lends = λ D b o. subst (LendsD (OfCard bs)) (o .reads) (clause-lends (suc (o .node)) (o .node) (omega arith) (o .here));
   }

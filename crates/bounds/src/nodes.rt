@@ -40,7 +40,7 @@ pub fn name_at(card: &[u8], i: usize) -> usize
 pub fn left_part(card: &[u8], i: usize) -> usize
     requires { ⌜ Sound (now card) ⌝ }
     requires { ⌜ Node (now card) i ⌝ }
-    requires { ⌜ 3 < kindAt (now card) i ⌝ }
+    requires { ⌜ (3 < kindAt (now card) i) × (kindAt (now card) i ≡ 9 → ⊥) ⌝ }
     ensures { λ r. ⌜ (r ≡ leftAt (now (card .entry)) i) × Node (now (card .entry)) r ⌝ }
 {
     left(card, i)
@@ -49,7 +49,7 @@ pub fn left_part(card: &[u8], i: usize) -> usize
 pub fn right_part(card: &[u8], i: usize) -> usize
     requires { ⌜ Sound (now card) ⌝ }
     requires { ⌜ Node (now card) i ⌝ }
-    requires { ⌜ 3 < kindAt (now card) i ⌝ }
+    requires { ⌜ (3 < kindAt (now card) i) × (kindAt (now card) i ≡ 9 → ⊥) ⌝ }
     ensures { λ r. ⌜ (r ≡ rightAt (now (card .entry)) i) × Node (now (card .entry)) r ⌝ }
 {
     right(card, i)

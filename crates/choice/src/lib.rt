@@ -73,14 +73,7 @@ pub fn usable(
 }
 
 // The same where the heads of the entry are those of a menu.
-fn on_menu(
-    card: &[u8],
-    waits: &[u64; 64],
-    b: Branch,
-    name: usize,
-    menu: usize,
-    e: usize,
-) -> bool
+fn on_menu(card: &[u8], waits: &[u64; 64], b: Branch, name: usize, menu: usize, e: usize) -> bool
     requires { ⌜ Sound (now card) × (length (now waits) ≡ 64) ⌝ }
     requires { ⌜ clausePart (now card) (nodeCount (now card)) menu ≡ true ⌝ }
     ensures { λ r. ⌜ (let bs = now (card .entry) in

@@ -46,6 +46,8 @@ use Rattle.moves.specs.Inner.Moves.{sideAt, shutBy}
 use Rattle.engine.specs.Inner.Engine.{placeOf, Ready, partGoal, PartGood, PartReady, choiceKind, ChoiceReady, Choosing, Siding}
 use Rattle.engine.specs.Inner.Engine.{Solves, Told, Searches, Entering}
 use Rattle.engine.proofs.PlacesMove.{run-cons, written, given-past, from-here, given-step}
+use Rattle.engine.proofs.NumbersFall.{most, fewest, step-fewest}
+use Rattle.engine.proofs.EntersTell.{shut-told}
 use Rattle.engine.proofs.NamesTell.{noF, no-floor, next-past, kept-scope, keeps-not, keeps-so}
 
 -- Sides
@@ -463,3 +465,95 @@ module _ {bs waits codes tape₀ nodes₀ heads₀ : List ℕ} {f : Floor} {b : 
             (side-none R F (S .tape-kept) (S .node-kept) (S .head-kept) room rightChoice l kept-tape (rw q at T))))
             (λ m U v z. choice-right (eligible bs) (left-shut stuck) (always rightChoice (inr refl)) chosen-room on z)
             tape-on node-on head-on))
+
+-- What a side tells
+
+module _ {bs waits codes tape nodes heads : List ℕ} {f : Floor} {b : Branch} (R : Ready bs waits tape nodes heads f b) {meets : Bool}
+    {node name n : ℕ} (C : ChoiceReady bs codes meets node name n b) {c : ℕ} (ch : Choosing c b) where
+  pub choice-byte : c < 256
+  choice-byte = ⊎-elim (λ e. omega (arith, e)) (λ e. omega (arith, e)) (ch .choice)
+
+  pub choice-tape : b .at < 255
+  choice-tape = let r = ch .room in let l = R .limit in omega arith
+
+  -- it is below the least step to be taken
+  pub side-under : {first : ℕ} → c < first → Siding bs codes meets node name n c first f b tape tape nodes nodes heads heads Stuck
+  side-under h = record {
+    tape-kept = kept-self (b .at) tape;
+    node-kept = kept-self (b .count) nodes;
+    head-kept = kept-self (b .count) heads;
+    below = λ k. (refl, refl);
+    past = λ k. absurd (omega arith);
+  }
+
+  written-kept : Kept (b .at) tape (set tape (b .at) c)
+  written-kept = kept-set (b .at) (b .at) tape c (let h : b .at ≤ b .at = omega arith in h)
+
+  module _ {first : ℕ} (l : first ≤ c) {part : ℕ} (e : part ≡ sideAt bs node c) where
+    abbrev same₁ : Bool
+    same₁ = keepsBy f (b .at) first c
+
+    abbrev g₁ : Floor
+    g₁ = pastF f same₁
+
+    -- what is told past the choice
+    side-of : {tape′ nodes′ heads′ : List ℕ} {r s : Answer} → r ≡ followed same₁ s → Kept (b .at) tape tape′
+        → Searches bs (task (partGoal bs meets name part) n ∷ agendaOf bs codes (b .len)) g₁ (choseB b) (set tape (b .at) c) tape′
+        nodes nodes′ heads heads′ s
+        → Siding bs codes meets node name n c first f b tape tape′ nodes nodes′ heads heads′ r
+    side-of {s = s} q t S = record {
+      tape-kept = t;
+      node-kept = S .node-kept;
+      head-kept = S .head-kept;
+      below = λ k. absurd (omega arith);
+      past = λ k. (s, q, rw (← e) S);
+    }
+
+    -- the side is shut
+    pub side-shut : shutBy bs meets name part ≡ true
+        → Siding bs codes meets node name n c first f b tape (set tape (b .at) c) nodes nodes heads heads Stuck
+    unfolding followed
+    side-shut h =
+        side-of refl written-kept
+        (shut-told bs meets name part n (agendaOf bs codes (b .len)) g₁ (choseB b) (set tape (b .at) c) nodes heads h)
+
+    module _ (g : Floor) (same : Bool) (es : same ≡ same₁) (eg : g ≡ pastF f same) (b₂ : Branch) (eb : b₂ ≡ choseB b) where
+      floor-low : (k : Bool) → (pastF f k .fixed ≤ 255) × (pastF f k .from ≤ 256)
+      unfolding pastF
+      floor-low true = (R .fixed, R .from)
+      floor-low false = (omega arith, omega arith)
+
+      pub side-call : shutBy bs meets name part ≡ false → (t : ℕ) → 8 * fewest b + 4 ≡ t
+          → (8 * most b₂ + 3 < t) × (Ready bs waits (set tape (b .at) c) nodes heads g b₂ × PartReady bs codes meets part name n b₂)
+      side-call h t q = (
+        let m = step-fewest b (choseB b) refl refl (ch .room) in rw eb (omega arith),
+        (
+          chosen-ready R c ch g (rw eg (floor-low same .0)) (rw eg (floor-low same .1)) b₂ eb,
+          side-ready (R .sound) C c part (ch .choice) e h b₂ eb,
+        ),
+      )
+
+      module _ {tape′ nodes′ heads′ : List ℕ} {r : Answer}
+          (S : Entering bs codes meets part name n g b₂ (set tape (b .at) c) tape′ nodes nodes′ heads heads′ r) where
+        entered : Searches bs (task (partGoal bs meets name part) n ∷ agendaOf bs codes (b .len)) g₁ (choseB b) (set tape (b .at) c) tape′
+            nodes nodes′ heads heads′ r
+        entered =
+            subst (λ k. Searches bs (task (partGoal bs meets name part) n ∷ agendaOf bs codes (b .len)) k (choseB b) (set tape (b .at) c) tape′
+            nodes nodes′ heads heads′ r) (eg ∙ ap (pastF f) es)
+            (subst (λ d. Searches bs (task (partGoal bs meets name part) n ∷ agendaOf bs codes (d .len)) g d (set tape (b .at) c) tape′
+            nodes nodes′ heads heads′ r) eb S)
+
+        entered-tape : Kept (b .at) tape tape′
+        entered-tape = kept-trans (let h : b .at ≤ b .at + 1 = omega arith in h) written-kept (entered .tape-kept)
+
+        -- it finds no way
+        pub side-unsolved : (r ≡ Stuck) ⊎ (r ≡ Tired) → Siding bs codes meets node name n c first f b tape tape′ nodes nodes′ heads heads′ r
+        unfolding followed
+        side-unsolved (inl q) = side-of (q ∙ ap (followed same₁) (sym q)) entered-tape entered
+        side-unsolved (inr q) = side-of (q ∙ ap (followed same₁) (sym q)) entered-tape entered
+
+        -- it finds one
+        pub side-solved : (w u : Way) → r ≡ Solved w → u ≡ followingW w same
+            → Siding bs codes meets node name n c first f b tape tape′ nodes nodes′ heads heads′ (Solved u)
+        unfolding followed
+        side-solved w u q eu = side-of (ap Solved (eu ∙ ap (followingW w) es) ∙ ap (followed same₁) (sym q)) entered-tape entered

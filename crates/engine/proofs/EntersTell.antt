@@ -32,7 +32,7 @@ use Rattle.segment.specs.Inner.Tasks.{taskOf, nodeOf, nestOf, agendaOf, Laid, P
 use Rattle.segment.proofs.TasksAreAgendas.{agenda-next, agenda-put, task-code, fit-code, laid-put, laid-less, laid-short, nest-low}
 use Rattle.segment.proofs.TurnsTell.{total-pos}
 use Rattle.moves.specs.Inner.Moves.{shutBy}
-use Rattle.engine.specs.Inner.Engine.{placeOf, Ready, OpenNext, topNode, topNest, partGoal, PartGood, PartReady, choiceKind, ChoiceReady}
+use Rattle.engine.specs.Inner.Engine.{placeOf, Ready, OneOfNext, topNode, topNest, partGoal, PartGood, PartReady, choiceKind, ChoiceReady}
 use Rattle.engine.specs.Inner.Engine.{Told, Searches, Solving, Entering}
 use Rattle.engine.proofs.NumbersFall.{number, most, fewest, under-most}
 
@@ -264,10 +264,10 @@ shut-told bs true name part n A f b tape nodes heads h = record {
 -- ⊕ or 0 comes next
 
 module _ {bs waits tape nodes heads codes : List ℕ} {f : Floor} {b : Branch} (R : Ready bs waits tape nodes heads f b)
-    (O : OpenNext bs codes b) where
-  open-task : agendaOf bs codes (b .len) ≡ task (goalAt bs (topNode codes b)) (topNest codes b) ∷ agendaOf bs codes (b .len - 1)
+    (O : OneOfNext bs codes b) where
+  one-of-task : agendaOf bs codes (b .len) ≡ task (goalAt bs (topNode codes b)) (topNest codes b) ∷ agendaOf bs codes (b .len - 1)
   unfolding taskOf
-  open-task = agenda-next bs codes (b .len) (O .some)
+  one-of-task = agenda-next bs codes (b .len) (O .some)
 
   -- 0 is not derived
   module _ (goal : ℕ) (eg : goal ≡ topNode codes b) where
@@ -275,7 +275,7 @@ module _ {bs waits tape nodes heads codes : List ℕ} {f : Floor} {b : Branch} (
     unfolding Told
     never-told k =
         let z : goalAt bs (topNode codes b) ≡ zeroᴳ = reads-never bs (topNode codes b) (ap (kindAt bs) (sym eg) ∙ k) in
-        let e = open-task ∙ ap (λ G. task G (topNest codes b) ∷ agendaOf bs codes (b .len - 1)) z in
+        let e = one-of-task ∙ ap (λ G. task G (topNest codes b) ∷ agendaOf bs codes (b .len - 1)) z in
         record {
           told = subst (λ A. None (eligible bs) (scopeIn bs nodes (b .count)) A (placeOf (ruleCount bs) f b tape)) (sym e)
               (record { none = λ l U v s. reads-0 (s .reads) });
@@ -291,27 +291,27 @@ module _ {bs waits tape nodes heads codes : List ℕ} {f : Floor} {b : Branch} (
           ⊎-elim (λ h. absurd (omega (arith, h, O .kind))) (⊎-elim (λ h. h) (λ h. absurd (k (ap (kindAt bs) eg ∙ h))))
           (goal-kind bs (nodeCount bs) (topNode codes b) (f .goal-node) .1)
 
-      pub open-call : (t : ℕ) → 8 * number bs codes b + 5 ≡ t
+      pub one-of-call : (t : ℕ) → 8 * number bs codes b + 5 ≡ t
           → (8 * fewest b₂ + 5 < t) × (Ready bs waits tape nodes heads f b₂ × ChoiceReady bs codes false goal 0 n b₂)
       unfolding PartGood choiceKind
-      open-call t q = rw (eb, eg, en) (
+      one-of-call t q = rw (eb, eg, en) (
         let m = total-pos bs codes (b .len) (O .some) in omega arith,
         (
           ready-sized (b .len - 1) R,
           let fit = O .laid .fits (b .len - 1) (let s = O .some in omega arith) in
-          record {
-            laid = laid-less (O .laid);
-            nested = nest-low (getD codes (b .len - 1) 0);
-            good = (fit .goal-node, fit .stacked, fit .deep);
-            kind = one-of-kind;
-          },
+              record {
+                laid = laid-less (O .laid);
+                nested = nest-low (getD codes (b .len - 1) 0);
+                good = (fit .goal-node, fit .stacked, fit .deep);
+                kind = one-of-kind;
+              },
         ),
       )
 
-      pub open-told : {tape′ nodes′ heads′ : List ℕ} {r : Answer}
+      pub one-of-told : {tape′ nodes′ heads′ : List ℕ} {r : Answer}
           → Entering bs codes false goal 0 n f b₂ tape tape′ nodes nodes′ heads heads′ r
           → Solving bs codes f b tape tape′ nodes nodes′ heads heads′ r
       unfolding partGoal
-      open-told {tape′} {nodes′} {heads′} {r} S =
-          subst (λ A. Searches bs A f b tape tape′ nodes nodes′ heads heads′ r) (sym open-task)
+      one-of-told {tape′} {nodes′} {heads′} {r} S =
+          subst (λ A. Searches bs A f b tape tape′ nodes nodes′ heads heads′ r) (sym one-of-task)
           (searched-sized (b .len - 1) (rw (eb, eg, en) at S))

@@ -4,8 +4,8 @@ pub mod NumbersFall
 pub mod AgendasUnwind
 pub mod WaysSaid
 pub mod NamesTell
-pub mod ChoicesTell
 pub mod EntersTell
+pub mod ChoicesTell
 pub mod RaisesEnd
 pub mod TurnsRaise
 pub mod PartsTell

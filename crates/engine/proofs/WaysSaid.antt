@@ -42,6 +42,14 @@ unsolved IsSolved (inr k) ws = absurd (omega (arith, k))
 unsolved IsStuck k ws = inl refl
 unsolved IsTired k ws = inr refl
 
+-- an outcome that is not stuck
+pub unstuck : (r : Outcome) → OneOf (0 ∷ 2 ∷ []) (tagOf the-type r) → (ws : List ℕ) → answerIn r ws ≡ Stuck → ⊥
+unfolding answerIn
+unstuck IsSolved k ws e = let z : _≡_ {A = ℕ} 0 1 = cc in omega arith
+unstuck IsStuck (inl k) ws e = omega (arith, k)
+unstuck IsStuck (inr k) ws e = omega (arith, k)
+unstuck IsTired k ws e = let z : _≡_ {A = ℕ} 0 1 = cc in omega arith
+
 -- Stock and room
 
 -- the memory is as large as it was

@@ -34,7 +34,7 @@ ghost use Rattle.segment.specs.Inner.Tasks.{Laid};
 ghost use Rattle.branch.specs.Inner.Values.{answerIn};
 ghost use Rattle.choice.specs.Inner.Choice.{FirstEntry};
 ghost use Rattle.engine.specs.Inner.Engine.{Ready, NameNext, NameOpen, CanUse, PartNext, GoalReady, Fresh, Solving, Alone, Using};
-ghost use Rattle.engine.specs.Inner.Engine.{topNode, OpenNext, PartReady, ChoiceReady, Choosing, Entering, Siding, Equipped, Stays};
+ghost use Rattle.engine.specs.Inner.Engine.{topNode, OneOfNext, PartReady, ChoiceReady, Choosing, Entering, Siding, Equipped, Stays};
 
 // The agenda in the branch, its lists not below the floor.
 pub fn solve(
@@ -68,8 +68,8 @@ pub fn solve(
         return c.closed(way);
     }
     let k = kind(card, node(agenda, c.len - 1));
-    if 7 < k {
-        return open(
+    if k == 1 {
+        return need(
             card,
             waits,
             tape,
@@ -86,8 +86,8 @@ pub fn solve(
             c,
         );
     }
-    if k == 1 {
-        return need(
+    if 7 < k {
+        return one_of(
             card,
             waits,
             tape,
@@ -257,7 +257,7 @@ fn others(
 }
 
 // The next task is ⊕ or 0.
-fn open(
+fn one_of(
     card: &[u8],
     waits: &[u64; 64],
     tape: &mut [u8; 255],
@@ -274,7 +274,7 @@ fn open(
     b: Branch,
 ) -> Outcome
     requires { ⌜ Ready (now card) (now waits) (now tape) (now nodes) (now heads) f b ⌝ }
-    requires { ⌜ OpenNext (now card) (now agenda) b ⌝ }
+    requires { ⌜ OneOfNext (now card) (now agenda) b ⌝ }
     requires { ⌜ Equipped (now card) (now names) (now table) (now masks) (now codes) (now words) (now way)
         (now nodes) (b .count) ⌝ }
     ensures { λ r. ⌜ Solving (now (card .entry)) (now (agenda .entry)) f b (now (tape .entry)) (now (tape .exit))
@@ -401,8 +401,31 @@ fn enter(
     ensures { λ r. ⌜ Stays (now (card .entry)) (now (names .entry)) (now (table .entry)) (now (masks .entry))
         (now (codes .entry)) (now (words .entry)) (now (codes .exit)) (now (words .exit)) (now (way .exit)) r ⌝ }
 {
-    if !meets {
-        put(agenda, b.len, part, n);
+    if meets {
+        let p = push(card, agenda, b.len, part, n);
+        let c = b.sized(p.len);
+        if kind(card, p.core) == 10 {
+            return choose(
+                card,
+                waits,
+                tape,
+                nodes,
+                heads,
+                way,
+                names,
+                table,
+                masks,
+                codes,
+                words,
+                agenda,
+                true,
+                p.core,
+                name,
+                n,
+                f,
+                c,
+            );
+        }
         return solve(
             card,
             waits,
@@ -417,33 +440,10 @@ fn enter(
             words,
             agenda,
             f,
-            b.longer(),
-        );
-    }
-    let p = push(card, agenda, b.len, part, n);
-    let c = b.sized(p.len);
-    if kind(card, p.core) == 10 {
-        return choose(
-            card,
-            waits,
-            tape,
-            nodes,
-            heads,
-            way,
-            names,
-            table,
-            masks,
-            codes,
-            words,
-            agenda,
-            true,
-            p.core,
-            name,
-            n,
-            f,
             c,
         );
     }
+    put(agenda, b.len, part, n);
     solve(
         card,
         waits,
@@ -458,7 +458,7 @@ fn enter(
         words,
         agenda,
         f,
-        c,
+        b.longer(),
     )
 }
 

@@ -1,12 +1,12 @@
 -- Bounds of goals, for one class of items: least steps, least and greatest number of items. They are given by name; those of a goal are
--- folded from its names. A greatest number of 255 or more is none.
+-- folded from its names. A greatest number of 255 or more is none. 0 has no list, so any bounds are right; 255 are more than a list has.
 use Prim.Native.Nat.{ℕ, suc, max, min, _+_, _-_, _≤_, _<_}
 use mathlib.Core.Path.{_≡_}
 use mathlib.Core.Bool.{Bool, true, false, cond, _&&_}
 use mathlib.Core.List.{List, [], _∷_}
 use lib.ListN.{length}
 use lib.Dec.{leb}
-use Rattle.calculus.specs.Formula.{Fits, Goal, Clause, atomᴳ, topᴳ, oneᴳ, zeroᴳ, tensor, with, lolliᴳ, atomᴰ, topᴰ, lolliᴰ, usable}
+use Rattle.calculus.specs.Formula.{Fits, Goal, Clause, atomᴳ, topᴳ, oneᴳ, zeroᴳ, tensor, with, oplus, lolliᴳ, atomᴰ, topᴰ, lolliᴰ, withᴰ}
 use Rattle.calculus.specs.Items.{Items, _∪_}
 use Rattle.calculus.specs.Derivation.{Scope, size, clauseAt, linearAt}
 use Rattle.agenda.specs.Inner.Agenda.{Agenda}
@@ -27,18 +27,20 @@ module _ (K : Class) (t : Names) where
   leastG (atomᴳ a) = t .least a
   leastG topᴳ = 0
   leastG oneᴳ = 0
-  leastG zeroᴳ = 0
+  leastG zeroᴳ = 255
   leastG (tensor G H) = leastG G + leastG H
   leastG (with G H) = leastG G + leastG H
+  leastG (oplus G H) = suc (min (leastG G) (leastG H))
   leastG (lolliᴳ D G) = leastG G
 
   unfoldable pub lowG : Goal → ℕ
   lowG (atomᴳ a) = t .low a
   lowG topᴳ = 0
   lowG oneᴳ = 0
-  lowG zeroᴳ = 0
+  lowG zeroᴳ = 255
   lowG (tensor G H) = lowG G + lowG H
   lowG (with G H) = max (lowG G) (lowG H)
+  lowG (oplus G H) = min (lowG G) (lowG H)
   lowG (lolliᴳ D G) = lowG G - bit (K D)
 
   unfoldable pub highG : Goal → ℕ
@@ -48,23 +50,27 @@ module _ (K : Class) (t : Names) where
   highG zeroᴳ = 0
   highG (tensor G H) = highG G + highG H
   highG (with G H) = min (highG G) (highG H)
+  highG (oplus G H) = max (highG G) (highG H)
   highG (lolliᴳ D G) = off (highG G) (K D)
 
-  -- of all conditions of a clause
+  -- of the conditions of a clause, up to a menu
   unfoldable pub leastD : Clause → ℕ
   leastD (atomᴰ b) = 0
   leastD topᴰ = 0
   leastD (lolliᴰ G D) = leastD D + leastG G
+  leastD (withᴰ D E) = 0
 
   unfoldable pub lowD : Clause → ℕ
   lowD (atomᴰ b) = 0
   lowD topᴰ = 0
   lowD (lolliᴰ G D) = lowD D + lowG G
+  lowD (withᴰ D E) = 0
 
   unfoldable pub highD : Clause → ℕ
   highD (atomᴰ b) = 0
   highD topᴰ = 0
   highD (lolliᴰ G D) = highD D + highG G
+  highD (withᴰ D E) = 0
 
   -- of all tasks of an agenda
   unfoldable pub leastA : Agenda → ℕ
@@ -79,11 +85,23 @@ module _ (K : Class) (t : Names) where
   highA [] = 0
   highA (x ∷ A) = highG (x .goal) + highA A
 
-  -- The bounds of the name a allow the use of a clause for it: one step, and one item of the class if the clause is linear and of it.
-  pub record Settles (a : ℕ) (D : Clause) (linear : Bool) : Type 0 where
-    pub least : t .least a ≤ suc (leastD D)
-    pub low : t .low a ≤ bit (linear && K D) + lowD D
-    pub high : t .high a < 255 → bit (linear && K D) + highD D ≤ t .high a
+  -- The bounds of the name a take in s steps and l to h items of the class.
+  pub record TakesIn (a s l h : ℕ) : Type 0 where
+    pub least : t .least a ≤ s
+    pub low : t .low a ≤ l
+    pub high : t .high a < 255 → h ≤ t .high a
+
+  -- They allow what is left of a clause for it, after s steps and l to h items: the way to each head that fits, with its conditions, and a
+  -- step at each menu.
+  unfoldable pub Allows : Fits → ℕ → Clause → ℕ → ℕ → ℕ → Type 0
+  Allows fits a (atomᴰ b) s l h = fits b a ≡ true → TakesIn a s l h
+  Allows fits a topᴰ s l h = Unit {0}
+  Allows fits a (lolliᴰ G D) s l h = Allows fits a D (s + leastG G) (l + lowG G) (h + highG G)
+  Allows fits a (withᴰ D E) s l h = Allows fits a D (suc s) l h × Allows fits a E (suc s) l h
+
+  -- They allow the use of a clause for it: one step, and one item of the class if the clause is linear and of it.
+  unfoldable pub Settles : Fits → ℕ → Clause → Bool → Type 0
+  Settles fits a D linear = Allows fits a D 1 (bit (linear && K D)) (bit (linear && K D))
 
 -- A family of clauses, each with whether it is linear. What a goal lends is of the family; so are the clauses that conditions lend.
 abbrev pub Kin : Type 1
@@ -97,12 +115,14 @@ module _ (P : Kin) where
   LendsG zeroᴳ = Unit {0}
   LendsG (tensor G H) = LendsG G × LendsG H
   LendsG (with G H) = LendsG G × LendsG H
+  LendsG (oplus G H) = LendsG G × LendsG H
   LendsG (lolliᴳ D G) = P D true × LendsG G
 
   unfoldable pub LendsD : Clause → Type 0
   LendsD (atomᴰ b) = Unit {0}
   LendsD topᴰ = Unit {0}
   LendsD (lolliᴰ G D) = LendsD D × LendsG G
+  LendsD (withᴰ D E) = LendsD D × LendsD E
 
   unfoldable pub LendsA : Agenda → Type 0
   LendsA [] = Unit {0}
@@ -115,7 +135,7 @@ module _ (P : Kin) where
 
   -- the bounds allow every use of a clause of the family, and its conditions lend but clauses of the family
   pub record Closed (fits : Fits) (K : Class) (t : Names) : Type 0 where
-    pub settles : (D : Clause) (b : Bool) → P D b → (a : ℕ) → usable fits a D ≡ true → Settles K t a D b
+    pub settles : (D : Clause) (b : Bool) → P D b → (a : ℕ) → Settles K t fits a D b
     pub lends : (D : Clause) (b : Bool) → P D b → LendsD D
 
 -- A list of a goal that takes U, with slack v, keeps to the goal's bounds; no slack where there is a greatest number.

@@ -1,15 +1,16 @@
--- The table of a card. A class holds the clauses with one head, or all; there are at most 64 of them. For each node and class the table
--- has a least and a greatest number of items, and for each node least steps; a node of a recipe has those of all its conditions together.
--- The bounds of a name stand at a row of the table: that of one node of the name, or 512 for a name of no node. How the table is filled in
--- does not matter: it is settled if each node's bounds follow from its parts, and each name's from every clause of a rule, a line or a
--- lend with that head. 255 is the greatest number that stands for none; least numbers and steps stop there.
-use Prim.Native.Nat.{ℕ, suc, max, min, _+_, _-_, _*_, _≤_, _<_}
+-- The table of a card. A class holds the clauses with one head, the menus alike, or all clauses; there are at most 64 of them. For each node
+-- and class the table has a least and a greatest number of items, and for each node least steps; a node of a recipe has those of its
+-- conditions together, up to a menu. The bounds of a name stand at a row of the table: that of one node of the name, or 512 for a name of
+-- no node. How the table is filled in does not matter: it is settled if each node's bounds follow from its parts, and each name's from
+-- every clause of a rule, a line or a lend that has it for a head. 255 is the greatest number that stands for none; least numbers and steps
+-- stop there.
+use Prim.Native.Nat.{ℕ, suc, max, min, _+_, _-_, _*_, _%_, _≤_, _<_}
 use mathlib.Core.Path.{_≡_}
 use mathlib.Core.Bool.{Bool, true, false, cond, _&&_, _||_}
 use mathlib.Core.List.{List, [], _∷_}
 use lib.ListN.{length, getD}
 use lib.Dec.{eqb, ltb}
-use Rattle.calculus.specs.Formula.{Clause, atomᴰ, topᴰ, lolliᴰ}
+use Rattle.calculus.specs.Formula.{Clause, atomᴰ, topᴰ, lolliᴰ, withᴰ}
 use Rattle.lines.specs.Inner.Set.{bitAt}
 use Rattle.card.specs.Format.{ruleCount, lineCount, nodeCount, kindAt, leftAt, rightAt, ruleNode, lineNode}
 use Rattle.card.specs.Fault.{Sound, clausePart}
@@ -37,13 +38,18 @@ pub record Node (bs : List ℕ) (i : ℕ) : Type 0 where
   pub here : i < nodeCount bs
   pub few : i < 512
 
--- a clause's head; 1000, which is no name, where there is none
+-- a menu's code from those of its sides: 1002 or more, which is no name; different menus may share it
+unfoldable pub menuCode : ℕ → ℕ → ℕ
+menuCode l r = 1002 + (l * 31 + r) % 64000
+
+-- a clause's head; 1000, which is no name, where there is none; the code of a menu, which may have several
 unfoldable pub headOf : Clause → ℕ
 headOf (atomᴰ b) = b
 headOf topᴰ = 1000
 headOf (lolliᴰ G D) = headOf D
+headOf (withᴰ D E) = menuCode (headOf D) (headOf E)
 
--- A class goes by a code: a head, or 1001 for all clauses. Whether the class takes in the clauses with the head h.
+-- A class goes by a code: that of its clauses' head, or 1001 for all clauses. Whether the class takes in the clauses with the head h.
 unfoldable pub takesIn : ℕ → ℕ → Bool
 takesIn k h = eqb k 1001 || eqb h k
 
@@ -70,11 +76,13 @@ highAt t i c = getD t (32832 + (i * 64 + c)) 0
 unfoldable pub leastAt : List ℕ → ℕ → ℕ
 leastAt t i = getD t (65664 + i) 0
 
--- what stands for the kind: name, rest, done, both, either way, lend, recipe; what stands for an unknown one does not matter
-unfoldable pub byKind : ℕ → ℕ → ℕ → ℕ → ℕ → ℕ → ℕ → ℕ → ℕ
-byKind k name rest done both either lend recipe = getD (done ∷ name ∷ rest ∷ done ∷ both ∷ either ∷ lend ∷ recipe ∷ []) k both
+-- what stands for the kind: name, rest, done, both, either way, lend, recipe, one of, never, menu; what stands for an unknown one does not
+-- matter
+unfoldable pub byKind : ℕ → ℕ → ℕ → ℕ → ℕ → ℕ → ℕ → ℕ → ℕ → ℕ → ℕ → ℕ
+byKind k name rest done both either lend recipe one-of never menu =
+    getD (done ∷ name ∷ rest ∷ done ∷ both ∷ either ∷ lend ∷ recipe ∷ one-of ∷ never ∷ []) k menu
 
--- the value of a recipe, 0 of any other clause: it has no conditions
+-- the value of a recipe, 0 of any other clause: it has no conditions, or none up to its menu
 unfoldable pub ifRecipe : List ℕ → ℕ → ℕ → ℕ
 ifRecipe bs i v = cond (eqb (kindAt bs i) 7) v 0
 
@@ -83,7 +91,9 @@ unfoldable pub inClass : List ℕ → ℕ → ℕ → Bool
 inClass names i c = takesIn (classAt names c) (headAt names i)
 
 unfoldable pub headStep : List ℕ → List ℕ → ℕ → ℕ
-headStep bs names i = byKind (kindAt bs i) (leftAt bs i) 1000 1000 1000 1000 1000 (headAt names (rightAt bs i))
+headStep bs names i =
+    byKind (kindAt bs i) (leftAt bs i) 1000 1000 1000 1000 1000 (headAt names (rightAt bs i)) 1000 1000
+    (menuCode (headAt names (leftAt bs i)) (headAt names (rightAt bs i)))
 
 module _ (bs names t : List ℕ) where
   unfoldable pub leastStep : ℕ → ℕ
@@ -91,20 +101,21 @@ module _ (bs names t : List ℕ) where
       let l = leastAt t (leftAt bs i) in
       let r = leastAt t (rightAt bs i) in
       byKind (kindAt bs i) (leastAt t (rowOf names (leftAt bs i))) 0 0 (l + r) (l + r) r (l + ifRecipe bs (rightAt bs i) r)
+      (suc (min l r)) 255 0
 
   unfoldable pub lowStep : ℕ → ℕ → ℕ
   lowStep i c =
       let l = lowAt t (leftAt bs i) c in
       let r = lowAt t (rightAt bs i) c in
       byKind (kindAt bs i) (lowAt t (rowOf names (leftAt bs i)) c) 0 0 (l + r) (max l r) (r - bit (inClass names (leftAt bs i) c))
-      (l + ifRecipe bs (rightAt bs i) r)
+      (l + ifRecipe bs (rightAt bs i) r) (min l r) 255 0
 
   unfoldable pub highStep : ℕ → ℕ → ℕ
   highStep i c =
       let l = highAt t (leftAt bs i) c in
       let r = highAt t (rightAt bs i) c in
       byKind (kindAt bs i) (highAt t (rowOf names (leftAt bs i)) c) 255 0 (l + r) (min l r) (off r (inClass names (leftAt bs i) c))
-      (l + ifRecipe bs (rightAt bs i) r)
+      (l + ifRecipe bs (rightAt bs i) r) (max l r) 0 0
 
   -- of a use of the clause at the node: one step, one item if it is linear and of the class, and its conditions
   unfoldable pub leastUse : ℕ → ℕ
@@ -125,15 +136,33 @@ module _ (bs names t : List ℕ) where
     pub low : lowAt t (rowOf names (headAt names i)) c ≤ lowUse i b c
     pub high : highAt t (rowOf names (headAt names i)) c < 255 → highUse i b c ≤ highAt t (rowOf names (headAt names i)) c
 
+  -- the bounds of the name a take in s steps and l to h items of class c
+  pub record HeadFits (a c s l h : ℕ) : Type 0 where
+    pub least : leastAt t (rowOf names a) ≤ s
+    pub low : lowAt t (rowOf names a) c ≤ l
+    pub high : highAt t (rowOf names a) c < 255 → h ≤ highAt t (rowOf names a) c
+
+  -- After s steps and l to h items, the bounds of each head of the clause D at node i take in the way to it: its conditions, and a step at
+  -- each menu.
+  unfoldable pub WaysFit : Clause → ℕ → ℕ → ℕ → ℕ → ℕ → Type 0
+  WaysFit (atomᴰ b) i c s l h = HeadFits b c s l h
+  WaysFit topᴰ i c s l h = Unit {0}
+  WaysFit (lolliᴰ G D) i c s l h =
+      let j = leftAt bs i in
+      WaysFit D (rightAt bs i) c (s + leastAt t j) (l + lowAt t j c) (h + highAt t j c)
+  WaysFit (withᴰ D E) i c s l h = WaysFit D (leftAt bs i) c (suc s) l h × WaysFit E (rightAt bs i) c (suc s) l h
+
   pub record NodeSettled (i : ℕ) : Type 0 where
     pub head : headAt names i ≡ headStep bs names i
     pub least : leastAt t i ≤ leastStep i
     pub class : (c : ℕ) → c < classes names → NodeFits i c
 
-  -- a clause without a head is never used
+  -- a clause without a head is never used; one with a menu may have several
   pub record UseSettled (i : ℕ) (b : Bool) : Type 0 where
     pub least : headAt names i < 1000 → leastAt t (rowOf names (headAt names i)) ≤ leastUse i
     pub class : headAt names i < 1000 → (c : ℕ) → c < classes names → UseFits i b c
+    pub menu : 1002 ≤ headAt names i → (c : ℕ) → c < classes names
+        → WaysFit (clauseOf bs i) i c 1 (bit (b && inClass names i c)) (bit (b && inClass names i c))
 
 -- The clauses that may come into scope, by node, and whether they are linear: those of rules, of lines, and of lends.
 pub data Origin (bs : List ℕ) : ℕ → Bool → Type 0 where

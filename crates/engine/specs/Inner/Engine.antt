@@ -94,7 +94,7 @@ pub record PartNext (bs codes : List ℕ) (b : Branch) : Type 0 where
   pub no-choice : kindAt bs (topNode codes b) ≤ 7
 
 -- the next task is ⊕ or 0
-pub record OpenNext (bs codes : List ℕ) (b : Branch) : Type 0 where
+pub record OneOfNext (bs codes : List ℕ) (b : Branch) : Type 0 where
   pub laid : Laid bs codes (b .len) (b .count)
   pub some : 1 ≤ b .len
   pub kind : 7 < kindAt bs (topNode codes b)

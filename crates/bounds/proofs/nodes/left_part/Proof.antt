@@ -9,7 +9,7 @@ left-requires c κs = let s = c .before in node-here (s .pre .0) (s .args .i) (s
 returns : tie.Need-returns
 returns c =
     let s = c .before .before in
-    let p = parts-below (s .pre .0) (s .args .i) (s .pre .1 .0 .here) (s .pre .1 .1) in
+    let p = parts-below (s .pre .0) (s .args .i) (s .pre .1 .0 .here) (s .pre .1 .1 .0) (s .pre .1 .1 .1) in
     let n = s .pre .1 .0 in
     let e = c .left .ensures .0 in
     let q = p .0 in

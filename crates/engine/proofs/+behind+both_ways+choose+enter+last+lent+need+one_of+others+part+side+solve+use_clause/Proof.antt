@@ -22,7 +22,7 @@ use Rattle.engine.proofs.WaysSaid.{solved-said, stuck-said, unsolved, e
 use Rattle.engine.proofs.WaysSaid.{AsLarge, large-self, large-on, stays-stuck, stays-from, stays-back, stays-dead, weary-solved, weary-stuck}
 use Rattle.engine.proofs.WaysSaid.{using-count, tensor-count, with-count, awake-stays, stays-tired}
 use Rattle.engine.proofs.NamesTell.{name-of, card-front, name-open, testing, name-here, top-inside, unnested}
-use Rattle.engine.proofs.NamesTell.{roomless, entry-byte, at-inside, entry-clause, push-room, use-call, use-told}
+use Rattle.engine.proofs.NamesTell.{roomless, entry-byte, at-inside, entry-clause, use-call, use-told}
 use Rattle.engine.proofs.NamesTell.{Round, round-start, round-kept, round-ready, round-ends, seek-at, round-onward, round-use}
 use Rattle.engine.proofs.NamesTell.{round-call, round-next, round-found, round-tired, asks, doomed-told, dead-barren, dead-told, solved-using, stuck-using}
 use Rattle.engine.proofs.RaisesEnd.{leftOver}
@@ -36,60 +36,70 @@ use Rattle.engine.proofs.BehindTells.{nodes-on as behind-nodes-on}
 use Rattle.engine.proofs.EitherTells.{Either, either-unsolved, either-nodes-kept, with-len, either-rest-asks, either-solved}
 use Rattle.engine.proofs.EitherTells.{either-tired, either-nosteps, either-raise-asks, either-falls, either-again}
 use Rattle.engine.proofs.EitherTells.{nodes-on as either-nodes-on}
+use mathlib.Core.Logic.{inl, inr}
+use Rattle.branch.specs.Inner.Values.{followingW}
+use Rattle.engine.specs.Inner.Engine.{PartReady}
+use Rattle.engine.proofs.NumbersFall.{most, fewest}
+use Rattle.engine.proofs.AgendasUnwind.{one-of-next}
+use Rattle.engine.proofs.WaysSaid.{unstuck}
+use Rattle.engine.proofs.EntersTell.{goal-room, goal-call, goal-told, clause-room, core-here, menu-call, menu-told, head-call, head-told}
+use Rattle.engine.proofs.EntersTell.{never-told, one-of-call, one-of-told}
+use Rattle.engine.proofs.ChoicesTell.{choice-here, side-clause, choice-room, left-told, right-told, choice-byte, choice-tape}
+use Rattle.engine.proofs.ChoicesTell.{side-under, side-shut, side-call, side-unsolved, side-solved}
+use Rattle.engine.proofs.NamesTell.{ready-kept}
 use Prim.Native.Nat.{ℕ, _<_}
 use borrow.Fn.Kinds.{In}
 use borrow.Fn.PlainCycle.{Measures, is, falls, and}
 use Rattle.engine.proofs.behind.Reads as behind
 use Rattle.engine.proofs.behind.Kinds as behind-kinds
-use Rattle.engine.proofs.+behind+both_ways+last+lent+need+others+part+solve+use_clause.Lts-behind as behind-lts
+use Rattle.engine.proofs.+behind+both_ways+choose+enter+last+lent+need+one_of+others+part+side+solve+use_clause.Lts-behind as behind-lts
 use Rattle.engine.proofs.both_ways.Reads as both-ways
 use Rattle.engine.proofs.both_ways.Kinds as both-ways-kinds
-use Rattle.engine.proofs.+behind+both_ways+last+lent+need+others+part+solve+use_clause.Lts-both_ways as both-ways-lts
+use Rattle.engine.proofs.+behind+both_ways+choose+enter+last+lent+need+one_of+others+part+side+solve+use_clause.Lts-both_ways as both-ways-lts
+use Rattle.engine.proofs.choose.Reads as choose
+use Rattle.engine.proofs.choose.Kinds as choose-kinds
+use Rattle.engine.proofs.+behind+both_ways+choose+enter+last+lent+need+one_of+others+part+side+solve+use_clause.Lts-choose as choose-lts
+use Rattle.engine.proofs.enter.Reads as enter
+use Rattle.engine.proofs.enter.Kinds as enter-kinds
+use Rattle.engine.proofs.+behind+both_ways+choose+enter+last+lent+need+one_of+others+part+side+solve+use_clause.Lts-enter as enter-lts
 use Rattle.engine.proofs.last.Reads as last
 use Rattle.engine.proofs.last.Kinds as last-kinds
-use Rattle.engine.proofs.+behind+both_ways+last+lent+need+others+part+solve+use_clause.Lts-last as last-lts
+use Rattle.engine.proofs.+behind+both_ways+choose+enter+last+lent+need+one_of+others+part+side+solve+use_clause.Lts-last as last-lts
 use Rattle.engine.proofs.lent.Reads as lent
 use Rattle.engine.proofs.lent.Kinds as lent-kinds
-use Rattle.engine.proofs.+behind+both_ways+last+lent+need+others+part+solve+use_clause.Lts-lent as lent-lts
+use Rattle.engine.proofs.+behind+both_ways+choose+enter+last+lent+need+one_of+others+part+side+solve+use_clause.Lts-lent as lent-lts
 use Rattle.engine.proofs.need.Reads as need
 use Rattle.engine.proofs.need.Kinds as need-kinds
-use Rattle.engine.proofs.+behind+both_ways+last+lent+need+others+part+solve+use_clause.Lts-need as need-lts
+use Rattle.engine.proofs.+behind+both_ways+choose+enter+last+lent+need+one_of+others+part+side+solve+use_clause.Lts-need as need-lts
+use Rattle.engine.proofs.one_of.Reads as one-of
+use Rattle.engine.proofs.one_of.Kinds as one-of-kinds
+use Rattle.engine.proofs.+behind+both_ways+choose+enter+last+lent+need+one_of+others+part+side+solve+use_clause.Lts-one_of as one-of-lts
 use Rattle.engine.proofs.others.Reads as others
 use Rattle.engine.proofs.others.Kinds as others-kinds
-use Rattle.engine.proofs.+behind+both_ways+last+lent+need+others+part+solve+use_clause.Lts-others as others-lts
+use Rattle.engine.proofs.+behind+both_ways+choose+enter+last+lent+need+one_of+others+part+side+solve+use_clause.Lts-others as others-lts
 use Rattle.engine.proofs.part.Reads as part
 use Rattle.engine.proofs.part.Kinds as part-kinds
-use Rattle.engine.proofs.+behind+both_ways+last+lent+need+others+part+solve+use_clause.Lts-part as part-lts
+use Rattle.engine.proofs.+behind+both_ways+choose+enter+last+lent+need+one_of+others+part+side+solve+use_clause.Lts-part as part-lts
+use Rattle.engine.proofs.side.Reads as side
+use Rattle.engine.proofs.side.Kinds as side-kinds
+use Rattle.engine.proofs.+behind+both_ways+choose+enter+last+lent+need+one_of+others+part+side+solve+use_clause.Lts-side as side-lts
 use Rattle.engine.proofs.solve.Reads as solve
 use Rattle.engine.proofs.solve.Kinds as solve-kinds
-use Rattle.engine.proofs.+behind+both_ways+last+lent+need+others+part+solve+use_clause.Lts-solve as solve-lts
+use Rattle.engine.proofs.+behind+both_ways+choose+enter+last+lent+need+one_of+others+part+side+solve+use_clause.Lts-solve as solve-lts
 use Rattle.engine.proofs.use_clause.Reads as use-clause
 use Rattle.engine.proofs.use_clause.Kinds as use-clause-kinds
-use Rattle.engine.proofs.+behind+both_ways+last+lent+need+others+part+solve+use_clause.Lts-use_clause as use-clause-lts
-use Rattle.card.proofs.both.Reads as both-reads
-use Rattle.card.proofs.format.byte.Reads as byte-reads
-use Rattle.card.proofs.format.kind.Reads as kind-reads
-use Rattle.card.proofs.format.left.Reads as left-reads
-use Rattle.entries.proofs.put.Reads as put-reads
-use Rattle.prune.proofs.dead_end.Reads as dead-end-reads
-use Rattle.prune.proofs.doomed.Reads as doomed-reads
-use Rattle.moves.proofs.conditions.Reads as conditions-reads
-use Rattle.choice.proofs.first_at.Reads as first-at-reads
-use Rattle.choice.proofs.given_up.Reads as given-up-reads
-use Rattle.choice.proofs.keeps.Reads as keeps-reads
-use Rattle.moves.proofs.left_alone.Reads as left-alone-reads
-use Rattle.moves.proofs.lent_item.Reads as lent-item-reads
-use Rattle.moves.proofs.raise.Reads as raise-reads
-use Rattle.moves.proofs.right_alone.Reads as right-alone-reads
-use Rattle.choice.proofs.seek.Reads as seek-reads
-use Rattle.choice.proofs.unfloored.Reads as unfloored-reads
+use Rattle.engine.proofs.+behind+both_ways+choose+enter+last+lent+need+one_of+others+part+side+solve+use_clause.Lts-use_clause as use-clause-lts
+use Rattle.branch.proofs.Branch.chose.Reads as chose-reads
 use Rattle.branch.proofs.Branch.closed.Reads as closed-reads
+use Rattle.branch.proofs.Branch.dropped.Reads as dropped-reads
 use Rattle.branch.proofs.Branch.joined.Reads as joined-reads
 use Rattle.branch.proofs.Branch.lead.Reads as lead-reads
 use Rattle.branch.proofs.Branch.lent.Reads as lent-reads
+use Rattle.branch.proofs.Branch.longer.Reads as longer-reads
 use Rattle.branch.proofs.Branch.own.Reads as own-reads
 use Rattle.branch.proofs.Branch.past_tensor.Reads as past-tensor-reads
 use Rattle.branch.proofs.Branch.past_with.Reads as past-with-reads
+use Rattle.branch.proofs.Branch.sized.Reads as sized-reads
 use Rattle.branch.proofs.Branch.using.Reads as using-reads
 use Rattle.branch.proofs.Floor.past.Reads as past-reads
 use Rattle.branch.proofs.Way.beside.Reads as beside-reads
@@ -97,11 +107,36 @@ use Rattle.branch.proofs.Way.without.Reads as without-reads
 use Rattle.branch.proofs.follow.Reads as follow-reads
 use Rattle.branch.proofs.put_way.Reads as put-way-reads
 use Rattle.branch.proofs.way_in.Reads as way-in-reads
+use Rattle.card.proofs.both.Reads as both-reads
+use Rattle.card.proofs.format.byte.Reads as byte-reads
+use Rattle.card.proofs.format.kind.Reads as kind-reads
+use Rattle.card.proofs.format.left.Reads as left-reads
+use Rattle.choice.proofs.first_at.Reads as first-at-reads
+use Rattle.choice.proofs.given_up.Reads as given-up-reads
+use Rattle.choice.proofs.keeps.Reads as keeps-reads
+use Rattle.choice.proofs.seek.Reads as seek-reads
+use Rattle.choice.proofs.unfloored.Reads as unfloored-reads
+use Rattle.entries.proofs.put.Reads as put-reads
+use Rattle.moves.proofs.inner.Reads as inner-reads
+use Rattle.moves.proofs.left_alone.Reads as left-alone-reads
+use Rattle.moves.proofs.lent_item.Reads as lent-item-reads
+use Rattle.moves.proofs.raise.Reads as raise-reads
+use Rattle.moves.proofs.right_alone.Reads as right-alone-reads
+use Rattle.moves.proofs.shut.Reads as shut-reads
+use Rattle.moves.proofs.side.Reads as side-reads
+use Rattle.prune.proofs.dead_end.Reads as dead-end-reads
+use Rattle.prune.proofs.doomed.Reads as doomed-reads
 use Rattle.segment.proofs.tasks.nest.Reads as nest-reads
 use Rattle.segment.proofs.tasks.node.Reads as node-reads
+use Rattle.segment.proofs.tasks.push.Reads as push-reads
+use Rattle.segment.proofs.tasks.put.Reads as tasks-put-reads
 use Rattle.segment.proofs.tasks.unwind.Reads as unwind-reads
-use Rattle.engine.proofs.+behind+both_ways+last+lent+need+others+part+solve+use_clause.{statement}
-use Rattle.engine.proofs.+behind+both_ways+last+lent+need+others+part+solve+use_clause.Tie.{close}
+use Rattle.engine.proofs.+behind+both_ways+choose+enter+last+lent+need+one_of+others+part+side+solve+use_clause.{
+  statement,
+}
+use Rattle.engine.proofs.+behind+both_ways+choose+enter+last+lent+need+one_of+others+part+side+solve+use_clause.Tie.{
+  close,
+}
 
 abbrev μ-behind : Measures 12 behind-kinds.ps ℕ
 μ-behind κs a = 8 * number (a .0 .now) (a .1 .1 .1 .1 .1 .1 .1 .1 .1 .1 .1 .0 .now) (a .1 .1 .1 .1 .1 .1 .1 .1 .1 .1 .1 .1 .1 .0) + 5
@@ -109,6 +144,12 @@ abbrev μ-behind : Measures 12 behind-kinds.ps ℕ
 abbrev μ-both-ways : Measures 11 both-ways-kinds.ps ℕ
 μ-both-ways κs a = 8 * alone (a .0 .now) (a .1 .1 .1 .1 .1 .1 .1 .1 .1 .1 .1 .0) (a .1 .1 .1 .1 .1 .1 .1 .1 .1 .1 .1 .1 .0) (a .1
     .1 .1 .1 .1 .1 .1 .1 .1 .1 .1 .1 .1 .1 .0) + 2
+
+abbrev μ-choose : Measures 12 choose-kinds.ps ℕ
+μ-choose κs a = 8 * fewest (a .1 .1 .1 .1 .1 .1 .1 .1 .1 .1 .1 .1 .1 .1 .1 .1 .1 .0) + 5
+
+abbrev μ-enter : Measures 12 enter-kinds.ps ℕ
+μ-enter κs a = 8 * most (a .1 .1 .1 .1 .1 .1 .1 .1 .1 .1 .1 .1 .1 .1 .1 .1 .1 .0) + 3
 
 abbrev μ-last : Measures 11 last-kinds.ps ℕ
 μ-last κs a = 8 * alone (a .0 .now) (a .1 .1 .1 .1 .1 .1 .1 .1 .1 .1 .1 .0) (a .1 .1 .1 .1 .1 .1 .1 .1 .1 .1 .1 .1 .0) (a .1 .1 .1
@@ -121,6 +162,9 @@ abbrev μ-lent : Measures 11 lent-kinds.ps ℕ
 abbrev μ-need : Measures 12 need-kinds.ps ℕ
 μ-need κs a = 8 * number (a .0 .now) (a .1 .1 .1 .1 .1 .1 .1 .1 .1 .1 .1 .0 .now) (a .1 .1 .1 .1 .1 .1 .1 .1 .1 .1 .1 .1 .1 .0) + 5
 
+abbrev μ-one-of : Measures 12 one-of-kinds.ps ℕ
+μ-one-of κs a = 8 * number (a .0 .now) (a .1 .1 .1 .1 .1 .1 .1 .1 .1 .1 .1 .0 .now) (a .1 .1 .1 .1 .1 .1 .1 .1 .1 .1 .1 .1 .1 .0) + 5
+
 abbrev μ-others : Measures 12 others-kinds.ps ℕ
 μ-others κs a = 8 * number (a .0 .now) (a .1 .1 .1 .1 .1 .1 .1 .1 .1 .1 .1 .0 .now) (a .1 .1 .1 .1 .1 .1 .1 .1 .1 .1 .1 .1 .1 .1 .0) + 2
 
@@ -128,11 +172,14 @@ abbrev μ-part : Measures 11 part-kinds.ps ℕ
 μ-part κs a = 8 * alone (a .0 .now) (a .1 .1 .1 .1 .1 .1 .1 .1 .1 .1 .1 .0) (a .1 .1 .1 .1 .1 .1 .1 .1 .1 .1 .1 .1 .0) (a .1 .1 .1
     .1 .1 .1 .1 .1 .1 .1 .1 .1 .1 .1 .0) + 3
 
+abbrev μ-side : Measures 12 side-kinds.ps ℕ
+μ-side κs a = 8 * fewest (a .1 .1 .1 .1 .1 .1 .1 .1 .1 .1 .1 .1 .1 .1 .1 .1 .1 .1 .1 .0) + 4
+
 abbrev μ-solve : Measures 12 solve-kinds.ps ℕ
 μ-solve κs a = 8 * number (a .0 .now) (a .1 .1 .1 .1 .1 .1 .1 .1 .1 .1 .1 .0 .now) (a .1 .1 .1 .1 .1 .1 .1 .1 .1 .1 .1 .1 .1 .0) + 7
 
 abbrev μ-use-clause : Measures 12 use-clause-kinds.ps ℕ
-μ-use-clause κs a = 8 * number (a .0 .now) (a .1 .1 .1 .1 .1 .1 .1 .1 .1 .1 .1 .0 .now) (a .1 .1 .1 .1 .1 .1 .1 .1 .1 .1 .1 .1 .1 .1 .0) + 1
+μ-use-clause κs a = 8 * number (a .0 .now) (a .1 .1 .1 .1 .1 .1 .1 .1 .1 .1 .1 .0 .now) (a .1 .1 .1 .1 .1 .1 .1 .1 .1 .1 .1 .1 .1 .1 .1 .0) + 1
 
 abbrev behind-at : ℕ → In 12 behind-kinds.ps
 behind-at t = and 12 behind-kinds.ps (is 12 behind-kinds.ps μ-behind t) behind.Pre
@@ -146,6 +193,18 @@ both-ways-at t = and 11 both-ways-kinds.ps (is 11 both-ways-kinds.ps μ-both-way
 abbrev both-ways-below : ℕ → In 11 both-ways-kinds.ps
 both-ways-below t =
     and 11 both-ways-kinds.ps (falls 11 both-ways-kinds.ps _<_ μ-both-ways t) both-ways.Pre
+
+abbrev choose-at : ℕ → In 12 choose-kinds.ps
+choose-at t = and 12 choose-kinds.ps (is 12 choose-kinds.ps μ-choose t) choose.Pre
+
+abbrev choose-below : ℕ → In 12 choose-kinds.ps
+choose-below t = and 12 choose-kinds.ps (falls 12 choose-kinds.ps _<_ μ-choose t) choose.Pre
+
+abbrev enter-at : ℕ → In 12 enter-kinds.ps
+enter-at t = and 12 enter-kinds.ps (is 12 enter-kinds.ps μ-enter t) enter.Pre
+
+abbrev enter-below : ℕ → In 12 enter-kinds.ps
+enter-below t = and 12 enter-kinds.ps (falls 12 enter-kinds.ps _<_ μ-enter t) enter.Pre
 
 abbrev last-at : ℕ → In 11 last-kinds.ps
 last-at t = and 11 last-kinds.ps (is 11 last-kinds.ps μ-last t) last.Pre
@@ -165,6 +224,12 @@ need-at t = and 12 need-kinds.ps (is 12 need-kinds.ps μ-need t) need.Pre
 abbrev need-below : ℕ → In 12 need-kinds.ps
 need-below t = and 12 need-kinds.ps (falls 12 need-kinds.ps _<_ μ-need t) need.Pre
 
+abbrev one-of-at : ℕ → In 12 one-of-kinds.ps
+one-of-at t = and 12 one-of-kinds.ps (is 12 one-of-kinds.ps μ-one-of t) one-of.Pre
+
+abbrev one-of-below : ℕ → In 12 one-of-kinds.ps
+one-of-below t = and 12 one-of-kinds.ps (falls 12 one-of-kinds.ps _<_ μ-one-of t) one-of.Pre
+
 abbrev others-at : ℕ → In 12 others-kinds.ps
 others-at t = and 12 others-kinds.ps (is 12 others-kinds.ps μ-others t) others.Pre
 
@@ -176,6 +241,12 @@ part-at t = and 11 part-kinds.ps (is 11 part-kinds.ps μ-part t) part.Pre
 
 abbrev part-below : ℕ → In 11 part-kinds.ps
 part-below t = and 11 part-kinds.ps (falls 11 part-kinds.ps _<_ μ-part t) part.Pre
+
+abbrev side-at : ℕ → In 12 side-kinds.ps
+side-at t = and 12 side-kinds.ps (is 12 side-kinds.ps μ-side t) side.Pre
+
+abbrev side-below : ℕ → In 12 side-kinds.ps
+side-below t = and 12 side-kinds.ps (falls 12 side-kinds.ps _<_ μ-side t) side.Pre
 
 abbrev solve-at : ℕ → In 12 solve-kinds.ps
 solve-at t = and 12 solve-kinds.ps (is 12 solve-kinds.ps μ-solve t) solve.Pre
@@ -245,6 +316,32 @@ both-ways-claims t = (
   raise-reads.Learnt,
 )
 
+abbrev choose-claims : ℕ → choose-lts.Claims
+choose-claims t = (
+  first-at-reads.Asked,
+  first-at-reads.Learnt,
+  side-below t,
+  side.Post,
+)
+
+abbrev enter-claims : ℕ → enter-lts.Claims
+enter-claims t = (
+  push-reads.Asked,
+  push-reads.Learnt,
+  sized-reads.Asked,
+  sized-reads.Learnt,
+  kind-reads.Asked,
+  kind-reads.Learnt,
+  choose-below t,
+  choose.Post,
+  solve-below t,
+  solve.Post,
+  tasks-put-reads.Asked,
+  tasks-put-reads.Learnt,
+  longer-reads.Asked,
+  longer-reads.Learnt,
+)
+
 abbrev last-claims : ℕ → last-lts.Claims
 last-claims t = (
   own-reads.Asked,
@@ -293,6 +390,20 @@ need-claims t = (
   others.Post,
 )
 
+abbrev one-of-claims : ℕ → one-of-lts.Claims
+one-of-claims t = (
+  node-reads.Asked,
+  node-reads.Learnt,
+  nest-reads.Asked,
+  nest-reads.Learnt,
+  kind-reads.Asked,
+  kind-reads.Learnt,
+  dropped-reads.Asked,
+  dropped-reads.Learnt,
+  choose-below t,
+  choose.Post,
+)
+
 abbrev others-claims : ℕ → others-lts.Claims
 others-claims t = (
   node-reads.Asked,
@@ -327,6 +438,24 @@ part-claims t = (
   lent.Post,
 )
 
+abbrev side-claims : ℕ → side-lts.Claims
+side-claims t = (
+  side-reads.Asked,
+  side-reads.Learnt,
+  shut-reads.Asked,
+  shut-reads.Learnt,
+  keeps-reads.Asked,
+  keeps-reads.Learnt,
+  past-reads.Asked,
+  past-reads.Learnt,
+  chose-reads.Asked,
+  chose-reads.Learnt,
+  enter-below t,
+  enter.Post,
+  follow-reads.Asked,
+  follow-reads.Learnt,
+)
+
 abbrev solve-claims : ℕ → solve-lts.Claims
 solve-claims t = (
   unwind-reads.Asked,
@@ -339,20 +468,22 @@ solve-claims t = (
   kind-reads.Learnt,
   need-below t,
   need.Post,
+  one-of-below t,
+  one-of.Post,
   behind-below t,
   behind.Post,
 )
 
 abbrev use-clause-claims : ℕ → use-clause-lts.Claims
 use-clause-claims t = (
-  conditions-reads.Asked,
-  conditions-reads.Learnt,
+  inner-reads.Asked,
+  inner-reads.Learnt,
   byte-reads.Asked,
   byte-reads.Learnt,
   using-reads.Asked,
   using-reads.Learnt,
-  solve-below t,
-  solve.Post,
+  enter-below t,
+  enter.Post,
 )
 
 abbrev behind-Inv-loop : behind-lts.InvT-loop
@@ -1213,6 +1344,260 @@ both-ways-returns-4 t c =
       stays-tired (at-enum-told4 .enum-told4 .given .1) large₂ (at-solve2 .solve2 .ensures .1),
     )
 
+choose-returns : (t : ℕ) → choose-lts.Need-returns (choose-claims t) (choose-at t) choose.Post
+unfolding answerIn
+choose-returns t c =
+    let at-start = c .before .before .before .before .before .before .before .before in
+    let at-if1 = c in
+    let rd = at-start .pre .1 .0 in
+    let q = at-start .pre .1 .1 .0 in
+    (choice-room rd q (at-if1 .if1 .taken), stays-stuck (at-start .pre .1 .1 .1))
+
+choose-first-at-requires : (t : ℕ) → choose-lts.Need-first-at-requires (choose-claims t) (choose-at t) choose.Post
+choose-first-at-requires t c κs =
+    let at-start = c .before .before .before .before .before .before .before .before .before .before in
+    let rd = at-start .pre .1 .0 in
+    (rd .fixed, rd .tape-room)
+
+choose-side-requires : (t : ℕ) → choose-lts.Need-side-requires (choose-claims t) (choose-at t) choose.Post
+choose-side-requires t c κs =
+    let at-start = c .before .before .before .before .before .before .before .before .before .before .before .before .before .before .before .before .before in
+    let at-if1 = c .before .before .before .before .before .before .before .before .before in
+    let rd = at-start .pre .1 .0 in
+    let q = at-start .pre .1 .1 .0 in
+    let number-is = at-start .pre .0 in
+    let room = at-if1 .if1 .left in
+    (omega (arith, number-is), (rd, ((q, record { choice = inl refl; room = omega (arith, room) }), at-start .pre .1 .1 .1)))
+
+choose-enum-told : (t : ℕ) → choose-lts.Need-enum-told (choose-claims t) (choose-at t) choose.Post
+choose-enum-told t c =
+    let at-match = c in
+    at-match .match .keys1
+
+choose-same-length : (t : ℕ) → choose-lts.Need-same-length (choose-claims t) (choose-at t) choose.Post
+choose-same-length t c =
+    let at-side = c .before .before .before .before .before in
+    at-side .side .ensures .1 .code-same
+
+choose-same-length-2 : (t : ℕ) → choose-lts.Need-same-length-2 (choose-claims t) (choose-at t) choose.Post
+choose-same-length-2 t c =
+    let at-side = c .before .before .before .before .before in
+    at-side .side .ensures .1 .same
+
+choose-returns-2 : (t : ℕ) → choose-lts.Need-returns-2 (choose-claims t) (choose-at t) choose.Post
+choose-returns-2 t c =
+    let at-start = c .before .before .before .before .before .before .before .before .before .before .before .before .before .before .before .before .before .before .before .before .before .before .before in
+    let at-if1 = c .before .before .before .before .before .before .before .before .before .before .before .before .before .before .before in
+    let at-first-at = c .before .before .before .before .before .before .before .before .before .before .before .before in
+    let at-side = c .before .before .before .before .before in
+    let at-match = c in
+    let rd = at-start .pre .1 .0 in
+    let q = at-start .pre .1 .1 .0 in
+    let room = at-if1 .if1 .left in (
+      left-told rd q (omega (arith, room)) (at-first-at .first-at .ensures) (at-side .side .ensures .0) (unstuck _ (at-match .match .keys2) _),
+      at-side .side .ensures .1,
+    )
+
+choose-side-requires-2 : (t : ℕ) → choose-lts.Need-side-requires-2 (choose-claims t) (choose-at t) choose.Post
+choose-side-requires-2 t c κs =
+    let at-start = c .before .before .before .before .before .before .before .before .before .before .before .before .before .before .before .before .before .before .before .before .before .before .before .before .before .before .before .before .before .before in
+    let at-if1 = c .before .before .before .before .before .before .before .before .before .before .before .before .before .before .before .before .before .before .before .before .before .before in
+    let at-side = c .before .before .before .before .before .before .before .before .before .before .before .before in
+    let rd = at-start .pre .1 .0 in
+    let q = at-start .pre .1 .1 .0 in
+    let eq = at-start .pre .1 .1 .1 in
+    let number-is = at-start .pre .0 in
+    let room = at-if1 .if1 .left in
+    let S = at-side .side .ensures .0 in (
+      omega (arith, number-is),
+      (
+        ready-kept rd (S .tape-kept) (S .node-kept) (S .head-kept),
+        (
+          (q, record { choice = inr refl; room = omega (arith, room) }),
+          equipped-on eq (S .node-kept) (rd .scoped) (at-side .side .ensures .1),
+        ),
+      ),
+    )
+
+choose-same-length-3 : (t : ℕ) → choose-lts.Need-same-length-3 (choose-claims t) (choose-at t) choose.Post
+choose-same-length-3 t c =
+    let at-side = c .before .before .before .before .before .before .before .before .before .before .before .before .before .before .before .before .before in
+    let at-side2 = c .before .before .before .before in
+    (large-on (large-on large-self (at-side .side .ensures .1)) (at-side2 .side2 .ensures .1)) .code-same
+
+choose-same-length-4 : (t : ℕ) → choose-lts.Need-same-length-4 (choose-claims t) (choose-at t) choose.Post
+choose-same-length-4 t c =
+    let at-side = c .before .before .before .before .before .before .before .before .before .before .before .before .before .before .before .before .before in
+    let at-side2 = c .before .before .before .before in
+    (large-on (large-on large-self (at-side .side .ensures .1)) (at-side2 .side2 .ensures .1)) .same
+
+choose-returns-3 : (t : ℕ) → choose-lts.Need-returns-3 (choose-claims t) (choose-at t) choose.Post
+choose-returns-3 t c =
+    let at-start = c .before .before .before .before .before .before .before .before .before .before .before .before .before .before .before .before .before .before .before .before .before .before .before .before .before .before .before .before .before .before .before .before .before .before .before in
+    let at-if1 = c .before .before .before .before .before .before .before .before .before .before .before .before .before .before .before .before .before .before .before .before .before .before .before .before .before .before .before in
+    let at-first-at = c .before .before .before .before .before .before .before .before .before .before .before .before .before .before .before .before .before .before .before .before .before .before .before .before in
+    let at-side = c .before .before .before .before .before .before .before .before .before .before .before .before .before .before .before .before .before in
+    let at-enum-told = c .before .before .before .before .before .before .before .before .before .before .before in
+    let at-side2 = c .before .before .before .before in
+    let rd = at-start .pre .1 .0 in
+    let q = at-start .pre .1 .1 .0 in
+    let room = at-if1 .if1 .left in (
+      right-told rd q (omega (arith, room)) (at-first-at .first-at .ensures) (at-side .side .ensures .0)
+          (stuck-said (at-enum-told .enum-told .given .1) _) (at-side2 .side2 .ensures .0),
+      stays-back (large-on large-self (at-side .side .ensures .1)) (at-side2 .side2 .ensures .1),
+    )
+
+enter-push-requires : (t : ℕ) → enter-lts.Need-push-requires (enter-claims t) (enter-at t) enter.Post
+enter-push-requires t c κs =
+    let at-start = c .before .before .before .before .before .before .before .before in
+    let at-if1 = c .before in
+    let rd = at-start .pre .1 .0 in
+    let q = rw (at-if1 .if1 .taken) at (at-start .pre .1 .1 .0) in
+    (rd .sound, clause-room rd q)
+
+enter-sized-requires : (t : ℕ) → enter-lts.Need-sized-requires (enter-claims t) (enter-at t) enter.Post
+enter-sized-requires t c κs =
+    tt
+
+enter-kind-requires : (t : ℕ) → enter-lts.Need-kind-requires (enter-claims t) (enter-at t) enter.Post
+enter-kind-requires t c κs =
+    let at-start = c .before .before .before .before .before .before .before .before .before .before in
+    let at-if1 = c .before .before .before in
+    let at-push = c .before in
+    let rd = at-start .pre .1 .0 in
+    let q = rw (at-if1 .if1 .taken) at (at-start .pre .1 .1 .0) in
+    core-here rd q (at-push .push .ensures)
+
+enter-choose-requires : (t : ℕ) → enter-lts.Need-choose-requires (enter-claims t) (enter-at t) enter.Post
+enter-choose-requires t c κs =
+    let at-start = c .before .before .before .before .before .before .before .before .before .before .before .before .before .before .before .before .before .before .before in
+    let at-if1 = c .before .before .before .before .before .before .before .before .before .before .before .before in
+    let at-push = c .before .before .before .before .before .before .before .before .before .before in
+    let at-kind = c .before .before .before .before .before .before .before .before in
+    let at-if2 = c .before .before .before .before .before .before .before in
+    let at-sized = c .before .before .before .before .before .before .before .before .before in
+    let rd = at-start .pre .1 .0 in
+    let q = rw (at-if1 .if1 .taken) at (at-start .pre .1 .1 .0) in
+    let asked = menu-call rd q (at-push .push .ensures) (sym (at-kind .kind .ensures .0) ∙ at-if2 .if2 .taken) _ (at-sized .sized .ensures) t
+    (at-start .pre .0) in
+    (asked .0, (asked .1 .0, (asked .1 .1, equipped-at (ap (λ (x : Branch). x .count) (at-sized .sized .ensures)) (at-start .pre .1 .1 .1))))
+
+enter-same-length : (t : ℕ) → enter-lts.Need-same-length (enter-claims t) (enter-at t) enter.Post
+enter-same-length t c =
+    let at-choose = c .before .before .before .before in
+    at-choose .choose .ensures .1 .code-same
+
+enter-same-length-2 : (t : ℕ) → enter-lts.Need-same-length-2 (enter-claims t) (enter-at t) enter.Post
+enter-same-length-2 t c =
+    let at-choose = c .before .before .before .before in
+    at-choose .choose .ensures .1 .same
+
+enter-returns : (t : ℕ) → enter-lts.Need-returns (enter-claims t) (enter-at t) enter.Post
+enter-returns t c =
+    let at-start = c .before .before .before .before .before .before .before .before .before .before .before .before .before .before .before .before .before .before .before .before .before .before .before .before in
+    let at-if1 = c .before .before .before .before .before .before .before .before .before .before .before .before .before .before .before .before .before in
+    let at-push = c .before .before .before .before .before .before .before .before .before .before .before .before .before .before .before in
+    let at-kind = c .before .before .before .before .before .before .before .before .before .before .before .before .before in
+    let at-if2 = c .before .before .before .before .before .before .before .before .before .before .before .before in
+    let at-sized = c .before .before .before .before .before .before .before .before .before .before .before .before .before .before in
+    let at-choose = c .before .before .before .before in
+    let rd = at-start .pre .1 .0 in
+    let q = rw (at-if1 .if1 .taken) at (at-start .pre .1 .1 .0) in (
+      rw (at-if1 .if1 .taken) (menu-told rd q (at-push .push .ensures) (sym (at-kind .kind .ensures .0) ∙ at-if2 .if2 .taken) _
+          (at-sized .sized .ensures) (at-choose .choose .ensures .0)),
+      at-choose .choose .ensures .1,
+    )
+
+enter-solve-requires : (t : ℕ) → enter-lts.Need-solve-requires (enter-claims t) (enter-at t) enter.Post
+enter-solve-requires t c κs =
+    let at-start = c .before .before .before .before .before .before .before .before .before .before .before .before .before .before .before .before .before .before .before in
+    let at-if1 = c .before .before .before .before .before .before .before .before .before .before .before .before in
+    let at-push = c .before .before .before .before .before .before .before .before .before .before in
+    let at-if2 = c .before .before .before .before .before .before .before in
+    let at-kind = c .before .before .before .before .before .before .before .before in
+    let at-sized = c .before .before .before .before .before .before .before .before .before in
+    let rd = at-start .pre .1 .0 in
+    let q = rw (at-if1 .if1 .taken) at (at-start .pre .1 .1 .0) in
+    let asked = head-call rd q (at-push .push .ensures) (λ k. at-if2 .if2 .left (at-kind .kind .ensures .0 ∙ k)) _ (at-sized .sized .ensures) t
+    (at-start .pre .0) in
+    (asked .0, (asked .1 .0, (asked .1 .1, equipped-at (ap (λ (x : Branch). x .count) (at-sized .sized .ensures)) (at-start .pre .1 .1 .1))))
+
+enter-same-length-3 : (t : ℕ) → enter-lts.Need-same-length-3 (enter-claims t) (enter-at t) enter.Post
+enter-same-length-3 t c =
+    let at-solve = c .before .before .before .before in
+    at-solve .solve .ensures .1 .code-same
+
+enter-same-length-4 : (t : ℕ) → enter-lts.Need-same-length-4 (enter-claims t) (enter-at t) enter.Post
+enter-same-length-4 t c =
+    let at-solve = c .before .before .before .before in
+    at-solve .solve .ensures .1 .same
+
+enter-returns-2 : (t : ℕ) → enter-lts.Need-returns-2 (enter-claims t) (enter-at t) enter.Post
+enter-returns-2 t c =
+    let at-start = c .before .before .before .before .before .before .before .before .before .before .before .before .before .before .before .before .before .before .before .before .before .before .before .before in
+    let at-if1 = c .before .before .before .before .before .before .before .before .before .before .before .before .before .before .before .before .before in
+    let at-push = c .before .before .before .before .before .before .before .before .before .before .before .before .before .before .before in
+    let at-if2 = c .before .before .before .before .before .before .before .before .before .before .before .before in
+    let at-kind = c .before .before .before .before .before .before .before .before .before .before .before .before .before in
+    let at-sized = c .before .before .before .before .before .before .before .before .before .before .before .before .before .before in
+    let at-solve = c .before .before .before .before in
+    let rd = at-start .pre .1 .0 in
+    let q = rw (at-if1 .if1 .taken) at (at-start .pre .1 .1 .0) in (
+      rw (at-if1 .if1 .taken) (head-told rd q (at-push .push .ensures) (λ k. at-if2 .if2 .left (at-kind .kind .ensures .0 ∙ k)) _
+          (at-sized .sized .ensures) (at-solve .solve .ensures .0)),
+      at-solve .solve .ensures .1,
+    )
+
+enter-put-requires : (t : ℕ) → enter-lts.Need-put-requires (enter-claims t) (enter-at t) enter.Post
+enter-put-requires t c κs =
+    let at-start = c .before .before .before .before .before .before .before .before in
+    let at-if1 = c .before in
+    let rd = at-start .pre .1 .0 in
+    let q = rw (at-if1 .if1 .left) at (at-start .pre .1 .1 .0) in
+    (goal-room rd q, q .laid .room)
+
+enter-longer-requires : (t : ℕ) → enter-lts.Need-longer-requires (enter-claims t) (enter-at t) enter.Post
+enter-longer-requires t c κs =
+    let at-start = c .before .before .before .before .before .before .before .before .before .before .before .before .before .before .before .before in
+    let at-if1 = c .before .before .before .before .before .before .before .before .before in
+    let rd = at-start .pre .1 .0 in
+    let q = rw (at-if1 .if1 .left) at (at-start .pre .1 .1 .0) in
+    goal-room rd q .0
+
+enter-solve-requires-2 : (t : ℕ) → enter-lts.Need-solve-requires-2 (enter-claims t) (enter-at t) enter.Post
+enter-solve-requires-2 t c κs =
+    let at-start = c .before .before .before .before .before .before .before .before .before .before .before .before .before .before .before .before .before in
+    let at-if1 = c .before .before .before .before .before .before .before .before .before .before in
+    let at-put = c .before .before .before .before .before .before .before .before in
+    let at-longer = c in
+    let rd = at-start .pre .1 .0 in
+    let q = rw (at-if1 .if1 .left) at (at-start .pre .1 .1 .0) in
+    let asked = goal-call rd q _ (at-put .put .ensures) _ (at-longer .longer .ensures) t (at-start .pre .0) in
+    (asked .0, (asked .1 .0, (asked .1 .1, equipped-at (ap (λ (x : Branch). x .count) (at-longer .longer .ensures)) (at-start .pre .1 .1 .1))))
+
+enter-same-length-5 : (t : ℕ) → enter-lts.Need-same-length-5 (enter-claims t) (enter-at t) enter.Post
+enter-same-length-5 t c =
+    let at-solve2 = c .before .before .before .before in
+    at-solve2 .solve2 .ensures .1 .code-same
+
+enter-same-length-6 : (t : ℕ) → enter-lts.Need-same-length-6 (enter-claims t) (enter-at t) enter.Post
+enter-same-length-6 t c =
+    let at-solve2 = c .before .before .before .before in
+    at-solve2 .solve2 .ensures .1 .same
+
+enter-returns-3 : (t : ℕ) → enter-lts.Need-returns-3 (enter-claims t) (enter-at t) enter.Post
+enter-returns-3 t c =
+    let at-start = c .before .before .before .before .before .before .before .before .before .before .before .before .before .before .before .before .before .before .before .before .before .before in
+    let at-if1 = c .before .before .before .before .before .before .before .before .before .before .before .before .before .before .before in
+    let at-put = c .before .before .before .before .before .before .before .before .before .before .before .before .before in
+    let at-longer = c .before .before .before .before .before in
+    let at-solve2 = c .before .before .before .before in
+    let rd = at-start .pre .1 .0 in
+    let q = rw (at-if1 .if1 .left) at (at-start .pre .1 .1 .0) in (
+      rw (at-if1 .if1 .left) (goal-told rd q _ (at-put .put .ensures) _ (at-longer .longer .ensures) (at-solve2 .solve2 .ensures .0)),
+      at-solve2 .solve2 .ensures .1,
+    )
+
 last-own-requires : (t : ℕ) → last-lts.Need-own-requires (last-claims t) (last-at t) last.Post
 last-own-requires t c κs = tt
 
@@ -1546,6 +1931,91 @@ need-returns-4 t c =
     let at-others = c .before .before .before .before in
     (at-others .others .ensures .0, at-others .others .ensures .1)
 
+one-of-sub-top : (t : ℕ) → one-of-lts.Need-sub-top (one-of-claims t) (one-of-at t) one-of.Post
+one-of-sub-top t c =
+    let at-start = c .before .before .before .before .before .before .before in
+    let q = at-start .pre .1 .1 .0 in
+    omega (arith, q .some)
+
+one-of-node-requires : (t : ℕ) → one-of-lts.Need-node-requires (one-of-claims t) (one-of-at t) one-of.Post
+one-of-node-requires t c κs =
+    let at-start = c .before .before .before .before .before .before .before in
+    let rd = at-start .pre .1 .0 in
+    let q = at-start .pre .1 .1 .0 in
+    (top-within (at-start .args .b) (rd .sound) (q .laid) (q .some), q .laid .room)
+
+one-of-nest-requires : (t : ℕ) → one-of-lts.Need-nest-requires (one-of-claims t) (one-of-at t) one-of.Post
+one-of-nest-requires t c κs =
+    let at-start = c .before .before .before .before .before .before .before .before in
+    let rd = at-start .pre .1 .0 in
+    let q = at-start .pre .1 .1 .0 in
+    (top-within (at-start .args .b) (rd .sound) (q .laid) (q .some), q .laid .room)
+
+one-of-kind-requires : (t : ℕ) → one-of-lts.Need-kind-requires (one-of-claims t) (one-of-at t) one-of.Post
+one-of-kind-requires t c κs =
+    let at-start = c .before .before .before .before .before .before .before .before .before in
+    let at-node = c .before in
+    let rd = at-start .pre .1 .0 in
+    let q = at-start .pre .1 .1 .0 in
+    rw (at-node .node .ensures) (top-here (at-start .args .b) (rd .sound) (q .laid) (q .some))
+
+one-of-returns : (t : ℕ) → one-of-lts.Need-returns (one-of-claims t) (one-of-at t) one-of.Post
+unfolding answerIn
+one-of-returns t c =
+    let at-start = c .before .before .before .before .before .before .before .before .before .before .before in
+    let at-node = c .before .before .before in
+    let at-kind = c .before in
+    let at-if1 = c in
+    let rd = at-start .pre .1 .0 in
+    let q = at-start .pre .1 .1 .0 in
+    (never-told rd q _ (at-node .node .ensures) (sym (at-kind .kind .ensures .0) ∙ at-if1 .if1 .taken), stays-stuck (at-start .pre .1 .1 .1))
+
+one-of-dropped-requires : (t : ℕ) → one-of-lts.Need-dropped-requires (one-of-claims t) (one-of-at t) one-of.Post
+one-of-dropped-requires t c κs =
+    let at-start = c .before .before .before .before .before .before .before .before .before .before .before .before .before .before .before .before .before in
+    let q = at-start .pre .1 .1 .0 in
+    q .some
+
+one-of-choose-requires : (t : ℕ) → one-of-lts.Need-choose-requires (one-of-claims t) (one-of-at t) one-of.Post
+one-of-choose-requires t c κs =
+    let at-start = c .before .before .before .before .before .before .before .before .before .before .before .before .before .before .before .before .before .before in
+    let at-node = c .before .before .before .before .before .before .before .before .before .before in
+    let at-nest = c .before .before .before .before .before .before .before .before .before in
+    let at-if1 = c .before .before .before .before .before .before .before in
+    let at-kind = c .before .before .before .before .before .before .before .before in
+    let at-dropped = c in
+    let rd = at-start .pre .1 .0 in
+    let q = at-start .pre .1 .1 .0 in
+    let asked = one-of-call rd q _ (at-node .node .ensures) _ (at-nest .nest .ensures) (λ k. at-if1 .if1 .left (at-kind .kind .ensures .0 ∙ k)) _
+    (at-dropped .dropped .ensures) t (at-start .pre .0) in
+    (asked .0, (asked .1 .0, (asked .1 .1, equipped-at (ap (λ (x : Branch). x .count) (at-dropped .dropped .ensures)) (at-start .pre .1 .1 .1))))
+
+one-of-same-length : (t : ℕ) → one-of-lts.Need-same-length (one-of-claims t) (one-of-at t) one-of.Post
+one-of-same-length t c =
+    let at-choose = c .before .before .before .before in
+    at-choose .choose .ensures .1 .code-same
+
+one-of-same-length-2 : (t : ℕ) → one-of-lts.Need-same-length-2 (one-of-claims t) (one-of-at t) one-of.Post
+one-of-same-length-2 t c =
+    let at-choose = c .before .before .before .before in
+    at-choose .choose .ensures .1 .same
+
+one-of-returns-2 : (t : ℕ) → one-of-lts.Need-returns-2 (one-of-claims t) (one-of-at t) one-of.Post
+one-of-returns-2 t c =
+    let at-start = c .before .before .before .before .before .before .before .before .before .before .before .before .before .before .before .before .before .before .before .before .before .before .before in
+    let at-node = c .before .before .before .before .before .before .before .before .before .before .before .before .before .before .before in
+    let at-nest = c .before .before .before .before .before .before .before .before .before .before .before .before .before .before in
+    let at-if1 = c .before .before .before .before .before .before .before .before .before .before .before .before in
+    let at-kind = c .before .before .before .before .before .before .before .before .before .before .before .before .before in
+    let at-dropped = c .before .before .before .before .before in
+    let at-choose = c .before .before .before .before in
+    let rd = at-start .pre .1 .0 in
+    let q = at-start .pre .1 .1 .0 in (
+      one-of-told rd q _ (at-node .node .ensures) _ (at-nest .nest .ensures) (λ k. at-if1 .if1 .left (at-kind .kind .ensures .0 ∙ k)) _
+          (at-dropped .dropped .ensures) (at-choose .choose .ensures .0),
+      at-choose .choose .ensures .1,
+    )
+
 abbrev others-Inv-loop : others-lts.InvT-loop
 others-Inv-loop card waits tape₀ nodes₀ heads₀ way₀ names table masks codes₀ words₀ agenda first f b name from₀ tape nodes heads
     way codes words from =
@@ -1692,7 +2162,7 @@ others-use-clause-requires t c κs =
     let name = name-of (step .next) _ _ (at-left .left .ensures .0) (at-node .node .ensures) in
     let seen = seek-at step _ _ _ _ name _ (at-seek .seek .ensures) _ (at-next .next .given .1) in
     let can = round-use step _ _ _ _ name _ (at-seek .seek .ensures) _ (at-next .next .given .1) in
-    (omega arith, (round-call rd step turn _ (at-past .past .ensures), (can, kit)))
+    (omega arith, (round-call rd step turn _ (at-past .past .ensures), ((can, name), kit)))
 
 others-enum-told-2 : (t : ℕ) → others-lts.Need-enum-told-2 (others-claims t) (others-at t) others.Post others-Inv-loop others-μ-loop
 others-enum-told-2 t c = c .match2 .keys1
@@ -1911,6 +2381,156 @@ part-returns-2 t c =
     let at-lent = c .before .before .before .before in
     (at-lent .lent .ensures .0, at-lent .lent .ensures .1)
 
+side-returns : (t : ℕ) → side-lts.Need-returns (side-claims t) (side-at t) side.Post
+unfolding answerIn
+side-returns t c =
+    let at-start = c .before .before .before .before .before .before .before in
+    let at-if1 = c in
+    let rd = at-start .pre .1 .0 in
+    let q = at-start .pre .1 .1 .0 in
+    (side-under rd (q .0) (q .1) (at-if1 .if1 .taken), stays-stuck (at-start .pre .1 .1 .1))
+
+side-cast-tape : (t : ℕ) → side-lts.Need-cast-tape (side-claims t) (side-at t) side.Post
+side-cast-tape t c =
+    let at-start = c .before .before .before .before .before .before .before in
+    let rd = at-start .pre .1 .0 in
+    let q = at-start .pre .1 .1 .0 in
+    let low = choice-byte rd (q .0) (q .1) in search needs
+
+side-element-write-tape : (t : ℕ) → side-lts.Need-element-write-tape (side-claims t) (side-at t) side.Post
+side-element-write-tape t c =
+    let at-start = c .before .before .before .before .before .before .before in
+    let rd = at-start .pre .1 .0 in
+    let q = at-start .pre .1 .1 .0 in
+    let low = choice-tape rd (q .0) (q .1) in search needs
+
+side-side-requires : (t : ℕ) → side-lts.Need-side-requires (side-claims t) (side-at t) side.Post
+side-side-requires t c κs =
+    let at-start = c .before .before .before .before .before .before .before in
+    let rd = at-start .pre .1 .0 in
+    let q = at-start .pre .1 .1 .0 in
+    choice-here (rd .sound) (q .0)
+
+side-shut-requires : (t : ℕ) → side-lts.Need-shut-requires (side-claims t) (side-at t) side.Post
+side-shut-requires t c κs =
+    let at-start = c .before .before .before .before .before .before .before .before in
+    let at-side = c in
+    let rd = at-start .pre .1 .0 in
+    let q = at-start .pre .1 .1 .0 in
+    (rd .sound, λ m. side-clause (rd .sound) (q .0) _ _ (q .1 .choice) (at-side .side .ensures) m)
+
+side-returns-2 : (t : ℕ) → side-lts.Need-returns-2 (side-claims t) (side-at t) side.Post
+unfolding answerIn
+side-returns-2 t c =
+    let at-start = c .before .before .before .before .before .before .before .before .before .before in
+    let at-if1 = c .before .before .before in
+    let at-shut = c .before in
+    let at-if2 = c in
+    let at-side = c .before .before in
+    let rd = at-start .pre .1 .0 in
+    let q = at-start .pre .1 .1 .0 in
+    let l = at-if1 .if1 .left in
+    let h = sym (at-shut .shut .ensures) ∙ at-if2 .if2 .taken in
+    (side-shut rd (q .0) (q .1) l (at-side .side .ensures) h, stays-stuck (at-start .pre .1 .1 .1))
+
+side-keeps-requires : (t : ℕ) → side-lts.Need-keeps-requires (side-claims t) (side-at t) side.Post
+side-keeps-requires t c κs =
+    tt
+
+side-past-requires : (t : ℕ) → side-lts.Need-past-requires (side-claims t) (side-at t) side.Post
+side-past-requires t c κs =
+    tt
+
+side-chose-requires : (t : ℕ) → side-lts.Need-chose-requires (side-claims t) (side-at t) side.Post
+side-chose-requires t c κs =
+    let at-start = c .before .before .before .before .before .before .before .before .before .before .before .before .before .before .before .before .before .before .before .before in
+    let rd = at-start .pre .1 .0 in
+    let q = at-start .pre .1 .1 .0 in
+    choice-tape rd (q .0) (q .1)
+
+side-enter-requires : (t : ℕ) → side-lts.Need-enter-requires (side-claims t) (side-at t) side.Post
+side-enter-requires t c κs =
+    let at-start = c .before .before .before .before .before .before .before .before .before .before .before .before .before .before .before .before .before .before .before .before .before in
+    let at-shut = c .before .before .before .before .before .before .before .before .before .before .before .before in
+    let at-if2 = c .before .before .before .before .before .before .before .before .before .before .before in
+    let at-if1 = c .before .before .before .before .before .before .before .before .before .before .before .before .before .before in
+    let at-side = c .before .before .before .before .before .before .before .before .before .before .before .before .before in
+    let at-keeps = c .before .before .before .before .before .before .before .before .before .before in
+    let at-past = c .before in
+    let at-chose = c in
+    let rd = at-start .pre .1 .0 in
+    let q = at-start .pre .1 .1 .0 in
+    let h = sym (at-shut .shut .ensures) ∙ at-if2 .if2 .left in
+    let asked = side-call rd (q .0) (q .1) (at-if1 .if1 .left) (at-side .side .ensures) _ _ (at-keeps .keeps .ensures) (at-past .past .ensures) _
+    (at-chose .chose .ensures) h t (at-start .pre .0) in
+    (asked .0, (asked .1 .0, (asked .1 .1, equipped-at (ap (λ (x : Branch). x .count) (at-chose .chose .ensures)) (at-start .pre .1 .1 .1))))
+
+side-enum-told : (t : ℕ) → side-lts.Need-enum-told (side-claims t) (side-at t) side.Post
+side-enum-told t c =
+    let at-match = c in
+    at-match .match .keys1
+
+side-same-length : (t : ℕ) → side-lts.Need-same-length (side-claims t) (side-at t) side.Post
+side-same-length t c =
+    let at-enter = c .before .before .before .before .before in
+    at-enter .enter .ensures .1 .code-same
+
+side-same-length-2 : (t : ℕ) → side-lts.Need-same-length-2 (side-claims t) (side-at t) side.Post
+side-same-length-2 t c =
+    let at-enter = c .before .before .before .before .before in
+    at-enter .enter .ensures .1 .same
+
+side-returns-3 : (t : ℕ) → side-lts.Need-returns-3 (side-claims t) (side-at t) side.Post
+side-returns-3 t c =
+    let at-start = c .before .before .before .before .before .before .before .before .before .before .before .before .before .before .before .before .before .before .before .before .before .before .before .before .before .before .before in
+    let at-if1 = c .before .before .before .before .before .before .before .before .before .before .before .before .before .before .before .before .before .before .before .before in
+    let at-side = c .before .before .before .before .before .before .before .before .before .before .before .before .before .before .before .before .before .before .before in
+    let at-keeps = c .before .before .before .before .before .before .before .before .before .before .before .before .before .before .before .before in
+    let at-past = c .before .before .before .before .before .before .before in
+    let at-chose = c .before .before .before .before .before .before in
+    let at-enter = c .before .before .before .before .before in
+    let at-match = c in
+    let rd = at-start .pre .1 .0 in
+    let q = at-start .pre .1 .1 .0 in (
+      side-unsolved rd (q .0) (q .1) (at-if1 .if1 .left) (at-side .side .ensures) _ _ (at-keeps .keeps .ensures) (at-past .past .ensures) _
+          (at-chose .chose .ensures) (at-enter .enter .ensures .0) (unsolved _ (at-match .match .keys2) _),
+      at-enter .enter .ensures .1,
+    )
+
+side-follow-requires : (t : ℕ) → side-lts.Need-follow-requires (side-claims t) (side-at t) side.Post
+side-follow-requires t c κs =
+    let at-enter = c .before .before .before .before .before .before .before in
+    at-enter .enter .ensures .1 .way-room
+
+side-same-length-3 : (t : ℕ) → side-lts.Need-same-length-3 (side-claims t) (side-at t) side.Post
+side-same-length-3 t c =
+    let at-enter = c .before .before .before .before .before .before .before .before in
+    at-enter .enter .ensures .1 .code-same
+
+side-same-length-4 : (t : ℕ) → side-lts.Need-same-length-4 (side-claims t) (side-at t) side.Post
+side-same-length-4 t c =
+    let at-enter = c .before .before .before .before .before .before .before .before in
+    at-enter .enter .ensures .1 .same
+
+side-returns-4 : (t : ℕ) → side-lts.Need-returns-4 (side-claims t) (side-at t) side.Post
+unfolding answerIn
+side-returns-4 t c =
+    let at-start = c .before .before .before .before .before .before .before .before .before .before .before .before .before .before .before .before .before .before .before .before .before .before .before .before .before .before .before .before .before .before in
+    let at-if1 = c .before .before .before .before .before .before .before .before .before .before .before .before .before .before .before .before .before .before .before .before .before .before .before in
+    let at-side = c .before .before .before .before .before .before .before .before .before .before .before .before .before .before .before .before .before .before .before .before .before .before in
+    let at-keeps = c .before .before .before .before .before .before .before .before .before .before .before .before .before .before .before .before .before .before .before in
+    let at-past = c .before .before .before .before .before .before .before .before .before .before in
+    let at-chose = c .before .before .before .before .before .before .before .before .before in
+    let at-enter = c .before .before .before .before .before .before .before .before in
+    let at-enum-told = c .before .before in
+    let at-follow = c in
+    let rd = at-start .pre .1 .0 in
+    let q = at-start .pre .1 .1 .0 in (
+      side-solved rd (q .0) (q .1) (at-if1 .if1 .left) (at-side .side .ensures) _ _ (at-keeps .keeps .ensures) (at-past .past .ensures) _
+          (at-chose .chose .ensures) (at-enter .enter .ensures .0) _ _ (solved-said (at-enum-told .enum-told .given .1) _) (at-follow .follow .ensures .0),
+      stays-from large-self (at-enter .enter .ensures .1) _ (at-follow .follow .ensures .1) (weary-solved _),
+    )
+
 solve-unwind-requires : (t : ℕ) → solve-lts.Need-unwind-requires (solve-claims t) (solve-at t) solve.Post
 solve-unwind-requires t c κs =
     let start = c .before .before .before .before .before .before .before in
@@ -2006,17 +2626,60 @@ solve-returns-2 t c =
     .before .before in
     (unwound-searched (at-unwind .unwind .ensures .0) (at-need .need .ensures .0), at-need .need .ensures .1)
 
+solve-one-of-requires : (t : ℕ) → solve-lts.Need-one-of-requires (solve-claims t) (solve-at t) solve.Post
+solve-one-of-requires t c κs =
+    let at-start = c .before .before .before .before .before .before .before .before .before .before .before .before .before .before .before .before .before .before .before .before .before .before .before in
+    let at-unwind = c .before .before .before .before .before .before .before .before .before .before .before .before .before .before .before in
+    let at-if1 = c .before .before .before .before .before .before .before .before .before .before .before .before .before in
+    let at-node = c .before .before .before .before .before .before .before .before .before .before in
+    let at-kind = c .before .before .before .before .before .before .before .before .before in
+    let at-if3 = c .before .before .before .before .before .before .before in
+    let rd = at-start .pre .1 .0 in
+    let eq = at-start .pre .1 .1 .1 in
+    let number-is = at-start .pre .0 in
+    let u = at-unwind .unwind .ensures .0 in
+    let some = at-if1 .if1 .left in
+    let top = at-node .node .ensures in
+    let falls = unwound-number u in (
+      omega (arith, falls, number-is),
+      (
+        unwound-ready u rd,
+        (
+          one-of-next (u .laid) (at-unwind .unwind .ensures .1) (omega arith)
+              (at-kind .kind .ensures .0 ∙ ap (kindAt (at-start .args .card .now)) top) (at-if3 .if3 .taken),
+          equipped-at (u .same-count) eq,
+        ),
+      ),
+    )
+
+solve-same-length-3 : (t : ℕ) → solve-lts.Need-same-length-3 (solve-claims t) (solve-at t) solve.Post
+solve-same-length-3 t c =
+    let at-one-of = c .before .before .before .before in
+    at-one-of .one-of .ensures .1 .code-same
+
+solve-same-length-4 : (t : ℕ) → solve-lts.Need-same-length-4 (solve-claims t) (solve-at t) solve.Post
+solve-same-length-4 t c =
+    let at-one-of = c .before .before .before .before in
+    at-one-of .one-of .ensures .1 .same
+
+solve-returns-3 : (t : ℕ) → solve-lts.Need-returns-3 (solve-claims t) (solve-at t) solve.Post
+solve-returns-3 t c =
+    let at-unwind = c .before .before .before .before .before .before .before .before .before .before .before .before .before .before .before .before .before .before .before .before in
+    let at-one-of = c .before .before .before .before in
+    (unwound-searched (at-unwind .unwind .ensures .0) (at-one-of .one-of .ensures .0), at-one-of .one-of .ensures .1)
+
 solve-behind-requires : (t : ℕ) → solve-lts.Need-behind-requires (solve-claims t) (solve-at t) solve.Post
 solve-behind-requires t c κs =
-    let at-if2 = c .before .before .before .before .before .before .before in
-    let at-kind = at-if2 .before in
-    let at-node = at-kind .before in
-    let at-if1 = at-node .before .before .before in
-    let at-unwind = at-if1 .before .before in
-    let start = at-unwind .before .before .before .before .before .before .before .before in
-    let rd = start .pre .1 .0 in
-    let eq = start .pre .1 .1 .1 in
-    let number-is = start .pre .0 in
+    let at-start = c .before .before .before .before .before .before .before .before .before .before .before .before .before .before .before .before .before .before .before .before .before .before .before in
+    let at-unwind = c .before .before .before .before .before .before .before .before .before .before .before .before .before .before .before in
+    let at-if1 = c .before .before .before .before .before .before .before .before .before .before .before .before .before in
+    let at-node = c .before .before .before .before .before .before .before .before .before .before in
+    let at-kind = c .before .before .before .before .before .before .before .before .before in
+    let at-if2 = c .before .before .before .before .before .before .before .before in
+    let at-if3 = c .before .before .before .before .before .before .before in
+    let rd = at-start .pre .1 .0 in
+    let eq = at-start .pre .1 .1 .1 in
+    let number-is = at-start .pre .0 in
     let u = at-unwind .unwind .ensures .0 in
     let some = at-if1 .if1 .left in
     let top = at-node .node .ensures in
@@ -2026,154 +2689,153 @@ solve-behind-requires t c κs =
         unwound-ready u rd,
         (
           part-next (u .laid) (at-unwind .unwind .ensures .1) (omega arith)
-              (at-kind .kind .ensures .0 ∙ ap (kindAt (start .args .card .now)) top) (at-if2 .if2 .left),
+              (at-kind .kind .ensures .0 ∙ ap (kindAt (at-start .args .card .now)) top) (at-if2 .if2 .left) (at-if3 .if3 .left),
           equipped-at (u .same-count) eq,
         ),
       ),
     )
 
-solve-same-length-3 : (t : ℕ) → solve-lts.Need-same-length-3 (solve-claims t) (solve-at t) solve.Post
-solve-same-length-3 t c =
+solve-same-length-5 : (t : ℕ) → solve-lts.Need-same-length-5 (solve-claims t) (solve-at t) solve.Post
+solve-same-length-5 t c =
     let at-behind = c .before .before .before .before in
     at-behind .behind .ensures .1 .code-same
 
-solve-same-length-4 : (t : ℕ) → solve-lts.Need-same-length-4 (solve-claims t) (solve-at t) solve.Post
-solve-same-length-4 t c =
+solve-same-length-6 : (t : ℕ) → solve-lts.Need-same-length-6 (solve-claims t) (solve-at t) solve.Post
+solve-same-length-6 t c =
     let at-behind = c .before .before .before .before in
     at-behind .behind .ensures .1 .same
 
-solve-returns-3 : (t : ℕ) → solve-lts.Need-returns-3 (solve-claims t) (solve-at t) solve.Post
-solve-returns-3 t c =
+solve-returns-4 : (t : ℕ) → solve-lts.Need-returns-4 (solve-claims t) (solve-at t) solve.Post
+solve-returns-4 t c =
+    let at-unwind = c .before .before .before .before .before .before .before .before .before .before .before .before .before .before .before .before .before .before .before .before in
     let at-behind = c .before .before .before .before in
-    let at-unwind = at-behind .before .before .before .before .before .before .before .before .before .before .before .before
-    .before .before .before in
     (unwound-searched (at-unwind .unwind .ensures .0) (at-behind .behind .ensures .0), at-behind .behind .ensures .1)
 
 use-clause-cast-tape : (t : ℕ) → use-clause-lts.Need-cast-tape (use-clause-claims t) (use-clause-at t) use-clause.Post
 use-clause-cast-tape t c =
-    let start = c .before .before .before .before .before .before in
-    let rd = start .pre .1 .0 in
-    let can = start .pre .1 .1 .0 in
+    let at-start = c .before .before .before .before .before .before in
+    let rd = at-start .pre .1 .0 in
+    let can = at-start .pre .1 .1 .0 .0 in
     let low = entry-byte rd (can .step .next) can in search needs
 
 use-clause-element-write-tape : (t : ℕ) → use-clause-lts.Need-element-write-tape (use-clause-claims t) (use-clause-at t) use-clause.Post
 use-clause-element-write-tape t c =
-    let start = c .before .before .before .before .before .before in
-    let rd = start .pre .1 .0 in
-    let can = start .pre .1 .1 .0 in
+    let at-start = c .before .before .before .before .before .before in
+    let rd = at-start .pre .1 .0 in
+    let can = at-start .pre .1 .1 .0 .0 in
     let low = at-inside rd (can .step .next) can in search needs
 
 use-clause-sub-top : (t : ℕ) → use-clause-lts.Need-sub-top (use-clause-claims t) (use-clause-at t) use-clause.Post
 use-clause-sub-top t c =
-    let start = c .before .before .before .before .before .before .before in
-    let can = start .pre .1 .1 .0 in
+    let at-start = c .before .before .before .before .before .before .before in
+    let can = at-start .pre .1 .1 .0 .0 in
     let some = can .step .next .some in search needs
 
 use-clause-mul-clause : (t : ℕ) → use-clause-lts.Need-mul-clause (use-clause-claims t) (use-clause-at t) use-clause.Post
 use-clause-mul-clause t c =
-    let start = c .before .before .before .before .before .before .before in
-    let rd = start .pre .1 .0 in
-    let can = start .pre .1 .1 .0 in
+    let at-start = c .before .before .before .before .before .before .before in
+    let rd = at-start .pre .1 .0 in
+    let can = at-start .pre .1 .1 .0 .0 in
     let low = entry-byte rd (can .step .next) can in omega arith
 
-use-clause-element-copy-out-clause : (t : ℕ) → use-clause-lts.Need-element-copy-out-clause (use-clause-claims t) (use-clause-at t)
-    use-clause.Post
+use-clause-element-copy-out-clause : (t : ℕ) → use-clause-lts.Need-element-copy-out-clause (use-clause-claims t) (use-clause-at t) use-clause.Post
 use-clause-element-copy-out-clause t c =
-    let start = c .before .before .before .before .before .before .before in
-    let rd = start .pre .1 .0 in
-    let can = start .pre .1 .1 .0 in
+    let at-start = c .before .before .before .before .before .before .before in
+    let rd = at-start .pre .1 .0 in
+    let can = at-start .pre .1 .1 .0 .0 in
     let low = entry-byte rd (can .step .next) can in search needs
 
 use-clause-cast-clause : (t : ℕ) → use-clause-lts.Need-cast-clause (use-clause-claims t) (use-clause-at t) use-clause.Post
 use-clause-cast-clause t c =
-    let start = c .before .before .before .before .before .before .before .before in
-    let rd = start .pre .1 .0 in
-    let can = start .pre .1 .1 .0 in
+    let at-start = c .before .before .before .before .before .before .before .before in
+    let rd = at-start .pre .1 .0 in
+    let can = at-start .pre .1 .1 .0 .0 in
     let low = clause-lower _ _ _ (entry-clause rd (can .step .next) can) in
     let f = sound-front _ (rd .sound) in omega arith
 
-use-clause-conditions-requires : (t : ℕ) → use-clause-lts.Need-conditions-requires (use-clause-claims t) (use-clause-at t) use-clause.Post
-use-clause-conditions-requires t c κs =
-    let start = c .before .before .before .before .before .before .before .before .before .before in
-    let rd = start .pre .1 .0 in
-    let can = start .pre .1 .1 .0 in
-    let q = push-room rd (can .step .next) can _ _ refl refl in
-    let inside = top-inside rd (can .step .next) in
-    (rd .sound, (q .0, ((inside .0, (q .1 .1, inside .1)), can .step .deep)))
+use-clause-inner-requires : (t : ℕ) → use-clause-lts.Need-inner-requires (use-clause-claims t) (use-clause-at t) use-clause.Post
+use-clause-inner-requires t c κs =
+    let at-start = c .before .before .before .before .before .before .before .before in
+    let rd = at-start .pre .1 .0 in
+    let can = at-start .pre .1 .1 .0 .0 in
+    (top-inside rd (can .step .next), can .step .deep)
 
 use-clause-byte-requires : (t : ℕ) → use-clause-lts.Need-byte-requires (use-clause-claims t) (use-clause-at t) use-clause.Post
 use-clause-byte-requires t c κs =
-    let start = c .before .before .before .before .before .before .before .before .before .before .before in
-    let rd = start .pre .1 .0 in
+    let at-start = c .before .before .before .before .before .before .before .before .before .before in
+    let rd = at-start .pre .1 .0 in
     card-front (rd .sound) 3 (omega arith)
 
 use-clause-byte-requires-2 : (t : ℕ) → use-clause-lts.Need-byte-requires-2 (use-clause-claims t) (use-clause-at t) use-clause.Post
 use-clause-byte-requires-2 t c κs =
-    let start = c .before .before .before .before .before .before .before .before .before .before .before .before in
-    let rd = start .pre .1 .0 in
+    let at-start = c .before .before .before .before .before .before .before .before .before .before .before in
+    let rd = at-start .pre .1 .0 in
     card-front (rd .sound) 4 (omega arith)
 
 use-clause-using-requires : (t : ℕ) → use-clause-lts.Need-using-requires (use-clause-claims t) (use-clause-at t) use-clause.Post
 use-clause-using-requires t c κs =
-    let start = c .before .before .before .before .before .before .before .before .before .before .before .before .before in
-    let rd = start .pre .1 .0 in
-    let can = start .pre .1 .1 .0 in
+    let at-start = c .before .before .before .before .before .before .before .before .before .before .before .before in
+    let rd = at-start .pre .1 .0 in
+    let can = at-start .pre .1 .1 .0 .0 in
     at-inside rd (can .step .next) can
 
-use-clause-solve-requires : (t : ℕ) → use-clause-lts.Need-solve-requires (use-clause-claims t) (use-clause-at t) use-clause.Post
-use-clause-solve-requires t c κs =
+use-clause-enter-requires : (t : ℕ) → use-clause-lts.Need-enter-requires (use-clause-claims t) (use-clause-at t) use-clause.Post
+use-clause-enter-requires t c κs =
+    let at-start = c .before .before .before .before .before .before .before .before .before .before .before .before .before .before .before .before .before .before .before .before in
+    let at-inner = c .before .before .before .before .before .before .before .before .before .before .before in
+    let at-byte = c .before .before .before .before .before .before .before .before .before in
+    let at-byte2 = c .before .before .before .before .before .before .before .before in
     let at-using = c .before .before .before .before .before .before .before in
-    let at-byte2 = at-using .before in
-    let at-byte = at-byte2 .before in
-    let at-conditions = at-byte .before in
-    let start = at-conditions .before .before .before .before .before .before .before .before .before .before .before in
-    let rd = start .pre .1 .0 in
-    let eq = start .pre .1 .1 .1 in
-    let number-is = start .pre .0 in
-    let can = start .pre .1 .1 .0 in
-    let asked = use-call rd (can .step .next) can _ _ _ refl refl (at-conditions .conditions .ensures) _ _ (at-byte .byte .ensures .0) (at-byte2 .byte2 .ensures .0) _ (at-using .«using» .ensures) t
-    number-is in
+    let rd = at-start .pre .1 .0 in
+    let eq = at-start .pre .1 .1 .1 in
+    let can = at-start .pre .1 .1 .0 .0 in
+    let asked = use-call rd (can .step .next) can _ _ _ _ _ _ refl (at-inner .inner .ensures) (at-start .pre .1 .1 .0 .1) refl
+    (at-byte .byte .ensures .0) (at-byte2 .byte2 .ensures .0) _ (at-using .«using» .ensures) t (at-start .pre .0) in
     (asked .0, (asked .1 .0, (asked .1 .1, equipped-at (using-count _ _ _ _ _ _ (at-using .«using» .ensures)) eq)))
 
 use-clause-same-length : (t : ℕ) → use-clause-lts.Need-same-length (use-clause-claims t) (use-clause-at t) use-clause.Post
 use-clause-same-length t c =
-    let at-solve = c .before .before .before .before in
-    at-solve .solve .ensures .1 .code-same
+    let at-enter = c .before .before .before .before in
+    at-enter .enter .ensures .1 .code-same
 
 use-clause-same-length-2 : (t : ℕ) → use-clause-lts.Need-same-length-2 (use-clause-claims t) (use-clause-at t) use-clause.Post
 use-clause-same-length-2 t c =
-    let at-solve = c .before .before .before .before in
-    at-solve .solve .ensures .1 .same
+    let at-enter = c .before .before .before .before in
+    at-enter .enter .ensures .1 .same
 
 use-clause-returns : (t : ℕ) → use-clause-lts.Need-returns (use-clause-claims t) (use-clause-at t) use-clause.Post
 use-clause-returns t c =
-    let at-solve = c .before .before .before .before in
-    let at-using = at-solve .before .before .before .before .before .before .before .before in
-    let at-byte2 = at-using .before in
-    let at-byte = at-byte2 .before in
-    let at-conditions = at-byte .before in
-    let start = at-conditions .before .before .before .before .before .before .before .before .before .before .before in
-    let rd = start .pre .1 .0 in
-    let can = start .pre .1 .1 .0 in (
-      use-told rd (can .step .next) can _ _ _ refl refl (at-conditions .conditions .ensures) _ _ (at-byte .byte .ensures .0) (at-byte2 .byte2 .ensures .0) _ (at-using .«using» .ensures) (at-solve
-          .solve .ensures .0),
-      at-solve .solve .ensures .1,
+    let at-start = c .before .before .before .before .before .before .before .before .before .before .before .before .before .before .before .before .before .before .before .before .before .before .before .before .before in
+    let at-inner = c .before .before .before .before .before .before .before .before .before .before .before .before .before .before .before .before in
+    let at-byte = c .before .before .before .before .before .before .before .before .before .before .before .before .before .before in
+    let at-byte2 = c .before .before .before .before .before .before .before .before .before .before .before .before .before in
+    let at-using = c .before .before .before .before .before .before .before .before .before .before .before .before in
+    let at-enter = c .before .before .before .before in
+    let rd = at-start .pre .1 .0 in
+    let can = at-start .pre .1 .1 .0 .0 in (
+      use-told rd (can .step .next) can _ _ _ _ _ _ refl (at-inner .inner .ensures) (at-start .pre .1 .1 .0 .1) refl
+          (at-byte .byte .ensures .0) (at-byte2 .byte2 .ensures .0) _ (at-using .«using» .ensures) (at-enter .enter .ensures .0),
+      at-enter .enter .ensures .1,
     )
 
-pub +behind+both-ways+last+lent+need+others+part+solve+use-clause-spec : {M : Type 1} → statement M
-+behind+both-ways+last+lent+need+others+part+solve+use-clause-spec =
+pub +behind+both-ways+choose+enter+last+lent+need+one-of+others+part+side+solve+use-clause-spec :
+    {M : Type 1} → statement M
++behind+both-ways+choose+enter+last+lent+need+one-of+others+part+side+solve+use-clause-spec =
     close
     μ-behind
     μ-both-ways
+    μ-choose
+    μ-enter
     μ-last
     μ-lent
     μ-need
+    μ-one-of
     μ-others
     μ-part
+    μ-side
     μ-solve
     μ-use-clause
-    (λ t. behind-lts.spec (behind-claims t)
-    (behind-at t)
+    (λ t. behind-lts.spec (behind-claims t) (behind-at t)
     behind.Post
     behind-Inv-loop
     behind-μ-loop
@@ -2212,8 +2874,7 @@ pub +behind+both-ways+last+lent+need+others+part+solve+use-clause-spec : {M : Ty
     (behind-same-length-9 t)
     (behind-same-length-10 t)
     (behind-returns-5 t))
-    (λ t. both-ways-lts.spec (both-ways-claims t)
-    (both-ways-at t)
+    (λ t. both-ways-lts.spec (both-ways-claims t) (both-ways-at t)
     both-ways.Post
     both-ways-Inv-loop
     both-ways-μ-loop
@@ -2249,8 +2910,39 @@ pub +behind+both-ways+last+lent+need+others+part+solve+use-clause-spec : {M : Ty
     (both-ways-same-length-7 t)
     (both-ways-same-length-8 t)
     (both-ways-returns-4 t))
-    (λ t. last-lts.spec (last-claims t)
-    (last-at t)
+    (λ t. choose-lts.spec (choose-claims t) (choose-at t)
+    choose.Post
+    (choose-returns t)
+    (choose-first-at-requires t)
+    (choose-side-requires t)
+    (choose-enum-told t)
+    (choose-same-length t)
+    (choose-same-length-2 t)
+    (choose-returns-2 t)
+    (choose-side-requires-2 t)
+    (choose-same-length-3 t)
+    (choose-same-length-4 t)
+    (choose-returns-3 t))
+    (λ t. enter-lts.spec (enter-claims t) (enter-at t)
+    enter.Post
+    (enter-push-requires t)
+    (enter-sized-requires t)
+    (enter-kind-requires t)
+    (enter-choose-requires t)
+    (enter-same-length t)
+    (enter-same-length-2 t)
+    (enter-returns t)
+    (enter-solve-requires t)
+    (enter-same-length-3 t)
+    (enter-same-length-4 t)
+    (enter-returns-2 t)
+    (enter-put-requires t)
+    (enter-longer-requires t)
+    (enter-solve-requires-2 t)
+    (enter-same-length-5 t)
+    (enter-same-length-6 t)
+    (enter-returns-3 t))
+    (λ t. last-lts.spec (last-claims t) (last-at t)
     last.Post
     (last-own-requires t)
     (last-part-requires t)
@@ -2264,8 +2956,7 @@ pub +behind+both-ways+last+lent+need+others+part+solve+use-clause-spec : {M : Ty
     (last-same-length-3 t)
     (last-same-length-4 t)
     (last-returns-2 t))
-    (λ t. lent-lts.spec (lent-claims t)
-    (lent-at t)
+    (λ t. lent-lts.spec (lent-claims t) (lent-at t)
     lent.Post
     (lent-left-requires t)
     (lent-put-requires t)
@@ -2283,8 +2974,7 @@ pub +behind+both-ways+last+lent+need+others+part+solve+use-clause-spec : {M : Ty
     (lent-same-length-3 t)
     (lent-same-length-4 t)
     (lent-returns-2 t))
-    (λ t. need-lts.spec (need-claims t)
-    (need-at t)
+    (λ t. need-lts.spec (need-claims t) (need-at t)
     need.Post
     (need-sub-nest t)
     (need-nest-requires t)
@@ -2299,8 +2989,19 @@ pub +behind+both-ways+last+lent+need+others+part+solve+use-clause-spec : {M : Ty
     (need-same-length-3 t)
     (need-same-length-4 t)
     (need-returns-4 t))
-    (λ t. others-lts.spec (others-claims t)
-    (others-at t)
+    (λ t. one-of-lts.spec (one-of-claims t) (one-of-at t)
+    one-of.Post
+    (one-of-sub-top t)
+    (one-of-node-requires t)
+    (one-of-nest-requires t)
+    (one-of-kind-requires t)
+    (one-of-returns t)
+    (one-of-dropped-requires t)
+    (one-of-choose-requires t)
+    (one-of-same-length t)
+    (one-of-same-length-2 t)
+    (one-of-returns-2 t))
+    (λ t. others-lts.spec (others-claims t) (others-at t)
     others.Post
     others-Inv-loop
     others-μ-loop
@@ -2333,8 +3034,7 @@ pub +behind+both-ways+last+lent+need+others+part+solve+use-clause-spec : {M : Ty
     (others-same-length-5 t)
     (others-same-length-6 t)
     (others-returns-3 t))
-    (λ t. part-lts.spec (part-claims t)
-    (part-at t)
+    (λ t. part-lts.spec (part-claims t) (part-at t)
     part.Post
     (part-kind-requires t)
     (part-both-ways-requires t)
@@ -2345,8 +3045,27 @@ pub +behind+both-ways+last+lent+need+others+part+solve+use-clause-spec : {M : Ty
     (part-same-length-3 t)
     (part-same-length-4 t)
     (part-returns-2 t))
-    (λ t. solve-lts.spec (solve-claims t)
-    (solve-at t)
+    (λ t. side-lts.spec (side-claims t) (side-at t)
+    side.Post
+    (side-returns t)
+    (side-cast-tape t)
+    (side-element-write-tape t)
+    (side-side-requires t)
+    (side-shut-requires t)
+    (side-returns-2 t)
+    (side-keeps-requires t)
+    (side-past-requires t)
+    (side-chose-requires t)
+    (side-enter-requires t)
+    (side-enum-told t)
+    (side-same-length t)
+    (side-same-length-2 t)
+    (side-returns-3 t)
+    (side-follow-requires t)
+    (side-same-length-3 t)
+    (side-same-length-4 t)
+    (side-returns-4 t))
+    (λ t. solve-lts.spec (solve-claims t) (solve-at t)
     solve.Post
     (solve-unwind-requires t)
     (solve-closed-requires t)
@@ -2358,12 +3077,15 @@ pub +behind+both-ways+last+lent+need+others+part+solve+use-clause-spec : {M : Ty
     (solve-same-length t)
     (solve-same-length-2 t)
     (solve-returns-2 t)
-    (solve-behind-requires t)
+    (solve-one-of-requires t)
     (solve-same-length-3 t)
     (solve-same-length-4 t)
-    (solve-returns-3 t))
-    λ t. use-clause-lts.spec (use-clause-claims t)
-    (use-clause-at t)
+    (solve-returns-3 t)
+    (solve-behind-requires t)
+    (solve-same-length-5 t)
+    (solve-same-length-6 t)
+    (solve-returns-4 t))
+    λ t. use-clause-lts.spec (use-clause-claims t) (use-clause-at t)
     use-clause.Post
     (use-clause-cast-tape t)
     (use-clause-element-write-tape t)
@@ -2371,11 +3093,11 @@ pub +behind+both-ways+last+lent+need+others+part+solve+use-clause-spec : {M : Ty
     (use-clause-mul-clause t)
     (use-clause-element-copy-out-clause t)
     (use-clause-cast-clause t)
-    (use-clause-conditions-requires t)
+    (use-clause-inner-requires t)
     (use-clause-byte-requires t)
     (use-clause-byte-requires-2 t)
     (use-clause-using-requires t)
-    (use-clause-solve-requires t)
+    (use-clause-enter-requires t)
     (use-clause-same-length t)
     (use-clause-same-length-2 t)
     (use-clause-returns t)
