@@ -9,6 +9,7 @@ use lib.Seq.{slice}
 use lib.Dec.{leb}
 use Rattle.calculus.specs.Items.{_∪_}
 use Rattle.calculus.specs.Derivation.{Scope}
+use Rattle.calculus.specs.Steps.{leftChoice}
 use Rattle.calculus.specs.Job.{Listed}
 use Rattle.calculus.specs.Inner.Summary.{Bounded}
 use Rattle.card.specs.Format.{ruleCount, lineCount, nodeCount, goalNode, depthLimit, stepLimit}
@@ -45,6 +46,10 @@ noFloor = record { fixed = 0; from = 0 }
 module _ {bs : List ℕ} (s : Sound bs) where
   front-depth : depthLimit bs ≤ 16
   front-depth = sound-front bs s .depth
+
+  -- no line is a choice
+  no-choices : ruleCount bs + lineCount bs ≤ leftChoice
+  no-choices = let f = sound-front bs s in omega (arith, f .rules, f .lines)
 
   goal-height : heightAt bs (goalNode bs) ≤ 8
   goal-height = height-low s (goalNode bs) (goal-lower bs (nodeCount bs) (goalNode bs) (sound-root s))
@@ -132,7 +137,7 @@ module _ {bs : List ℕ} (s : Sound bs) where
             (slice 0 (w .at) tape′) (t .items-used) (t .slack-left)) start-place (t .least)) in
             record {
               room = let b = t .bounded in omega arith;
-              first = first-eligible bs (take (w .at) tape′) (l .0) (l .2);
+              first = first-eligible bs (take (w .at) tape′) no-choices (l .0) (l .2);
             }
 
         pub none-found : r ≡ Stuck → (l : List ℕ) → Listed (jobOf bs) l → ⊥
@@ -141,7 +146,7 @@ module _ {bs : List ℕ} (s : Sound bs) where
             let t : None (eligible bs) (jobOf bs .scope) (task (jobOf bs .goal) (jobOf bs .depth) ∷ [])
             (placeOf (ruleCount bs) noFloor (startB bs) tape)
             = subst (Told bs (jobOf bs .scope) (task (jobOf bs .goal) (jobOf bs .depth) ∷ []) noFloor (startB bs) tape tape′) e told in
-            none-eligible bs (start-none (eligible bs) (jobOf bs) (lines-bounded bs)
+            none-eligible bs no-choices (start-none (eligible bs) (jobOf bs) (lines-bounded bs)
             (subst (None (eligible bs) (jobOf bs .scope) (task (jobOf bs .goal) (jobOf bs .depth) ∷ [])) start-place t))
 
 -- The same of the values at hand: the branch is the one at the goal, and the array holds the goal.
