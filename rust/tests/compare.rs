@@ -3,7 +3,7 @@ mod cards;
 mod met;
 mod model;
 
-use cards::{any_card, Draft, Random};
+use cards::{any_card, any_step, Draft, Random};
 use kit_planner::Place;
 use met::{compare_plan, Met};
 use model::decode;
@@ -122,7 +122,7 @@ mod reading {
             0 => sheet.truncate(r.below(n + 1)),
             1 => sheet.push(r.below(3) as u8),
             2 if n >= 5 => sheet[r.below(5)] = r.below(12) as u8,
-            3 if n > 5 => sheet[5 + r.below(n - 5)] = r.below(10) as u8,
+            3 if n > 5 => sheet[5 + r.below(n - 5)] = any_step(r, 10),
             4 if n > 5 => sheet[n - 1] = r.below(4) as u8,
             5 if n > 6 => sheet.swap(5 + r.below(n - 5), 5 + r.below(n - 5)),
             _ if n >= 5 => {
@@ -148,7 +148,7 @@ mod reading {
         met.count_lists(lists.as_ref());
         let lists = lists.unwrap_or_default();
         if lists.is_empty() {
-            let steps: Vec<u8> = (0..r.below(card.s.min(8) + 1)).map(|_| r.below(10) as u8).collect();
+            let steps: Vec<u8> = (0..r.below(card.s.min(8) + 1)).map(|_| any_step(r, 10)).collect();
             return model::sheet(&card, &steps);
         }
         model::sheet(&card, &lists[r.below(lists.len())])
@@ -180,13 +180,13 @@ mod reading {
     fn damage_steps(r: &mut Random, steps: &mut Vec<u8>) {
         let n = steps.len();
         match r.below(6) {
-            0 if n > 0 => steps[r.below(n)] = r.below(9) as u8,
+            0 if n > 0 => steps[r.below(n)] = any_step(r, 9),
             1 => steps.truncate(r.below(n + 1)),
-            2 => steps.extend((0..1 + r.below(2)).map(|_| r.below(9) as u8)),
+            2 => steps.extend((0..1 + r.below(2)).map(|_| any_step(r, 9))),
             3 if n > 1 => steps.swap(r.below(n), r.below(n)),
             4 if n > 0 => steps.insert(r.below(n), steps[r.below(n)]),
             _ if n > 0 => drop(steps.remove(r.below(n))),
-            _ => steps.push(r.below(9) as u8),
+            _ => steps.push(any_step(r, 9)),
         }
     }
 

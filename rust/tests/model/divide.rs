@@ -1,5 +1,5 @@
 //! All lists of a small card straight from the definition: every set of lines, every division of the items.
-use super::decode::{Card, Goal};
+use super::decode::{Card, Goal, LEFT, RIGHT};
 use super::{Entry, Scope};
 use std::collections::BTreeSet;
 
@@ -24,6 +24,10 @@ fn divisions(items: &[usize]) -> Vec<(Vec<usize>, Vec<usize>)> {
 fn all_pairs(left: &Lists, right: &Lists) -> Vec<Vec<u8>> {
     let pairs = left.iter().flat_map(|l| right.iter().map(move |r| [&l[..], &r[..]].concat()));
     pairs.collect()
+}
+
+fn behind(choices: &[u8], lists: Lists) -> impl Iterator<Item = Vec<u8>> + '_ {
+    lists.into_iter().map(move |l| [choices, &l[..]].concat())
 }
 
 struct Divide {
@@ -51,6 +55,11 @@ impl Divide {
                 scope.pop();
                 lists?
             }
+            Goal::OneOf(a, b) => {
+                let (l, r) = (self.goal(scope, items, a, depth)?, self.goal(scope, items, b, depth)?);
+                behind(&[LEFT], l).chain(behind(&[RIGHT], r)).collect()
+            }
+            Goal::Never => Lists::new(),
             Goal::Name(a) => self.name(scope, items, *a, depth)?,
         };
         lists.retain(|l| l.len() <= self.limit);
@@ -84,12 +93,14 @@ impl Divide {
         for e in 0..scope.len() {
             let entry = scope[e].clone();
             let at_hand = entry.stays || items.contains(&e);
-            if depth == 0 || entry.clause.head != Some(a) || !at_hand {
+            if depth == 0 || !at_hand {
                 continue;
             }
             let left: Vec<usize> = items.iter().copied().filter(|&x| entry.stays || x != e).collect();
-            let rows = self.row(scope, &left, &entry.clause.conditions, depth - 1)?;
-            lists.extend(rows.into_iter().map(|l| [&[e as u8], &l[..]].concat()));
+            for u in entry.clause.giving(a) {
+                let rows = self.row(scope, &left, &u.conditions, depth - 1)?;
+                lists.extend(behind(&[&[e as u8], &u.choices[..]].concat(), rows));
+            }
         }
         Some(lists)
     }
