@@ -340,11 +340,11 @@ mod planning {
         }
     }
 
-    /// How many steps of a list use rules, lines and lent clauses.
-    fn count_steps(steps: &mut [usize; 3], card: &Card, list: &[u8]) {
+    /// How many steps of a list use rules, lines and lent clauses, and how many are choices.
+    fn count_steps(steps: &mut [usize; 4], card: &Card, list: &[u8]) {
         let (p, t) = (card.rules.len(), card.lines.len());
         for e in list.iter().map(|&e| usize::from(e)) {
-            steps[usize::from(e >= p) + usize::from(e >= p + t)] += 1;
+            steps[[p, p + t, 254].iter().filter(|&&from| e >= from).count()] += 1;
         }
     }
 
@@ -353,7 +353,7 @@ mod planning {
     #[test]
     fn lists_are_joined() {
         let mut r = Random::new(67);
-        let (mut met, mut steps, mut refused) = (met::Met::default(), [[0; 3]; 2], 0);
+        let (mut met, mut steps, mut refused) = (met::Met::default(), [[0; 4]; 2], 0);
         for _ in 0..2_000 {
             let (first, a, list) = with_list(&mut r);
             let (second, b, other) = with_list(&mut r);
@@ -373,7 +373,7 @@ mod planning {
             count_steps(&mut steps[1], &b, &other);
         }
         println!("joined lists: {met:?}, {refused} pairs refused");
-        println!("steps of the two by rules, lines and lent clauses: {steps:?}");
+        println!("steps of the two by rules, lines and lent clauses, and choices: {steps:?}");
         assert!(met.planned() >= 1_400, "too few planned");
         assert!(steps.iter().flatten().all(|&n| n > 200));
     }

@@ -43,6 +43,7 @@ fn plans_agree() {
     println!("plans: {met:?}");
     met.all(&[1, 2, 3, 4, 5, 6, 7, 8, 9, 10, 11]);
     met.enough(9_500);
+    met.chose(800);
 }
 
 #[test]
@@ -58,6 +59,7 @@ fn buffers_of_every_size_agree() {
     println!("buffers: {met:?}");
     met.all(&[10, 11]);
     met.enough(620);
+    met.chose(30);
 }
 
 /// The model's two ways to all lists of a card find the same, each of which its walk follows.
@@ -82,6 +84,7 @@ fn models_agree() {
     println!("models: {met:?}, {found} lists");
     met.all(&[11]);
     met.enough(1_700);
+    met.chose(1_000);
     assert!(found > 5_000);
 }
 
@@ -103,6 +106,7 @@ fn counting_agrees() {
     println!("counting: {met:?}");
     met.all(&[11]);
     met.enough(9_000);
+    met.chose(10_000);
 }
 
 mod reading {
@@ -171,6 +175,7 @@ mod reading {
         }
         println!("sheets drawn: {drawn:?}\nreads: {met:?}");
         drawn.enough(5_000);
+        drawn.chose(2_000);
         met.all(&[1, 2, 3, 4, 5, 6, 7, 8, 9, 12, 13, 14, 17, 18, 19]);
         met.enough(6_400);
     }
@@ -195,7 +200,7 @@ mod reading {
     fn damaged_steps_agree() {
         let mut r = Random::new(8);
         let (mut drawn, mut met) = (Met::default(), Met::default());
-        for _ in 0..30_000 {
+        for _ in 0..40_000 {
             let bytes = Draft::sound(&mut r, 3, 4).bytes();
             let card = decode::card(&bytes).expect("a sound card");
             let sheet = any_sheet(&mut r, &mut drawn, &bytes);
@@ -210,7 +215,8 @@ mod reading {
             }
         }
         println!("sheets drawn: {drawn:?}\ndamaged steps: {met:?}");
-        drawn.enough(8_000);
+        drawn.enough(10_000);
+        drawn.chose(4_000);
         met.each(&[12, 13, 14, 17, 18, 19], 1_800);
         met.enough(12_000);
     }
