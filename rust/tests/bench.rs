@@ -83,9 +83,10 @@ fn compare(r: &mut Random, joins: &mut Met, sources: &mut Met, first: &[u8], sec
     }
 }
 
-/// A card with at least one fault tried, or none.
+/// A card with at least one fault tried, or none; now and then its goal is as high as can be.
 fn card(r: &mut Random, damaged: bool) -> Vec<u8> {
-    let mut bytes = Draft::sound(r, 5, 7).bytes();
+    let draft = if r.once_in(40) { Draft::sized(r, 5, 7, 12, 8) } else { Draft::sound(r, 5, 7) };
+    let mut bytes = draft.bytes();
     if damaged {
         (0..1 + r.below(3)).for_each(|_| damage(r, &mut bytes));
     }

@@ -43,7 +43,7 @@ fn plans_agree() {
     println!("plans: {met:?}");
     met.all(&[1, 2, 3, 4, 5, 6, 7, 8, 9, 10, 11]);
     met.enough(9_500);
-    met.chose(800);
+    met.chose(400);
 }
 
 #[test]
