@@ -432,7 +432,7 @@ impl Refusal {
             16 => "line not below the joined T",
             17 => "the step stands inside more uses than the nesting limit allows",
             18 => "the step is missing (more is wanted) or one too many (nothing is wanted any more)",
-            19 => "a part is used twice, a must line is neither used nor left to rest, a lent part is left over, the sides of \"either way\" use different parts, or \"never\" is wanted",
+            19 => "a part is used twice, a must line or lent part neither used nor left to rest, the sides of \"either way\" use different parts, or never is wanted",
             _ => "unknown",
         }
     }
