@@ -110,7 +110,7 @@ JOINED = [
     ("all kinds in the second card", TWO, KINDS, planned([1, 6, 3, 6, 3], [1, 0, 1, 0, 0])),
     ("all kinds in the first card", KINDS, TWO, planned([6, 1, 6, 1, 4], [1, 0, 0, 1, 0])),
     ("choices in both cards", CHOICE, OFFER, planned([254, 2, 1, 254, 255, 0, 254, 3], [1, 1])),
-    ("the same the other way round", OFFER, CHOICE, planned([255, 0, 254, 3, 254, 2, 1, 254], [1, 1])),
+    ("choices in both cards, the other way round", OFFER, CHOICE, planned([255, 0, 254, 3, 254, 2, 1, 254], [1, 1])),
     ("lines in the first card alone", TWO, of_done(), planned([0], [1, 0])),
     ("lines in the second card alone", of_done(), TWO, planned([0], [1, 0])),
     ("a line of the first card for the second's goal", MAY, WANT, planned([0], [1])),

@@ -126,7 +126,7 @@ fn lists_are(bytes: &[u8], wanted: &[&[u8]]) {
     let lists = model::lists(&card, BUDGET).expect("enough budget");
     assert_eq!(lists, wanted, "card {bytes:02x?}");
     assert_eq!(
-        model::divide::lists(&card, 100 * BUDGET).expect("enough budget"),
+        model::divide::lists(bytes, 100 * BUDGET).expect("enough budget"),
         wanted,
         "card {bytes:02x?}"
     );
@@ -317,6 +317,27 @@ fn rich(r: &mut Random) -> Draft {
     let mut c = Draft::sound_of(RICH, r, 2, 3);
     c.s = c.s.min(4);
     c
+}
+
+/// The model's three ways to the lists of a card, of which one goes by residuals, find the same.
+#[test]
+fn lists_agree() {
+    let mut r = Random::new(34);
+    let mut met = met::Met::default();
+    for _ in 0..6_000 {
+        let bytes = rich(&mut r).bytes();
+        let card = decoded(&bytes);
+        let divided = model::divide::lists(&bytes, 20 * BUDGET);
+        met.count_lists(divided.as_ref());
+        let Some(lists) = divided else { continue };
+        assert_eq!(model::lists(&card, BUDGET).as_ref(), Some(&lists), "card {bytes:02x?}");
+        let first = model::count::first(&card, 20 * BUDGET).expect("enough for a small card");
+        assert_eq!(first.as_ref(), lists.first(), "card {bytes:02x?}");
+    }
+    println!("lists: {met:?}");
+    met.all(&[11]);
+    met.enough(2_000);
+    met.chose(2_000);
 }
 
 /// Every list of so many steps by these entries and choices, and every shorter one.

@@ -72,7 +72,7 @@ fn models_agree() {
         draft.s = draft.s.min(6);
         let card = decode::card(&draft.bytes()).expect("a sound card");
         let lists = model::lists(&card, BUDGET);
-        let lists = lists.and_then(|a| model::divide::lists(&card, BUDGET).map(|b| (a, b)));
+        let lists = lists.and_then(|a| model::divide::lists(&draft.bytes(), 20 * BUDGET).map(|b| (a, b)));
         met.count_lists(lists.as_ref().map(|l| &l.0));
         let Some((a, b)) = lists else {
             continue;

@@ -41,7 +41,7 @@ fn planned_and_read() {
 
 /// The deepest cards each with itself, and two that join to the longest there is.
 fn joined() {
-    let mut pairs: Vec<_> = all().into_iter().map(|(what, c)| (what, c.bytes(), c.bytes())).collect();
+    let mut pairs: Vec<_> = all().map(|(what, c)| (what, c.bytes(), c.bytes())).collect();
     let mut r = Random::new(9);
     let mut half = |nodes| Draft::sized(&mut r, 32, 32, nodes, 7).bytes();
     pairs.push(("the longest", half(256), half(255)));

@@ -190,7 +190,7 @@ impl Draft {
                 c.add(kind, 0, 0);
             }
         }
-        if kinds == ALL && r.once_in(6) {
+        if kinds.contains(&8) && r.once_in(6) {
             c.add(9, 0, 0);
         }
         for _ in 0..r.below(12) {

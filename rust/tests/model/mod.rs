@@ -1,6 +1,7 @@
 //! The rules for cards and sheets once more, in plain Rust and by other means than the planner's: formulas as
 //! trees, all lists of a goal at once with what each needs of the items, and a reader by a walk of its own. For
-//! bigger cards the first list by counting. Two cards joined field by field.
+//! small cards all lists by dividing the items, for bigger ones the first list by counting. Two cards joined field by
+//! field.
 #![allow(dead_code)]
 pub mod bench;
 pub mod count;
