@@ -327,17 +327,17 @@ fn lists_agree() {
     for _ in 0..6_000 {
         let bytes = rich(&mut r).bytes();
         let card = decoded(&bytes);
-        let divided = model::divide::lists(&bytes, 20 * BUDGET);
-        met.count_lists(divided.as_ref());
-        let Some(lists) = divided else { continue };
-        assert_eq!(model::lists(&card, BUDGET).as_ref(), Some(&lists), "card {bytes:02x?}");
+        let both = model::divide::lists(&bytes, 20 * BUDGET).zip(model::lists(&card, BUDGET));
+        met.count_lists(both.as_ref().map(|lists| &lists.0));
+        let Some((divided, lists)) = both else { continue };
+        assert_eq!(divided, lists, "card {bytes:02x?}");
         let first = model::count::first(&card, 20 * BUDGET).expect("enough for a small card");
         assert_eq!(first.as_ref(), lists.first(), "card {bytes:02x?}");
     }
     println!("lists: {met:?}");
     met.all(&[11]);
     met.enough(2_000);
-    met.chose(2_000);
+    met.chose(1_500);
 }
 
 /// Every list of so many steps by these entries and choices, and every shorter one.

@@ -8,7 +8,7 @@ use desk::names::Names;
 use desk::text::parse;
 use desk::way::{amiss, use_at, walk, Step, Stop};
 use desk::why::{self, Why};
-use kit_planner::{plan_sheet, Place, Refusal};
+use kit_planner::{plan_sheet, Place, Refusal, Sheet};
 use std::collections::BTreeMap;
 
 /// A sheet with this list and these marks.
@@ -22,7 +22,7 @@ fn sheet(steps: &[u8], marks: &[u8]) -> Vec<u8> {
 fn damage(r: &mut Random, sheet_bytes: &[u8], entries: usize) -> (Vec<u8>, Option<usize>) {
     let k = usize::from(sheet_bytes[3]);
     let (mut steps, mut marks) = (sheet_bytes[5..5 + k].to_vec(), sheet_bytes[5 + k..].to_vec());
-    match r.below(7) {
+    match r.below(8) {
         0 => {
             let mut bytes = sheet_bytes.to_vec();
             let at = r.below(5);
@@ -36,6 +36,7 @@ fn damage(r: &mut Random, sheet_bytes: &[u8], entries: usize) -> (Vec<u8>, Optio
             let i = r.below(marks.len());
             marks[i] = r.below(4) as u8;
         }
+        5 => steps.iter_mut().filter(|step| **step > 253).take(1).for_each(|side| *side ^= 1),
         _ if k > 0 => steps[r.below(k)] = any_step(r, entries + 2),
         _ => {}
     }
@@ -76,20 +77,37 @@ fn told(why: &Why, sheet: &[u8], refusal: Refusal) {
     assert_eq!(wrong.at, at, "{refusal}: {}", why.words);
 }
 
+/// A card and the sheet of its plan; but now and then d is one less by then, or every done has become never.
+fn planned(r: &mut Random) -> Option<(Vec<u8>, Sheet)> {
+    let mut draft = Draft::sound(r, 4, 6);
+    let sheet = plan_sheet(&draft.bytes()).ok()?;
+    draft.d = draft.d.saturating_sub(u8::from(r.once_in(4)));
+    let never = r.once_in(8);
+    draft.nodes.iter_mut().filter(|node| never && node.0 == 3).for_each(|node| node.0 = 9);
+    Some((draft.bytes(), sheet))
+}
+
+/// Words of which each stands in many of the reasons.
+const REASONS: [&str; 9] = [
+    "again at step",
+    "must be used",
+    "is left over",
+    "in one way",
+    "never is wanted",
+    "which is no choice",
+    "but an entry has to stand there",
+    "is missing: a choice of",
+    "is wanted in step",
+];
+
 #[test]
 fn every_refusal_has_its_reason() {
     let r = &mut Random::new(1);
     let names = Names::default();
     let mut met: BTreeMap<u8, usize> = BTreeMap::new();
-    let mut undivided = Vec::new();
+    let mut reasons = Vec::new();
     for _ in 0..20_000 {
-        let mut draft = Draft::sound(r, 4, 6);
-        let Ok(planned) = plan_sheet(&draft.bytes()) else { continue };
-        draft.d = draft.d.saturating_sub(u8::from(r.once_in(4)));
-        if r.once_in(8) {
-            draft.nodes.iter_mut().filter(|node| node.0 == 3).for_each(|node| node.0 = 9);
-        }
-        let bytes = draft.bytes();
+        let Some((bytes, planned)) = planned(r) else { continue };
         let card = Sound::checked(&bytes).expect("it is sound");
         for _ in 0..12 {
             let entries = card.rules() + card.lines() + 2;
@@ -107,7 +125,7 @@ fn every_refusal_has_its_reason() {
             if let (12, Some(at), Some(wrong)) = (refusal.number, changed, why.wrong) {
                 assert!((wrong.at..wrong.at + wrong.len).contains(&at), "{}", why.words);
             }
-            undivided.extend((refusal.number == 19).then_some(why.words));
+            reasons.push(why.words);
             if refusal.number != 12 {
                 assert_eq!(walked(card, steps), Some(refusal).filter(|refusal| refusal.number != 14));
             }
@@ -117,9 +135,9 @@ fn every_refusal_has_its_reason() {
         assert!(met[&number] > 500, "{met:?}");
     }
     assert_eq!(met.len(), 7, "{met:?}");
-    for words in ["again at step", "must be used", "is left over", "in one way", "never is wanted"] {
-        let n = undivided.iter().filter(|reason| reason.contains(words)).count();
-        assert!(n > 40, "{words}: {n} of {}", undivided.len());
+    for words in REASONS {
+        let n = reasons.iter().filter(|reason| reason.contains(words)).count();
+        assert!(n > 40, "{words}: {n} of {}", reasons.len());
     }
 }
 
@@ -180,6 +198,10 @@ fn reasons_of_choices_in_words() {
         reason(one_of, &[255, 0]),
         "13: step 1 is line 0 (1), which gives 1; 2 is wanted there for the goal"
     );
+}
+
+#[test]
+fn reasons_of_menus_and_never_in_words() {
     let menu = "goal 1\nmust (3 gives ((3 gives 2) menu (1 menu 4)))\nmay 3\n";
     let side = "a choice of (1 menu 4), 254 (left) or 255 (right), is wanted there in step 0 (line 0)";
     assert_eq!(

@@ -295,7 +295,7 @@ impl Count<'_> {
             return self.goal(g, depth);
         }
         Some(Rc::new(match &**g {
-            Goal::Done | Goal::Rest => return self.goal(g, depth),
+            Goal::Done | Goal::Rest | Goal::Never => return self.goal(g, depth),
             Goal::Both(a, b) => {
                 let (l, r) = (self.walk(a, depth, steps)?, self.walk(b, depth, steps)?);
                 self.pairs(&l, &r, depth, Self::both)?
@@ -311,26 +311,37 @@ impl Count<'_> {
                 self.scope.pop();
                 self.lend(&*takes?, Items::one(e), class)
             }
+            Goal::OneOf(..) | Goal::Name(_) => return self.walk_step(g, depth, steps),
+        }))
+    }
+
+    /// The same of a goal that takes a step.
+    fn walk_step(&mut self, g: &Rc<Goal>, depth: usize, steps: &mut &[u8]) -> Option<Rc<Takes>> {
+        let Some((&step, others)) = steps.split_first() else {
+            self.next = Some(self.first_steps(g));
+            return self.goal(g, depth);
+        };
+        *steps = others;
+        let takes = match &**g {
             Goal::OneOf(a, b) => {
-                let Some((&side, others)) = steps.split_first() else {
-                    self.next = Some(vec![LEFT, RIGHT]);
-                    return self.goal(g, depth);
-                };
-                *steps = others;
-                let taken = self.walk(if side == LEFT { a } else { b }, depth, steps)?;
+                let taken = self.walk(if step == LEFT { a } else { b }, depth, steps)?;
                 self.one_of(&[&taken])
             }
-            Goal::Never => return self.goal(g, depth),
+            Goal::Name(a) => self.step(usize::from(step), *a, depth, steps)?,
+            _ => unreachable!("no other goal takes a step"),
+        };
+        Some(Rc::new(takes))
+    }
+
+    /// The steps that a goal can begin with: the entries that fit a name, or both choices.
+    fn first_steps(&self, g: &Goal) -> Vec<u8> {
+        match g {
             Goal::Name(a) => {
-                let Some((&e, others)) = steps.split_first() else {
-                    let fits = |e: &usize| self.scope[*e].clause.gives(*a);
-                    self.next = Some((0..self.scope.len()).filter(fits).map(|e| e as u8).collect());
-                    return self.goal(g, depth);
-                };
-                *steps = others;
-                self.step(usize::from(e), *a, depth, steps)?
+                let fits = |e: &usize| self.scope[*e].clause.gives(*a);
+                (0..self.scope.len()).filter(fits).map(|e| e as u8).collect()
             }
-        }))
+            _ => vec![LEFT, RIGHT],
+        }
     }
 
     /// The use of the entry, which fits, at a name: by the given choices and, where they are too few, any others.
