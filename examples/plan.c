@@ -37,10 +37,12 @@ static void print_refusal(uint32_t answer) {
     printf(": %s\n", kit_reason(KIT_NUMBER(answer)));
 }
 
-/* Entries are numbered through: P rules, then T lines, then what is lent. */
-static void print_entry(const uint8_t *card, unsigned entry) {
+/* A choice, or the entry used. Entries are numbered through: P rules, then T lines, then what is lent. */
+static void print_step(const uint8_t *card, unsigned entry) {
     const unsigned rules = card[3], lines = card[4];
-    if (entry < rules)
+    if (entry == KIT_LEFT || entry == KIT_RIGHT)
+        printf("%s\n", entry == KIT_LEFT ? "left" : "right");
+    else if (entry < rules)
         printf("rule %u\n", entry);
     else if (entry < rules + lines)
         printf("line %u\n", entry - rules);
@@ -54,7 +56,7 @@ static void print_sheet(const uint8_t *card, const uint8_t *sheet) {
     printf("planned, steps: %u\n", steps);
     for (i = 0; i < steps; i++) {
         printf("step %u: ", i);
-        print_entry(card, sheet[5 + i]);
+        print_step(card, sheet[5 + i]);
     }
     for (i = 0; i < lines; i++) printf("line %u: %s\n", i, marks[sheet[5 + steps + i]]);
 }

@@ -41,6 +41,12 @@
 #define KIT_CARD_MAX 2891
 #define KIT_SHEET_MAX 324
 
+/* Steps of a sheet that choose the left or the right side: of a "one of" where it is met, or of a menu of the entry used
+ * just before. Every other step is the number of the entry used, 230 at most: rules from 0, lines from P, the number of
+ * rules, and clauses lent on the way from P + T. */
+#define KIT_LEFT 254
+#define KIT_RIGHT 255
+
 /* What a refusal speaks of. Node, rule, line, mark and step have an index. */
 enum kit_place {
     KIT_PLACE_CARD = 0,
@@ -58,13 +64,14 @@ extern "C" {
 #endif
 
 /* Plans a card. After planned with k, the first 5 + k + T bytes at sheet are the card's sheet (T is the number
- * of the card's lines), and those behind them keep what they held. After a refusal (1 to 11) all of them do.
+ * of the card's lines), and those behind them keep what they held. After a refusal (1 to 11) all of them do. The k
+ * steps begin at sheet[5]: each the number of the entry used, or KIT_LEFT or KIT_RIGHT for a choice.
  * A sheet buffer of 5 + s + T bytes, s the card's step limit, is enough; KIT_SHEET_MAX bytes are, for any card. */
 uint32_t kit_plan(const uint8_t *card, size_t card_len, uint8_t *sheet, size_t sheet_len);
 
 /* Reads a sheet against its card: accepted with k, or a refusal: the card's own (1 to 9), 12 of the sheet, the first
  * wrong step (13, 17 or 18, place step; a missing one stands behind the last), 19 where the steps are right one by
- * one but the items do not divide (place steps), 14 of a mark. Writes nothing. */
+ * one but the items do not divide, or never is wanted (place steps), 14 of a mark. Writes nothing. */
 uint32_t kit_read(const uint8_t *card, size_t card_len, const uint8_t *sheet, size_t sheet_len);
 
 /* Joins two cards to one: the nodes, rules and lines of the first, each followed by those of the second, and the
@@ -110,13 +117,13 @@ static inline const char *kit_reason(unsigned number) {
     case 10: return "buffer shorter than 5 + s + T or, joining, than the joined card";
     case 11: return "no derivation within limits";
     case 12: return "sheet under 5 bytes, length field not the bytes lent, version not 1, T not the card's, length not 5 + k + T, or k above s";
-    case 13: return "the step names no rule, line or lent part in scope that gives the name wanted there";
+    case 13: return "the step names no rule, line or lent part in scope that gives the name wanted there, or is no choice that fits where one is wanted";
     case 14: return "a mark is not the true one";
     case 15: return "joined P, T or N past its limit, or the new goal's height above 8";
     case 16: return "line not below the joined T";
     case 17: return "the step stands inside more uses than the nesting limit allows";
     case 18: return "the step is missing (more is wanted) or one too many (nothing is wanted any more)";
-    case 19: return "a part is used twice, a must line is neither used nor left to rest, a lent part is left over, or the sides of \"either way\" use different parts";
+    case 19: return "a part is used twice, a must line or lent part neither used nor left to rest, the sides of \"either way\" use different parts, or never is wanted";
     default: return "unknown";
     }
 }

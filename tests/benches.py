@@ -12,7 +12,7 @@ from typing import NamedTuple
 
 from cards import card, pack, store, word
 
-ATOM, REST, DONE, BOTH, EITHER, LEND, GIVES = range(1, 8)
+ATOM, REST, DONE, BOTH, EITHER, LEND, GIVES, ONE_OF, NEVER, MENU = range(1, 11)
 MOST = 2900  # the program lends no more
 
 
@@ -46,7 +46,7 @@ def joined(first, second):
     n = len(first.nodes)
     nodes = list(first.nodes)
     for kind, left, right in second.nodes:
-        nodes.append((kind, n + left, n + right) if kind in (BOTH, EITHER, LEND, GIVES) else (kind, left, right))
+        nodes.append((kind, n + left, n + right) if kind not in (ATOM, REST, DONE, NEVER) else (kind, left, right))
     nodes.append((BOTH, first.goal, n + second.goal))
     rules = first.rules + [n + r for r in second.rules]
     lines = first.lines + [(n + l, m) for l, m in second.lines]
@@ -94,6 +94,10 @@ MUST, MAY, WANT = (card(goal, [], lines, 4, 8) for goal, lines in [(("done",), [
 KINDS = pack(*Card([(ATOM, 0, 0), (ATOM, 999, 0), (REST, 0, 0), (DONE, 0, 0), (GIVES, 0, 1), (EITHER, 1, 1), (LEND, 4, 5), (BOTH, 6, 3)],
     7, [2], [(0, 1), (0, 0), (2, 0)]))
 TWO = pack(*Card([(ATOM, 3, 0), (ATOM, 4, 0)], 0, [], [(0, 1), (1, 0)]))
+# a menu b, line 0, and must b, line 1; b one of never, and a
+CHOICE = card(("both", ("one of", "b", ("never",)), "a"), [], [(("menu", "a", "b"), 1), ("b", 1)], 4, 8)
+# the rule c gives (d menu a); never one of d, with a lent c
+OFFER = card(("lend", "c", ("one of", ("never",), "d")), [gives("c", ("menu", "d", "a"))], [], 4, 8)
 COVERED = pack(*Card([(REST, 0, 0)], 0, [], [(0, 1)] * 40))
 LARGEST = of_done(256, 32, 32, s=200), of_done(255, 32, 32, s=100)
 
@@ -105,6 +109,8 @@ JOINED = [
     ("least cards", of_done(), of_done(), NOTHING),
     ("all kinds in the second card", TWO, KINDS, planned([1, 6, 3, 6, 3], [1, 0, 1, 0, 0])),
     ("all kinds in the first card", KINDS, TWO, planned([6, 1, 6, 1, 4], [1, 0, 0, 1, 0])),
+    ("choices in both cards", CHOICE, OFFER, planned([254, 2, 1, 254, 255, 0, 254, 3], [1, 1])),
+    ("choices in both cards, the other way round", OFFER, CHOICE, planned([255, 0, 254, 3, 254, 2, 1, 254], [1, 1])),
     ("lines in the first card alone", TWO, of_done(), planned([0], [1, 0])),
     ("lines in the second card alone", of_done(), TWO, planned([0], [1, 0])),
     ("a line of the first card for the second's goal", MAY, WANT, planned([0], [1])),

@@ -79,7 +79,7 @@ struct fault {
 /* Refused by both calls. */
 static const struct fault card_faults[] = {
     {1, 0x27, 2, CARD, 0}, {2, 2, 3, CARD, 0},  {9, 17, 4, CARD, 0}, {6, 3, 5, CARD, 0},
-    {21, 8, 6, NODE, 2},   {26, 0, 6, NODE, 3}, {8, 2, 7, CARD, 0},  {36, 2, 9, LINE, 1}
+    {21, 11, 6, NODE, 2},  {26, 0, 6, NODE, 3}, {8, 2, 7, CARD, 0},  {36, 2, 9, LINE, 1}
 };
 static const struct fault sheet_faults[] = {
     {1, 9, 12, SHEET, 0}, {2, 0, 12, SHEET, 0}, {3, 3, 12, SHEET, 0}, {5, 0, 13, STEP, 0},
@@ -294,6 +294,41 @@ static void null_of_two_cards(void) {
     told_of(kit_source(small, n, NULL, 0, 0), 1, SECOND, CARD, 0);
 }
 
+/* Line 0 is "3 menu 2", a must line, and the goal one of never and 2: right, the line, right. */
+static void choices(void) {
+    static const uint8_t card[44] = {
+        0x00, 0x2C, 0x01, 0x00, 0x01, 0x00, 0x06, 0x00, 0x04, 0x01, 0x03, /* front: d = 1, s = 3 */
+        0x01, 0x00, 0x02, 0x00, 0x00, /* node 0: name 2 */
+        0x01, 0x00, 0x03, 0x00, 0x00, /* node 1: name 3 */
+        0x09, 0x00, 0x00, 0x00, 0x00, /* node 2: never */
+        0x0A, 0x00, 0x01, 0x00, 0x00, /* node 3: 3 menu 2 */
+        0x08, 0x00, 0x02, 0x00, 0x00, /* node 4: never one of 2, the goal */
+        0x03, 0x00, 0x00, 0x00, 0x00, /* node 5: done */
+        0x00, 0x03, 0x01 /* must 3 */
+    };
+    static const uint8_t steps[4] = {KIT_RIGHT, 0, KIT_RIGHT, 1};
+    uint8_t sheet[KIT_SHEET_MAX], other[44];
+    check(kit_plan(card, sizeof card, sheet, sizeof sheet) == 3, "a card with choices is planned");
+    check(memcmp(sheet + 5, steps, sizeof steps) == 0, "right, line 0, right; and the mark");
+    check(kit_read(card, sizeof card, sheet, 9) == 3, "its sheet is accepted");
+    sheet[5] = KIT_LEFT;
+    told(kit_read(card, sizeof card, sheet, 9), 18, STEP, 1); /* never wants no step */
+    sheet[5] = 0;
+    told(kit_read(card, sizeof card, sheet, 9), 13, STEP, 0);
+    sheet[5] = KIT_RIGHT;
+    sheet[6] = KIT_RIGHT;
+    told(kit_read(card, sizeof card, sheet, 9), 13, STEP, 1);
+    sheet[6] = 0;
+    sheet[7] = KIT_LEFT; /* the side of the menu with 3 */
+    told(kit_read(card, sizeof card, sheet, 9), 13, STEP, 2);
+    memcpy(other, card, sizeof card);
+    other[10] = 2; /* s */
+    told(kit_plan(other, sizeof other, sheet, sizeof sheet), 11, CARD, 0);
+    other[10] = 3;
+    other[22] = 1; /* never has no left field */
+    told(kit_check(other, sizeof other), 6, NODE, 2);
+}
+
 /* A card is checked as kit_plan checks it. One that cannot be planned is sound all the same. */
 static void checked(void) {
     uint8_t card[40];
@@ -334,6 +369,7 @@ static void constants(void) {
     for (i = 0; i < PLACES; i++) check(places[i] == i, "a place's number");
     check(KIT_CARD_MAX == 11 + 5 * 512 + 2 * 64 + 3 * 64, "the longest card");
     check(KIT_SHEET_MAX == 5 + 255 + 64, "the longest sheet");
+    check(KIT_LEFT == 254 && KIT_RIGHT == 255, "the two choices");
     check(strcmp(KIT_VERSION, "0.2.0") == 0, "the version");
 }
 
@@ -351,6 +387,7 @@ int main(void) {
     pairs_refused();
     null_of_one_card();
     null_of_two_cards();
+    choices();
     checked();
     reasons();
     constants();

@@ -2,7 +2,8 @@
 import pathlib
 import sys
 
-KINDS = {"rest": 2, "done": 3, "both": 4, "either": 5, "lend": 6, "gives": 7}
+KINDS = {"rest": 2, "done": 3, "both": 4, "either": 5, "lend": 6, "gives": 7, "one of": 8, "never": 9, "menu": 10}
+LEFT, RIGHT = 254, 255
 
 
 def word(n):
@@ -39,8 +40,9 @@ def card(goal, rules, lines, d, s):
     return pack(nodes, *roots, d, s)
 
 
-# Formulas as nested tuples: a name is a string; ("rest",), ("done",), ("both", G, H), ("either", G, H), ("lend", D, G), ("gives", G, D).
-REST, DONE = ("rest",), ("done",)
+# Formulas as nested tuples: a name is a string; ("rest",), ("done",), ("both", G, H), ("either", G, H), ("lend", D, G), ("gives", G, D),
+# ("one of", G, H), ("never",), ("menu", D, E).
+REST, DONE, NEVER = ("rest",), ("done",), ("never",)
 
 
 def both(g, h):
@@ -57,6 +59,14 @@ def lend(d, g):
 
 def gives(g, d):
     return ("gives", g, d)
+
+
+def one_of(g, h):
+    return ("one of", g, h)
+
+
+def menu(d, e):
+    return ("menu", d, e)
 
 
 def all_of(parts):

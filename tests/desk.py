@@ -27,7 +27,7 @@ PICTURES = {
     "docs/tree.svg": ["tree", "--svg", "cards/pump.card", *NAMES],
 }
 # which card a broken sheet is read against, where it is not the pump's
-OTHER_CARD = {17: "shallow"}
+OTHER_CARD = {"17": "shallow", "13-side": "menu", "13-entry": "menu", "13-choice": "one-of", "19-never": "never"}
 SVG = "{http://www.w3.org/2000/svg}"
 
 
@@ -124,7 +124,7 @@ def stored():
         yield f"{path}.out", list(of_card(path))
     for sheet in sorted(ROOT.glob("cards/broken/*.sheet")):
         path = sheet.relative_to(ROOT).with_suffix("").as_posix()
-        card = OTHER_CARD.get(int(path.split("-")[-1]), "pump")
+        card = OTHER_CARD.get(path.removeprefix("cards/broken/refused-"), "pump")
         files = f"cards/{card}.card", f"{path}.sheet"
         drawn = [["show", *files, "--svg", *NAMES], ["tree", *files, "--svg", *NAMES], ["tree", *files, "--dot", *NAMES]]
         yield f"{path}.out", [words for command in ("read", "tree", "show") for words in of_sheet(command, *files)] + drawn
@@ -228,7 +228,7 @@ def both_forms(kit):
             sheet = kit.out("plan", str(files[0].relative_to(ROOT)), "-o", "-")
             check(sheet == files[1].read_bytes(), f"{files[1].name} is not the plan of {files[0].name}")
     numbers = {int(f.stem.split("-")[1]) for f in ROOT.glob("cards/broken/refused-*.txt")}
-    # 10, 15 and 16 are never told by kit; 11 is that of short, over and shallow
+    # 10, 15 and 16 are never told by kit; 11 is that of short, over, shallow and never
     check(numbers == set(range(1, 20)) - {10, 11, 15, 16}, f"broken: {sorted(numbers)}")
 
 
@@ -464,16 +464,16 @@ def held_up_none(child, ours, folder, sheets):
 def many_cards(kit, folder):
     """However many at a time, the same is told."""
     outputs = {kit.run("plan", "--json", "-j", str(n), "cards", "cards/broken").stdout for n in (1, 2, 8)}
-    check(len(outputs) == 1 and len(next(iter(outputs)).splitlines()) == 17, "-j changes what is told")
+    check(len(outputs) == 1 and len(next(iter(outputs)).splitlines()) == 21, "-j changes what is told")
     kit.run("plan", "cards", "-o", str(folder))
     for sheet in ROOT.glob("cards/*.sheet"):
         check((folder / sheet.name).read_bytes() == sheet.read_bytes(), f"{sheet.name} among many")
-    check(len(list(folder.iterdir())) == 4, "a sheet for each planned card")
+    check(len(list(folder.iterdir())) == 6, "a sheet for each planned card")
     for card in ROOT.glob("cards/*.card"):
         (folder / card.name).write_bytes(card.read_bytes())
     check(kit.run("plan", str(folder), "-o", str(folder)).returncode == 1, "sheets beside their cards")
     told = kit.out("read", "cards", str(folder))
-    check(told.endswith(b"4 cards: 4 accepted, 0 refused, 0 errors\n"), "cards of one folder with sheets of another")
+    check(told.endswith(b"6 cards: 6 accepted, 0 refused, 0 errors\n"), "cards of one folder with sheets of another")
     fails(kit, "two cards, one sheet", "plan", "cards/pump.card", "cards/pump.card", "-o", str(folder))
 
 

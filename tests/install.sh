@@ -117,7 +117,10 @@ examples() {
     # goal rest, must 2, may 2
     card rest '001B0100020002000104080100020000020000000000000100 0000'
     both rest 0 "$(printf '%s\n' 'planned, steps: 0' 'line 0: taken by rest' 'line 1: left on the tray')"
-    { head -c 21 cards/sample.card; printf '\x08'; tail -c +23 cards/sample.card; } >"$folder/broken"
+    cp cards/one-of.card "$folder/one-of"
+    both one-of 0 "$(printf '%s\n' 'planned, steps: 4' 'step 0: right' 'step 1: line 0' 'step 2: line 1' 'step 3: line 2' \
+        'line 0: used' 'line 1: used' 'line 2: used' 'line 3: left on the tray')"
+    { head -c 21 cards/sample.card; printf '\x0b'; tail -c +23 cards/sample.card; } >"$folder/broken"
     both broken 1 'refused 6 at node 2: unknown kind, name above 999, unused field not 0, part not lower, part of the wrong reading, or height above 8'
     { head -c 39 cards/sample.card; printf '\x01'; } >"$folder/stuck"
     both stuck 1 'refused 11 at card: no derivation within limits'
@@ -139,6 +142,7 @@ page_example() {
     sed -n '/^\.EX/,/^\.EE/p' "$prefix/share/man/man3/kit_plan.3" | sed -e '/^\.E[XE]/d' -e 's/\\e/\\/g' >"$folder/page.c"
     compiled "$folder/page.c" "$folder/page"
     same "the example of kit_plan.3" "$("$folder/page" <cards/sample.card)" $'1\n0'
+    same "the example of kit_plan.3 on choices" "$("$folder/page" <cards/menu.card)" $'0\nleft\n4\n3\n1\nleft\n2\nright'
 }
 
 without_library() {

@@ -23,6 +23,8 @@ check() {
 
 whole() { "$program" <"$sample"; }
 
+choices() { "$program" <"$tests/../cards/menu.card"; }
+
 empty() { "$program" </dev/null; }
 
 # 5,000 bytes more, so that only the first 4,096 of all are read
@@ -56,6 +58,7 @@ marks() { for ((i = $1; i < $2; i++)); do printf 'line %d %d\\n' "$i" "$3"; done
 
 plan='plan 2\nstep 1\nstep 0\nline 0 1\nline 1 1\nline 2 0\n'
 check "the sample card" "$plan" whole
+check "a card with choices" 'plan 8\nstep 0\nstep 254\nstep 4\nstep 3\nstep 1\nstep 254\nstep 2\nstep 255\nline 0 1\nline 1 1\nline 2 1\nline 3 1\n' choices
 check "no input" 'refused 1\n' empty
 check "the sample card and 5,000 zero bytes" 'refused 2\n' long
 check "the sample card, a byte at a time" "$plan" slow

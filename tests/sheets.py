@@ -5,7 +5,7 @@ reader behind 9, with its place, stated by hand.
 Usage: sheets.py            writes crates/sheets/stdin and crates/sheets/stdout
        sheets.py --check    exits 1 if those files are not what this script writes
 """
-from cards import DONE, REST, all_of, both, either, gives, lend, store, tray, word
+from cards import DONE, LEFT, NEVER, REST, RIGHT, all_of, both, either, gives, lend, menu, one_of, store, tray, word
 
 A, B, C = "a", "b", "c"
 
@@ -120,9 +120,82 @@ LONGEST = [
 ]
 
 
+def chosen(steps, marks=(1, 1, 0), d=2, s=8):
+    """b gives ((c gives a) menu a), line 0, with b, line 1, and may c, line 2. The lists are 0 254 2 1 and 0 255 1."""
+    return tray(A, must=[gives(B, menu(gives(C, A), A)), B], may=[C], d=d, s=s), sheet(steps, marks)
+
+
+def tools(steps):
+    """a menu b, and in it c menu d, line 0; d is wanted. The list is 0 255 255."""
+    return tray("d", must=[menu(menu(A, B), menu(C, "d"))]), sheet(steps, [1])
+
+
+def either_of(steps, mark=1, **limits):
+    """a one of b, and must a, line 0. The list is 254 0."""
+    return tray(one_of(A, B), must=[A], **limits), sheet(steps, [mark])
+
+
+CHOICES = [
+    ("one of, left", either_of([LEFT, 0]), "accepted 2"),
+    ("one of, the other side", either_of([RIGHT, 0]), at(13, 1)),
+    ("one of, no choice", either_of([], 2), at(18, 0)),
+    ("one of, an entry for the choice", either_of([0]), at(13, 0)),
+    ("one of, 253 for the choice", either_of([253], 2), at(13, 0)),
+    ("one of, a choice for the entry", either_of([LEFT, LEFT], 2), at(13, 1)),
+    ("one of, a choice too many", either_of([LEFT, 0, LEFT]), at(18, 2)),
+    ("one of, more steps than s", either_of([LEFT, 0], s=1), TWELVE),
+    ("one of, as many as s", either_of([LEFT, 0], s=2), "accepted 2"),
+    ("one of, d 0: the entry is nested too deep, not the choice", either_of([LEFT, 0], d=0), at(17, 1)),
+    ("choices alone at d 0", (tray(both(one_of(DONE, A), one_of(A, REST)), must=[A], d=0), sheet([LEFT, RIGHT], [2])), "accepted 2"),
+    ("a choice where the name is plain", (tray(A, must=[A]), sheet([LEFT], [2])), at(13, 0)),
+    ("a choice for done", (tray(DONE), sheet([RIGHT])), at(18, 0)),
+    ("a choice behind an entry without a menu", (tray(A, must=[A]), sheet([0, LEFT], [1])), at(18, 1)),
+    ("menu in a recipe, left", chosen([0, LEFT, 2, 1], (1, 1, 1)), "accepted 4"),
+    ("menu in a recipe, right", chosen([0, RIGHT, 1]), "accepted 3"),
+    ("menu in a recipe, an entry for the choice", chosen([0, 2, 1], (1, 1, 1)), at(13, 1)),
+    ("menu in a recipe, conditions in the other order", chosen([0, LEFT, 1, 2], (1, 1, 1)), at(13, 2)),
+    ("menu in a recipe, the choice behind a condition", chosen([0, 2, LEFT, 1], (1, 1, 1)), at(13, 1)),
+    ("menu in a recipe, the choice before the entry", chosen([LEFT, 0, 2, 1], (1, 1, 1)), at(13, 0)),
+    ("menu in a recipe, no choice", chosen([0], (1, 2, 0)), at(18, 1)),
+    ("menu in a recipe, left without c", chosen([0, LEFT, 1]), at(13, 2)),
+    ("menu in a recipe, one step too many", chosen([0, RIGHT, 1, 2], (1, 1, 1)), at(18, 3)),
+    ("menu in a recipe, d 1: the condition is nested, not the choice", chosen([0, RIGHT, 1], d=1), at(17, 2)),
+    ("menu in a recipe, d 0: 17 at the entry", chosen([0, RIGHT, 1], d=0), at(17, 0)),
+    ("menu in a recipe, d 0, and no choice: 17 at the entry", chosen([0], (1, 2, 0), d=0), at(17, 0)),
+    ("menus in a menu", tools([0, RIGHT, RIGHT]), "accepted 3"),
+    ("menus in a menu, the outer side without the name", tools([0, LEFT, RIGHT]), at(13, 1)),
+    ("menus in a menu, the inner side without the name", tools([0, RIGHT, LEFT]), at(13, 2)),
+    ("menus in a menu, no inner choice", tools([0, RIGHT]), at(18, 2)),
+    ("menus in a menu, an entry for the inner choice", tools([0, RIGHT, 0]), at(13, 2)),
+    ("menus in a menu, a third choice", tools([0, RIGHT, RIGHT, RIGHT]), at(18, 3)),
+    ("a menu without the name", (tray(C, must=[menu(A, B)]), sheet([0, LEFT], [1])), at(13, 0)),
+    ("a side without a head", (tray(A, must=[menu(A, REST)]), sheet([0, RIGHT], [1])), at(13, 1)),
+    ("the side with the name", (tray(A, must=[menu(B, A)]), sheet([0, RIGHT], [1])), "accepted 2"),
+    ("the side with another name", (tray(A, must=[menu(B, A)]), sheet([0, LEFT], [1])), at(13, 1)),
+    ("a side that fits too", (tray(A, must=[menu(A, A)]), sheet([0, RIGHT], [1])), "accepted 2"),
+    ("a menu used both ways", (tray(both(A, B), must=[menu(A, B)]), sheet([0, LEFT, 0, RIGHT], [1])), NINETEEN),
+    ("a rule's menu used both ways", (tray(both(A, B), rules=[menu(A, B)]), sheet([0, LEFT, 0, RIGHT])), "accepted 4"),
+    ("sides of either way that choose otherwise", (tray(either(one_of(A, B), one_of(A, B)), may=[A, B]), sheet([LEFT, 0, RIGHT, 1], [1, 1])), NINETEEN),
+    ("a must line of the other side", (tray(one_of(A, B), must=[A, B]), sheet([LEFT, 0], [1, 2])), NINETEEN),
+    ("a choice, and a wrong mark", either_of([LEFT, 0], 0), "refused 14 mark 0"),
+    ("never", (tray(NEVER), sheet([])), NINETEEN),
+    ("never beside rest", (tray(both(NEVER, REST), must=[A]), sheet([], [2])), NINETEEN),
+    ("never, then a right step", (tray(both(NEVER, A), must=[A]), sheet([0], [1])), NINETEEN),
+    ("never, then a wrong step", (tray(both(NEVER, A), must=[A]), sheet([1], [2])), at(13, 0)),
+    ("never, then a missing step", (tray(both(NEVER, A), must=[A]), sheet([], [2])), at(18, 0)),
+    ("never, then a step nested too deep", (tray(both(NEVER, A), must=[A], d=0), sheet([0], [1])), at(17, 0)),
+    ("never, and a step too many", (tray(NEVER), sheet([0])), at(18, 0)),
+    ("never, and a wrong mark: 19", (tray(NEVER, may=[A]), sheet([], [1])), NINETEEN),
+    ("never one way", (tray(either(A, NEVER), must=[A]), sheet([0], [1])), NINETEEN),
+    ("never chosen", (tray(one_of(NEVER, A), may=[A]), sheet([LEFT], [0])), NINETEEN),
+    ("never not chosen", (tray(one_of(NEVER, A), must=[A]), sheet([RIGHT, 0], [1])), "accepted 2"),
+    ("never in a condition", (tray(A, rules=[gives(NEVER, A)]), sheet([0])), NINETEEN),
+]
+
+
 def main():
     given, wanted = bytearray(), bytearray()
-    for label, (card, data), answer in STEPS + ITEMS + ORDER + SHOWN + LONGEST:
+    for label, (card, data), answer in STEPS + ITEMS + ORDER + SHOWN + LONGEST + CHOICES:
         text = label.encode()
         given += bytes([len(text)]) + text + word(len(card)) + word(len(data)) + card + data
         wanted += f"{label}: {answer}\n".encode()

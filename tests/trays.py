@@ -11,7 +11,7 @@ import pathlib
 import re
 import sys
 
-from cards import DONE, REST, all_of, both, either, gives, lend, store, tray, word
+from cards import DONE, LEFT, NEVER, REST, RIGHT, all_of, both, either, gives, lend, menu, one_of, store, tray, word
 
 ROOT = pathlib.Path(__file__).resolve().parent.parent
 
@@ -62,6 +62,49 @@ TRAYS = [
     ("a must line that only a later choice uses", tray(A, lines=[(A, 0), (gives(B, A), 1), (B, 1)]), planned([1, 2], [0, 1, 1])),
     ("the condition nearest the head first", tray(C, must=[gives(A, gives(B, C)), A, B]), planned([0, 2, 1], [1, 1, 1])),
     ("equal lines with different bytes", tray(both(A, A), lines=[(A, 0), (A, 1), (A, 0)]), planned([0, 1], [1, 1, 0])),
+]
+# b gives ((c gives a) menu a)
+OFFER = gives(B, menu(gives(C, A), A))
+TRAYS += [
+    ("left works, so left", tray(one_of(A, B), may=[A, B]), planned([LEFT, 0], [1, 0])),
+    ("left fails, right works", tray(one_of(A, B), must=[B]), planned([RIGHT, 0], [1])),
+    ("neither side works", tray(one_of(A, B), must=[C]), ELEVEN),
+    ("both sides together, but one of is one", tray(one_of(A, B), must=[A, B]), ELEVEN),
+    ("one of in one of", tray(one_of(A, one_of(B, C)), must=[C]), planned([RIGHT, RIGHT, 0], [1])),
+    ("left would use a part that is wanted later", tray(both(one_of(A, B), A), may=[A, B]), planned([RIGHT, 1, 0], [1, 1])),
+    ("a must line only right uses", tray(one_of(A, both(A, B)), must=[A, B]), planned([RIGHT, 0, 1], [1, 1])),
+    ("one of in each side of either way", tray(either(one_of(A, B), one_of(B, A)), may=[A, B]), planned([LEFT, 0, RIGHT, 0], [1, 0])),
+    ("one of under a lend", tray(lend(A, one_of(DONE, A))), planned([RIGHT, 0], [])),
+    ("never", tray(NEVER), ELEVEN),
+    ("never both rest", tray(both(NEVER, REST), must=[A]), ELEVEN),
+    ("never either way rest", tray(either(NEVER, REST), must=[A]), ELEVEN),
+    ("never one of a", tray(one_of(NEVER, A), must=[A]), planned([RIGHT, 0], [1])),
+    ("a recipe that asks for never", tray(A, lines=[(gives(NEVER, A), 0), (A, 0)]), planned([1], [0, 1])),
+    ("menu, left", tray(A, must=[menu(A, B)]), planned([0, LEFT], [1])),
+    ("menu, right", tray(B, must=[menu(A, B)]), planned([0, RIGHT], [1])),
+    ("menu, both sides fit", tray(A, must=[menu(A, A)]), planned([0, LEFT], [1])),
+    ("menu, neither side fits", tray(C, must=[menu(A, B)]), ELEVEN),
+    ("menu, one side has no head", tray(A, must=[menu(REST, A)]), planned([0, RIGHT], [1])),
+    ("menu, no side has a head", tray(both(A, REST), lines=[(menu(REST, REST), 1), (A, 0)]), planned([1], [2, 1])),
+    ("a menu is used once", tray(both(A, B), must=[menu(A, B)]), ELEVEN),
+    ("two menus, one each way", tray(both(A, B), must=[menu(A, B)] * 2), planned([0, LEFT, 1, RIGHT], [1, 1])),
+    ("a rule's menu, both ways", tray(both(A, B), rules=[menu(A, B)]), planned([0, LEFT, 0, RIGHT], [])),
+    ("a menu that is lent", tray(lend(menu(A, B), B)), planned([0, RIGHT], [])),
+    ("menus in a menu, the outer choice first", tray(B, must=[menu(menu(A, B), C)]), planned([0, LEFT, RIGHT], [1])),
+    ("menu inside a recipe", tray(A, must=[OFFER, B], may=[C]), planned([0, LEFT, 2, 1], [1, 1, 1])),
+    ("menu inside a recipe, right", tray(A, must=[OFFER, B]), planned([0, RIGHT, 1], [1, 1])),
+    ("a choice in a condition behind one at its menu", tray(A, must=[gives(one_of(B, C), menu(B, A)), C]), planned([0, RIGHT, RIGHT, 1], [1, 1])),
+    ("a choice just fits s", tray(one_of(A, B), must=[B], s=2), planned([RIGHT, 0], [1])),
+    ("a choice counts toward s", tray(one_of(A, B), must=[B], s=1), ELEVEN),
+    ("a menu's choice just fits s", tray(A, must=[menu(A, B)], s=2), planned([0, LEFT], [1])),
+    ("a menu's choice counts toward s", tray(A, must=[menu(A, B)], s=1), ELEVEN),
+    ("s takes the left side away", tray(A, must=[OFFER, B], may=[C], s=3), planned([0, RIGHT, 1], [1, 1, 0])),
+    ("d 0, choices alone", tray(both(one_of(A, DONE), one_of(DONE, A)), d=0), planned([RIGHT, LEFT], [])),
+    ("d 1, a choice is not nested", tray(one_of(A, B), must=[A], d=1), planned([LEFT, 0], [1])),
+    ("d 1, a menu's choice is not nested", tray(A, must=[menu(B, A)], d=1), planned([0, RIGHT], [1])),
+    ("d 1, a choice in a condition is not nested", tray(A, must=[gives(one_of(B, DONE), A)], d=1), planned([0, RIGHT], [1])),
+    ("d 0, 64 choices", tray(all_of([one_of(DONE, A)] * 32 + [one_of(A, DONE)] * 32), d=0, s=64), planned([LEFT] * 32 + [RIGHT] * 32, [])),
+    ("d 0, 64 choices, s 63", tray(all_of([one_of(DONE, A)] * 32 + [one_of(A, DONE)] * 32), d=0, s=63), ELEVEN),
 ]
 for n in (8, 32, 64):
     TRAYS.append((f"{n} equal must lines, {n} wanted", tray(all_of([A] * n), must=[A] * n, s=255), planned(list(range(n)), [1] * n)))

@@ -6,9 +6,9 @@ mod cards;
 #[path = "../tests/families/mod.rs"]
 mod families;
 
-use archives::{Asked, ARCHIVES};
-use cards::{Draft, Random};
-use families::{deep, kits, recursive, FAMILIES};
+use archives::{all_choose, Asked, ARCHIVES};
+use cards::{any_card_of, Draft, Random, ALL, SEVEN};
+use families::{choices, deep, kits, recursive, FAMILIES};
 use std::time::Duration;
 
 const BEFORE_LIMIT: Duration = Duration::from_millis(100);
@@ -55,6 +55,39 @@ fn all_families() -> Vec<Vec<u8>> {
     sizes.chain(deep::cards().iter().map(|c| c.1.bytes())).collect()
 }
 
+type Kind = (&'static str, Vec<Vec<u8>>);
+
+/// Whether a node of the card, which damage may have made, is of the kinds of a choice.
+fn chooses(card: &[u8]) -> bool {
+    card.iter().skip(11).step_by(5).any(|kind| (8..=10).contains(kind))
+}
+
+/// Cards of the first seven kinds of node.
+fn without_choices() -> Vec<Kind> {
+    vec![
+        (
+            "random, any",
+            random(20_000, 21, |r| any_card_of(SEVEN, r)).into_iter().filter(|c| !chooses(c)).collect(),
+        ),
+        ("random, sound", random(20_000, 22, |r| Draft::sound_of(SEVEN, r, 5, 7).bytes())),
+        ("depot kits", random(2_000, 23, |r| kits::any(r).bytes())),
+        ("recursive", random(4_000, 24, |r| recursive::any(r).bytes())),
+        ("families and deep", all_families()),
+    ]
+}
+
+/// Cards of all kinds, where both planners know them.
+fn with_choices() -> Vec<Kind> {
+    let sizes = choices::CHOOSING.iter().flat_map(|f| f.sizes.iter().map(|&n| (f.card)(n).bytes()));
+    let families = sizes.chain(deep::choosing().iter().map(|c| c.1.bytes())).collect();
+    vec![
+        ("choices, any", random(20_000, 25, |r| any_card_of(ALL, r))),
+        ("choices, kits", random(2_000, 26, |r| kits::choosing(r).bytes())),
+        ("choices, recursive", random(4_000, 27, |r| recursive::choosing(r).bytes())),
+        ("choices, families", families),
+    ]
+}
+
 fn main() {
     archives::serve();
     if ARCHIVES.len() < 2 {
@@ -67,22 +100,19 @@ fn main() {
         BEFORE_LIMIT.as_millis()
     );
     println!(
-        "{:<18}{:>7}{:>9}{:>9}{:>10}{:>8}{:>15}",
+        "{:<19}{:>7}{:>9}{:>9}{:>10}{:>8}{:>15}",
         "cards", "", "planned", "refused", "left out", "differ", "none now"
     );
-    let kinds = [
-        ("random, any", random(20_000, 21, cards::any_card)),
-        ("random, sound", random(20_000, 22, |r| Draft::sound(r, 5, 7).bytes())),
-        ("depot kits", random(2_000, 23, |r| kits::any(r).bytes())),
-        ("recursive", random(4_000, 24, |r| recursive::any(r).bytes())),
-        ("families and deep", all_families()),
-    ];
+    let mut kinds = without_choices();
+    if all_choose() {
+        kinds.extend(with_choices());
+    }
     let mut wrong = 0;
     for (kind, cards) in kinds {
         let mut c = Counts::default();
         cards.iter().for_each(|card| compare(&mut before, &mut now, card, &mut c));
         let Counts { cards, planned, refused, left_out, unanswered, differ } = c;
-        println!("{kind:<18}{cards:>7}{planned:>9}{refused:>9}{left_out:>10}{differ:>8}{unanswered:>15}");
+        println!("{kind:<19}{cards:>7}{planned:>9}{refused:>9}{left_out:>10}{differ:>8}{unanswered:>15}");
         wrong += differ + unanswered;
     }
     assert_eq!(wrong, 0, "the planners do not answer alike");

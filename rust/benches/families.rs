@@ -6,7 +6,8 @@ mod cards;
 #[path = "../tests/families/mod.rs"]
 mod families;
 
-use archives::{Answer, Archive, Asked, ARCHIVES, ROOM};
+use archives::{all_choose, Answer, Archive, Asked, ARCHIVES, ROOM};
+use families::choices::CHOOSING;
 use families::{Family, FAMILIES, HARD};
 use std::hint::black_box;
 use std::time::{Duration, Instant};
@@ -34,6 +35,11 @@ fn main() {
     summary(&table(&mut asked, FAMILIES));
     println!("\nHard cards, not up to full size:\n");
     table(&mut asked, HARD);
+    println!("\nCards with choices:\n");
+    match all_choose() {
+        true => drop(table(&mut asked, CHOOSING)),
+        false => println!("The planner before does not know them."),
+    }
 }
 
 type Row = (&'static Family, usize, Times);

@@ -130,7 +130,7 @@ mod divisions {
             let bytes = families::distinct(n).bytes();
             let card = decode::card(&bytes).expect("a sound card");
             assert_eq!(kit_planner::plan(&bytes, sheet), Ok(n));
-            let heads: Vec<u16> = card.lines.iter().map(|l| l.0.head.expect("a name")).collect();
+            let heads: Vec<u16> = card.lines.iter().map(|l| l.0.uses[0].head.expect("a name")).collect();
             let planner = time(planner_time(&bytes, sheet));
             let (first_nodes, first) = divider_cell(&card, &heads, true);
             let (all_nodes, all) = divider_cell(&card, &heads, false);

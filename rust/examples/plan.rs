@@ -3,7 +3,7 @@
 //! Usage: plan CARD
 //!
 //! The exit status is 0 where the card is planned, 1 where it is refused, 2 where it could not be read or told.
-use kit_planner::{plan_sheet, Sheet, CARD_MAX};
+use kit_planner::{plan_sheet, Sheet, Step, CARD_MAX};
 use std::env;
 use std::fs::File;
 use std::io::{self, Read, Write};
@@ -17,22 +17,21 @@ fn read_file(name: &Path) -> io::Result<Vec<u8>> {
     Ok(card)
 }
 
-/// Entries are numbered through: P rules, then T lines, then what is lent.
-fn entry(card: &[u8], entry: u8) -> String {
+/// A choice, or the entry used. Entries are numbered through: P rules, then T lines, then what is lent.
+fn told(card: &[u8], step: Step) -> String {
     let (rules, lines) = (card[3], card[4]);
-    if entry < rules {
-        format!("rule {entry}")
-    } else if entry < rules + lines {
-        format!("line {}", entry - rules)
-    } else {
-        format!("lent {}", entry - rules - lines)
+    match step {
+        Step::Entry(entry) if entry < rules => format!("rule {entry}"),
+        Step::Entry(entry) if entry < rules + lines => format!("line {}", entry - rules),
+        Step::Entry(entry) => format!("lent {}", entry - rules - lines),
+        side => side.to_string(),
     }
 }
 
 fn print_sheet(out: &mut impl Write, card: &[u8], sheet: &Sheet) -> io::Result<()> {
     writeln!(out, "planned, steps: {}", sheet.steps().len())?;
-    for (i, &step) in sheet.steps().iter().enumerate() {
-        writeln!(out, "step {i}: {}", entry(card, step))?;
+    for (i, step) in sheet.walk().enumerate() {
+        writeln!(out, "step {i}: {}", told(card, step))?;
     }
     for (i, mark) in sheet.marks().enumerate() {
         writeln!(out, "line {i}: {mark}")?;

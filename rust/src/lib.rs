@@ -56,6 +56,20 @@ pub const CARD_MAX: usize = 2891;
 /// ```
 pub const SHEET_MAX: usize = 324;
 
+/// The step that chooses the left side.
+///
+/// ```
+/// assert_eq!(kit_planner::Step::from(kit_planner::LEFT), kit_planner::Step::Left);
+/// ```
+pub const LEFT: u8 = 254;
+
+/// The step that chooses the right side.
+///
+/// ```
+/// assert_eq!(kit_planner::Step::from(kit_planner::RIGHT), kit_planner::Step::Right);
+/// ```
+pub const RIGHT: u8 = 255;
+
 /// Room for any joined card.
 ///
 /// ```
@@ -161,6 +175,25 @@ pub enum Mark {
     Used = 1,
     /// No step uses it, and it is a must line: a rest takes it.
     Covered = 2,
+}
+
+/// What a step of a sheet says. An entry's number is at most 230, so it is never taken for a choice.
+///
+/// ```
+/// use kit_planner::Step;
+///
+/// assert_eq!([7, 254, 255].map(Step::from), [Step::Entry(7), Step::Left, Step::Right]);
+/// assert_eq!(Step::Left.to_string(), "left");
+/// ```
+#[derive(Clone, Copy, Debug, PartialEq, Eq)]
+pub enum Step {
+    /// The entry with this number is used: rules are numbered from 0, lines from P, the number of rules, and clauses
+    /// lent on the way from P + T, T the number of lines.
+    Entry(u8),
+    /// The left side is taken, of a "one of" or of a menu in the entry used just before: [`LEFT`].
+    Left,
+    /// The right side is: [`RIGHT`].
+    Right,
 }
 
 /// The sheet of a planned card.
@@ -393,13 +426,13 @@ impl Refusal {
             10 => "buffer shorter than 5 + s + T or, joining, than the joined card",
             11 => "no derivation within limits",
             12 => "sheet under 5 bytes, length field not the bytes lent, version not 1, T not the card's, length not 5 + k + T, or k above s",
-            13 => "the step names no rule, line or lent part in scope that gives the name wanted there",
+            13 => "the step names no rule, line or lent part in scope that gives the name wanted there, or is no choice that fits where one is wanted",
             14 => "a mark is not the true one",
             15 => "joined P, T or N past its limit, or the new goal's height above 8",
             16 => "line not below the joined T",
             17 => "the step stands inside more uses than the nesting limit allows",
             18 => "the step is missing (more is wanted) or one too many (nothing is wanted any more)",
-            19 => "a part is used twice, a must line is neither used nor left to rest, a lent part is left over, or the sides of \"either way\" use different parts",
+            19 => "a part is used twice, a must line or lent part neither used nor left to rest, the sides of \"either way\" use different parts, or never is wanted",
             _ => "unknown",
         }
     }
@@ -430,8 +463,7 @@ impl Sheet {
         &self.bytes[..self.len]
     }
 
-    /// The entry used at each step: rules are numbered from 0, lines from P, the number of rules, and clauses lent on
-    /// the way from P + T, T the number of lines.
+    /// The steps as bytes: the number of the entry used, or [`LEFT`] or [`RIGHT`] for a choice; [`Step`] has more.
     ///
     /// ```
     /// let card = [0, 19, 1, 0, 1, 0, 1, 0, 0, 4, 8, 1, 0, 2, 0, 0, 0, 0, 1];
@@ -440,6 +472,24 @@ impl Sheet {
     /// ```
     pub fn steps(&self) -> &[u8] {
         self.parts().0
+    }
+
+    /// The same steps, told apart.
+    ///
+    /// ```
+    /// use kit_planner::Step;
+    ///
+    /// // Line 0 is name 2; the goal is one of the names 3 and 2.
+    /// let card = [
+    ///     0, 29, 1, 0, 1, 0, 3, 0, 2, 4, 8, 1, 0, 3, 0, 0, 1, 0, 2, 0, 0, 8, 0, 0, 0, 1, 0, 1, 1,
+    /// ];
+    /// let sheet = kit_planner::plan_sheet(&card)?;
+    /// assert_eq!(sheet.steps(), [255, 0]);
+    /// assert!(sheet.walk().eq([Step::Right, Step::Entry(0)]));
+    /// # Ok::<(), kit_planner::Refusal>(())
+    /// ```
+    pub fn walk(&self) -> impl ExactSizeIterator<Item = Step> + DoubleEndedIterator + Clone + '_ {
+        self.parts().0.iter().map(|&step| Step::from(step))
     }
 
     /// The mark of each line.
@@ -468,6 +518,26 @@ impl fmt::Debug for Sheet {
     fn fmt(&self, f: &mut fmt::Formatter) -> fmt::Result {
         let (steps, marks) = self.parts();
         f.debug_struct("Sheet").field("steps", &steps).field("marks", &marks).finish()
+    }
+}
+
+impl From<u8> for Step {
+    fn from(step: u8) -> Step {
+        match step {
+            LEFT => Step::Left,
+            RIGHT => Step::Right,
+            entry => Step::Entry(entry),
+        }
+    }
+}
+
+impl fmt::Display for Step {
+    fn fmt(&self, f: &mut fmt::Formatter) -> fmt::Result {
+        match self {
+            Step::Entry(number) => write!(f, "entry {number}"),
+            Step::Left => f.write_str("left"),
+            Step::Right => f.write_str("right"),
+        }
     }
 }
 
@@ -541,7 +611,7 @@ mod tests {
             (2, 2, 3, Place::Card),
             (9, 17, 4, Place::Card),
             (6, 2, 5, Place::Card),
-            (11, 8, 6, Place::Node(0)),
+            (11, 11, 6, Place::Node(0)),
             (8, 1, 7, Place::Card),
             (17, 1, 9, Place::Line(0)),
         ] {
@@ -566,6 +636,18 @@ mod tests {
         let wanted = [(0, "left on the tray"), (1, "used"), (2, "taken by rest")];
         assert_eq!(words, wanted.map(|(number, word)| (number, word.to_string())));
         assert_eq!(sheet.steps(), [9, 8]);
+    }
+
+    #[test]
+    fn steps_are_told_apart() {
+        let mut bytes = [0; SHEET_MAX];
+        bytes[..10].copy_from_slice(&[0, 10, 1, 5, 0, 0, 254, 230, 255, 253]);
+        let sheet = Sheet { bytes, len: 10 };
+        assert_eq!(sheet.walk().len(), 5);
+        let words: Vec<_> = sheet.walk().map(|step| step.to_string()).collect();
+        assert_eq!(words, ["entry 0", "left", "entry 230", "right", "entry 253"]);
+        assert!(sheet.walk().eq(sheet.steps().iter().map(|&step| Step::from(step))));
+        assert_eq!((Step::from(LEFT), Step::from(RIGHT)), (Step::Left, Step::Right));
     }
 
     #[test]

@@ -83,9 +83,10 @@ fn compare(r: &mut Random, joins: &mut Met, sources: &mut Met, first: &[u8], sec
     }
 }
 
-/// A card with at least one fault tried, or none.
+/// A card with at least one fault tried, or none; now and then its goal is as high as can be.
 fn card(r: &mut Random, damaged: bool) -> Vec<u8> {
-    let mut bytes = Draft::sound(r, 5, 7).bytes();
+    let draft = if r.once_in(40) { Draft::sized(r, 5, 7, 12, 8) } else { Draft::sound(r, 5, 7) };
+    let mut bytes = draft.bytes();
     if damaged {
         (0..1 + r.below(3)).for_each(|_| damage(r, &mut bytes));
     }
@@ -340,11 +341,11 @@ mod planning {
         }
     }
 
-    /// How many steps of a list use rules, lines and lent clauses.
-    fn count_steps(steps: &mut [usize; 3], card: &Card, list: &[u8]) {
+    /// How many steps of a list use rules, lines and lent clauses, and how many are choices.
+    fn count_steps(steps: &mut [usize; 4], card: &Card, list: &[u8]) {
         let (p, t) = (card.rules.len(), card.lines.len());
         for e in list.iter().map(|&e| usize::from(e)) {
-            steps[usize::from(e >= p) + usize::from(e >= p + t)] += 1;
+            steps[[p, p + t, 254].iter().filter(|&&from| e >= from).count()] += 1;
         }
     }
 
@@ -353,7 +354,7 @@ mod planning {
     #[test]
     fn lists_are_joined() {
         let mut r = Random::new(67);
-        let (mut met, mut steps, mut refused) = (met::Met::default(), [[0; 3]; 2], 0);
+        let (mut met, mut steps, mut refused) = (met::Met::default(), [[0; 4]; 2], 0);
         for _ in 0..2_000 {
             let (first, a, list) = with_list(&mut r);
             let (second, b, other) = with_list(&mut r);
@@ -373,7 +374,7 @@ mod planning {
             count_steps(&mut steps[1], &b, &other);
         }
         println!("joined lists: {met:?}, {refused} pairs refused");
-        println!("steps of the two by rules, lines and lent clauses: {steps:?}");
+        println!("steps of the two by rules, lines and lent clauses, and choices: {steps:?}");
         assert!(met.planned() >= 1_400, "too few planned");
         assert!(steps.iter().flatten().all(|&n| n > 200));
     }

@@ -3,7 +3,7 @@ mod cards;
 mod met;
 mod model;
 
-use cards::{any_card, Draft, Random};
+use cards::{any_card, any_step, Draft, Random};
 use kit_planner::Place;
 use met::{compare_plan, Met};
 use model::decode;
@@ -43,6 +43,7 @@ fn plans_agree() {
     println!("plans: {met:?}");
     met.all(&[1, 2, 3, 4, 5, 6, 7, 8, 9, 10, 11]);
     met.enough(9_500);
+    met.chose(400);
 }
 
 #[test]
@@ -58,6 +59,7 @@ fn buffers_of_every_size_agree() {
     println!("buffers: {met:?}");
     met.all(&[10, 11]);
     met.enough(620);
+    met.chose(30);
 }
 
 /// The model's two ways to all lists of a card find the same, each of which its walk follows.
@@ -70,7 +72,7 @@ fn models_agree() {
         draft.s = draft.s.min(6);
         let card = decode::card(&draft.bytes()).expect("a sound card");
         let lists = model::lists(&card, BUDGET);
-        let lists = lists.and_then(|a| model::divide::lists(&card, BUDGET).map(|b| (a, b)));
+        let lists = lists.and_then(|a| model::divide::lists(&draft.bytes(), 20 * BUDGET).map(|b| (a, b)));
         met.count_lists(lists.as_ref().map(|l| &l.0));
         let Some((a, b)) = lists else {
             continue;
@@ -82,6 +84,7 @@ fn models_agree() {
     println!("models: {met:?}, {found} lists");
     met.all(&[11]);
     met.enough(1_700);
+    met.chose(1_000);
     assert!(found > 5_000);
 }
 
@@ -103,6 +106,7 @@ fn counting_agrees() {
     println!("counting: {met:?}");
     met.all(&[11]);
     met.enough(9_000);
+    met.chose(10_000);
 }
 
 mod reading {
@@ -122,7 +126,7 @@ mod reading {
             0 => sheet.truncate(r.below(n + 1)),
             1 => sheet.push(r.below(3) as u8),
             2 if n >= 5 => sheet[r.below(5)] = r.below(12) as u8,
-            3 if n > 5 => sheet[5 + r.below(n - 5)] = r.below(10) as u8,
+            3 if n > 5 => sheet[5 + r.below(n - 5)] = any_step(r, 10),
             4 if n > 5 => sheet[n - 1] = r.below(4) as u8,
             5 if n > 6 => sheet.swap(5 + r.below(n - 5), 5 + r.below(n - 5)),
             _ if n >= 5 => {
@@ -148,7 +152,7 @@ mod reading {
         met.count_lists(lists.as_ref());
         let lists = lists.unwrap_or_default();
         if lists.is_empty() {
-            let steps: Vec<u8> = (0..r.below(card.s.min(8) + 1)).map(|_| r.below(10) as u8).collect();
+            let steps: Vec<u8> = (0..r.below(card.s.min(8) + 1)).map(|_| any_step(r, 10)).collect();
             return model::sheet(&card, &steps);
         }
         model::sheet(&card, &lists[r.below(lists.len())])
@@ -171,6 +175,7 @@ mod reading {
         }
         println!("sheets drawn: {drawn:?}\nreads: {met:?}");
         drawn.enough(5_000);
+        drawn.chose(2_000);
         met.all(&[1, 2, 3, 4, 5, 6, 7, 8, 9, 12, 13, 14, 17, 18, 19]);
         met.enough(6_400);
     }
@@ -180,13 +185,13 @@ mod reading {
     fn damage_steps(r: &mut Random, steps: &mut Vec<u8>) {
         let n = steps.len();
         match r.below(6) {
-            0 if n > 0 => steps[r.below(n)] = r.below(9) as u8,
+            0 if n > 0 => steps[r.below(n)] = any_step(r, 9),
             1 => steps.truncate(r.below(n + 1)),
-            2 => steps.extend((0..1 + r.below(2)).map(|_| r.below(9) as u8)),
+            2 => steps.extend((0..1 + r.below(2)).map(|_| any_step(r, 9))),
             3 if n > 1 => steps.swap(r.below(n), r.below(n)),
             4 if n > 0 => steps.insert(r.below(n), steps[r.below(n)]),
             _ if n > 0 => drop(steps.remove(r.below(n))),
-            _ => steps.push(r.below(9) as u8),
+            _ => steps.push(any_step(r, 9)),
         }
     }
 
@@ -195,7 +200,7 @@ mod reading {
     fn damaged_steps_agree() {
         let mut r = Random::new(8);
         let (mut drawn, mut met) = (Met::default(), Met::default());
-        for _ in 0..30_000 {
+        for _ in 0..40_000 {
             let bytes = Draft::sound(&mut r, 3, 4).bytes();
             let card = decode::card(&bytes).expect("a sound card");
             let sheet = any_sheet(&mut r, &mut drawn, &bytes);
@@ -210,7 +215,8 @@ mod reading {
             }
         }
         println!("sheets drawn: {drawn:?}\ndamaged steps: {met:?}");
-        drawn.enough(8_000);
+        drawn.enough(10_000);
+        drawn.chose(4_000);
         met.each(&[12, 13, 14, 17, 18, 19], 1_800);
         met.enough(12_000);
     }

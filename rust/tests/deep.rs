@@ -12,11 +12,15 @@ use model::{bench, count, decode};
 const STACK: usize = 1 << 20;
 const BUDGET: usize = 10_000_000;
 
+fn all() -> impl Iterator<Item = (&'static str, Draft)> {
+    deep::cards().into_iter().chain(deep::choosing())
+}
+
 /// Each card is planned as the independent implementation does, and its sheet accepted.
 fn planned_and_read() {
     let (mut most_planned, mut most_read) = (0, 0);
     println!("{:<28}{:>6}{:>14}{:>12}", "bytes of stack", "steps", "planner", "reader");
-    for (what, draft) in deep::cards() {
+    for (what, draft) in all() {
         let card = draft.bytes();
         let sound = decode::card(&card).expect("a sound card");
         let list = count::first(&sound, BUDGET).expect("enough budget").expect("a list");
@@ -37,7 +41,7 @@ fn planned_and_read() {
 
 /// The deepest cards each with itself, and two that join to the longest there is.
 fn joined() {
-    let mut pairs: Vec<_> = deep::cards().into_iter().map(|(what, c)| (what, c.bytes(), c.bytes())).collect();
+    let mut pairs: Vec<_> = all().map(|(what, c)| (what, c.bytes(), c.bytes())).collect();
     let mut r = Random::new(9);
     let mut half = |nodes| Draft::sized(&mut r, 32, 32, nodes, 7).bytes();
     pairs.push(("the longest", half(256), half(255)));

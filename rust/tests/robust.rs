@@ -84,7 +84,7 @@ fn any_bytes(r: &mut Random) -> Vec<u8> {
                 nodes as u8,
             ]);
             bytes[9] %= 17;
-            bytes[11] = r.below(8) as u8;
+            bytes[11] = r.below(12) as u8;
             bytes
         }
     }

@@ -33,6 +33,8 @@ const KINDS: &[Kind] = &[
     Kind { name: "kits, 20 to 64 lines", seed: 41, cards: 5_000, card: kits::any, longest: 100 },
     Kind { name: "kits, 4 to 20 lines", seed: 42, cards: 8_000, card: kits::small, longest: 40 },
     Kind { name: "recursive", seed: 43, cards: 10_000, card: recursive::any, longest: 55 },
+    Kind { name: "kits with choices", seed: 44, cards: 8_000, card: kits::choosing, longest: 40 },
+    Kind { name: "recursive with choices", seed: 45, cards: 10_000, card: recursive::choosing, longest: 55 },
 ];
 
 /// Compares the cards of a kind, but for those that are left out.
@@ -67,6 +69,9 @@ fn check(kind: &Kind, met: &Met) {
     assert!(met.refused() >= 700, "{name}: too few refused");
     assert!(met.longest >= kind.longest, "{name}: no list of {} steps", kind.longest);
     assert!(met.left_out() * 8 < kind.cards, "{name}: too many left out");
+    if name.contains("choices") {
+        met.chose(1_000);
+    }
 }
 
 fn main() {

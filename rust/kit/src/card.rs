@@ -165,28 +165,6 @@ impl<'a> Card<'a> {
         let space = if before.is_empty() { "" } else { " " };
         format!("({before}{space}{} {between} {})", part(0), part(1))
     }
-
-    /// The name that a clause gives: the right parts of recipes followed down.
-    pub fn head(self, clause: usize) -> Option<u16> {
-        match self.node(clause).kind {
-            kinds::NAME => Some(self.node(clause).fields[0]),
-            kinds::RECIPE => self.head(self.part(clause, 1)?),
-            _ => None,
-        }
-    }
-
-    /// The conditions of a clause, the one nearest the head first.
-    pub fn conditions(self, clause: usize) -> Vec<usize> {
-        let mut found = Vec::new();
-        let mut at = clause;
-        while self.node(at).kind == kinds::RECIPE {
-            let (Some(condition), Some(gives)) = (self.part(at, 0), self.part(at, 1)) else { break };
-            found.push(condition);
-            at = gives;
-        }
-        found.reverse();
-        found
-    }
 }
 
 /// A card that the proved check found sound.
@@ -200,6 +178,23 @@ impl<'a> Sound<'a> {
     pub fn checked(bytes: &'a [u8]) -> Result<Sound<'a>, Refusal> {
         kit_planner::check(bytes)?;
         Ok(Sound { card: Card::new(bytes) })
+    }
+
+    /// The names that a clause gives, each once: the right parts of recipes and both sides of menus followed down.
+    pub fn heads(self, clause: usize) -> Vec<u16> {
+        let node = self.node(clause);
+        let [left, right] = node.fields.map(usize::from);
+        match node.kind {
+            kinds::NAME => vec![node.fields[0]],
+            kinds::RECIPE => self.heads(right),
+            kinds::MENU => {
+                let mut heads = self.heads(left);
+                let others = self.heads(right).into_iter().filter(|head| !heads.contains(head));
+                heads.extend(others.collect::<Vec<_>>());
+                heads
+            }
+            _ => Vec::new(),
+        }
     }
 }
 

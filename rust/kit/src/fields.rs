@@ -2,8 +2,8 @@
 use crate::card::{Card, FRONT, HEIGHT_LIMIT, NODE_LIMIT};
 use crate::kinds::Holds;
 use crate::names::Names;
-use crate::way::Use;
-use crate::why::{count, served};
+use crate::way::{side_of, Step, SIDES};
+use crate::why::{count, served, taken_by};
 use std::fmt;
 
 /// The part of a card or sheet that a field belongs to.
@@ -200,8 +200,25 @@ pub fn mark_word(mark: u8) -> &'static str {
     }
 }
 
-/// The fields of a sheet. Steps that the walk reached are told with what they use.
-pub fn sheet_fields(card: Card, sheet: &[u8], uses: &[Use], names: &Names) -> Vec<Field> {
+/// A step in words: what the byte says and, where the walk reached it, what that does.
+fn step_value(card: Card, byte: u8, reached: Option<&Step>, taken: &[Step], names: &Names) -> String {
+    let number = usize::from(byte);
+    let says = match side_of(byte) {
+        Some(side) => format!("{byte}, {}", SIDES[side]),
+        None => format!("entry {number}, {}", card.entry(number)),
+    };
+    match reached {
+        None => says,
+        Some(Step::Use(one)) => {
+            let (clause, whom) = (card.formula(one.clause, names), served(one, taken));
+            format!("{says}, nesting {}: {clause} for {whom}", one.nesting)
+        }
+        Some(Step::Choice(choice)) => format!("{says}: {}", taken_by(choice, card, taken, names)),
+    }
+}
+
+/// The fields of a sheet. Steps that the walk reached are told with what they use or choose.
+pub fn sheet_fields(card: Card, sheet: &[u8], taken: &[Step], names: &Names) -> Vec<Field> {
     let mut drawing = Drawing { bytes: sheet, fields: Vec::new() };
     let front = Card::new(sheet);
     let (length, k, t) = (front.length(), usize::from(front.byte(3)), usize::from(front.byte(4)));
@@ -217,13 +234,8 @@ pub fn sheet_fields(card: Card, sheet: &[u8], uses: &[Use], names: &Names) -> Ve
         drawing.field(at, len, Part::Front, name, value);
     }
     for i in 0..k {
-        let number = usize::from(front.byte(5 + i));
-        let entry = format!("entry {number}, {}", card.entry(number));
-        let told = uses.get(i).map(|one| {
-            let (clause, whom) = (card.formula(one.clause, names), served(one, uses));
-            format!("{entry}, nesting {}: {clause} for {whom}", one.nesting)
-        });
-        drawing.field(5 + i, 1, Part::Step(i), "", told.unwrap_or(entry));
+        let value = step_value(card, front.byte(5 + i), taken.get(i), taken, names);
+        drawing.field(5 + i, 1, Part::Step(i), "", value);
     }
     for i in 0..t {
         let mark = front.byte(5 + k + i);

@@ -27,7 +27,8 @@ const PLAN: &str = "\
 kit plan CARD.. [-o SHEET] [-j N] [--names FILE] [--json]
 
 Plans each card: the steps in order, with the entry used (rule 0, line 2, lent 1), what it gives
-and what for; then each line of the tray with its mark in words. Or the refusal and its reason.
+and what for, or with the side chosen (left, right) and what that is; then each line of the tray
+with its mark in words. Or the refusal and its reason.
 
     -o SHEET      writes the sheet's bytes; with several cards a folder, for a file NAME.sheet each;
                   - writes them to standard output, and nothing else
@@ -83,8 +84,8 @@ const TREE: &str = "\
 kit tree CARD [SHEET] [--svg | --dot] [-o FILE] [--names FILE] [--json]
 
 Draws the way of doing the job as an indented tree: what is needed, the entry used for it, and
-below it the entry's conditions; both, either way and lends. It is the plan's way, or that of a
-sheet that is accepted.
+below it the entry's conditions; both, either way and lends; the sides chosen of menus and of one
+ofs. It is the plan's way, or that of a sheet that is accepted.
 
     --dot         a graph for Graphviz
     --svg         a picture
@@ -108,8 +109,9 @@ Writes the bytes of a text card. One statement a line; # begins a comment:
     must seal times 3               # three such lines
     may (body gives pump)           # a line of the tray that may be used
 
-Formulas: a word or a number (a name), rest, done, (G both H), (G either way H), (lend D to G),
-(G gives D), and (3 of G) for so many. Whatever has parts has parentheses.
+Formulas: a word or a number (a name), rest, done, never, (G both H), (G either way H),
+(G one of H), (lend D to G), (G gives D), (D menu E), and (3 of G) for so many. Whatever has parts
+has parentheses.
 
 A mistake is told as FILE:LINE:COLUMN with the line and a caret (status 2), and nothing is written.
 Statements \"node ..\" (as kit text --nodes writes them) and \"bytes ..\" (kit text --bytes) are read too.

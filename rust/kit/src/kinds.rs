@@ -37,6 +37,9 @@ pub const BOTH: u8 = 4;
 pub const EITHER_WAY: u8 = 5;
 pub const LEND: u8 = 6;
 pub const RECIPE: u8 = 7;
+pub const ONE_OF: u8 = 8;
+pub const NEVER: u8 = 9;
+pub const MENU: u8 = 10;
 
 const fn kind(number: u8, word: &'static str, fields: [Holds; 2], reads: Reads) -> Kind {
     Kind { number, word, fields, reads, around: ["", ""], roles: ["", ""] }
@@ -44,8 +47,11 @@ const fn kind(number: u8, word: &'static str, fields: [Holds; 2], reads: Reads) 
 
 use Holds::{Clause, Goal, Name, Nothing};
 
-/// 01's table.
-pub const KINDS: [Kind; 7] = [
+/// What a choice takes, as the words for the parts that offer it.
+const SIDES: [&str; 2] = ["the left side", "the right side"];
+
+/// 01's table, and behind it 02's.
+pub const KINDS: [Kind; 10] = [
     kind(NAME, "name", [Name, Nothing], EITHER),
     kind(REST, "rest", [Nothing, Nothing], EITHER),
     kind(DONE, "done", [Nothing, Nothing], GOAL),
@@ -69,6 +75,9 @@ pub const KINDS: [Kind; 7] = [
         roles: ["the condition", "what it gives"],
         ..kind(RECIPE, "recipe", [Goal, Clause], CLAUSE)
     },
+    Kind { around: ["", "one of"], roles: SIDES, ..kind(ONE_OF, "one of", [Goal, Goal], GOAL) },
+    kind(NEVER, "never", [Nothing, Nothing], GOAL),
+    Kind { around: ["", "menu"], roles: SIDES, ..kind(MENU, "menu", [Clause, Clause], CLAUSE) },
 ];
 
 /// The kind with this number.

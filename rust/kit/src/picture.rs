@@ -29,7 +29,7 @@ fn heading(part: Part) -> &'static str {
         Part::Node(_) => "nodes, 5 bytes each: kind, left, right",
         Part::Rule(_) => "rules, 2 bytes each: node",
         Part::Line(_) => "lines, 3 bytes each: node, must or may",
-        Part::Step(_) => "steps, 1 byte each: entry",
+        Part::Step(_) => "steps, 1 byte each: entry, or 254 left, 255 right",
         Part::Mark(_) => "marks, 1 byte each",
         Part::Behind => "behind the end",
     }

@@ -4,7 +4,7 @@ use crate::json::{object, Json};
 use crate::names::Names;
 use crate::paint::Paint;
 use crate::svg::{Svg, LETTER};
-use crate::way::{Use, Way};
+use crate::way::{use_at, Step, Way, SIDES};
 use std::fmt::Write;
 
 /// What a row of the tree is.
@@ -38,7 +38,7 @@ impl Row {
 /// A walk that reached its end.
 pub struct Tree<'a> {
     pub card: Sound<'a>,
-    pub uses: &'a [Use],
+    pub taken: &'a [Step],
     pub way: &'a Way,
     pub names: &'a Names,
 }
@@ -67,15 +67,30 @@ impl Tree<'_> {
                 let words = format!("lend {} as {lent}", self.card.formula(*clause, self.names));
                 (Sort::Lend, words, vec![("to".to_string(), goal)])
             }
-            Way::Need { step, conditions } => {
-                let one = &self.uses[*step];
+            Way::Never { .. } => (Sort::Leaf, "never".to_string(), Vec::new()),
+            Way::OneOf { step, goal } => {
+                let words = format!("one of, {} [step {step}]", self.side(*step));
+                (Sort::Parts, words, vec![("chosen".to_string(), goal)])
+            }
+            Way::Need { step, choices, conditions } => {
+                let one = use_at(self.taken, *step);
                 let name = self.names.word(one.name);
                 let clause = self.card.formula(one.clause, self.names);
                 let recipe = if clause == name { String::new() } else { format!(", {clause}") };
-                let words = format!("{name} by {} [step {step}]{recipe}", one.entry);
+                let sides: String =
+                    choices.iter().map(|&step| format!(", {} [step {step}]", self.side(step))).collect();
+                let words = format!("{name} by {} [step {step}]{sides}{recipe}", one.entry);
                 let roles = (0..conditions.len()).map(|count| format!("condition {count}"));
                 (Sort::Use(one.entry), words, roles.zip(conditions).collect())
             }
+        }
+    }
+
+    /// The side that is chosen at a step.
+    fn side(&self, step: usize) -> &'static str {
+        match &self.taken[step] {
+            Step::Choice(choice) => SIDES[choice.side],
+            Step::Use(_) => "",
         }
     }
 
@@ -153,11 +168,16 @@ impl Tree<'_> {
         let (_, words, parts) = self.parts(way);
         let begin = object().with("role", Some(role).filter(|role| !role.is_empty()));
         let begin = match way {
-            Way::Need { step, .. } => {
-                let one = &self.uses[*step];
+            Way::Need { step, choices, .. } => {
+                let one = use_at(self.taken, *step);
                 let begin = begin.with("is", "use").with("step", *step).with("entry", one.number);
                 let begin = begin.with("kind", one.entry.word()).with("index", one.entry.index());
-                begin.with("name", one.name).with("word", self.names.given(one.name))
+                let begin = begin.with("name", one.name).with("word", self.names.given(one.name));
+                let choice = |&step: &usize| object().with("step", step).with("choice", self.side(step));
+                begin.with("choices", Json::list(choices.iter().map(choice)))
+            }
+            Way::OneOf { step, .. } => {
+                begin.with("is", "one of").with("step", *step).with("choice", self.side(*step))
             }
             Way::Lend { number, .. } => begin.with("is", "lend").with("entry", *number),
             _ => begin.with("is", words.clone()),

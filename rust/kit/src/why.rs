@@ -3,9 +3,12 @@ use crate::card::{
     Card, Sound, FRONT, HEIGHT_LIMIT, LINE_LIMIT, NAME_LIMIT, NESTING_LIMIT, NODE_LIMIT, RULE_LIMIT,
 };
 use crate::files::MOST;
-use crate::kinds::Holds;
+use crate::kinds::{Holds, KINDS};
 use crate::names::Names;
-use crate::way::{amiss, walk, Amiss, Serves, Stop, Stopped, Use, Walk};
+use crate::way::{
+    amiss, side_of, use_at, walk, Amiss, Choice, Offer, Serves, Step, Stop, Stopped, Turn, Use, Walk, Wanted,
+    SIDES,
+};
 use kit_planner::{Place, Refusal};
 
 /// What is wrong: the bytes that are, where some are, and the reason.
@@ -32,8 +35,6 @@ impl Why {
         Why::new(at, len, (0, FRONT), words)
     }
 }
-
-const SIDES: [&str; 2] = ["left", "right"];
 
 /// Why a card is refused with one of 1 to 9, or cannot be planned (11).
 pub fn card(bytes: &[u8], refusal: Refusal, names: &Names) -> Why {
@@ -148,7 +149,7 @@ fn wrong_node(card: Card, i: usize, names: &Names) -> Why {
     let told = |from: usize, len: usize, words: String| Why::new(at + from, len, (at, 5), words);
     let node = card.node(i);
     let Some(kind) = card.kind(i) else {
-        return told(0, 1, format!("its kind is {}; there are kinds 1 to 7", node.kind));
+        return told(0, 1, format!("its kind is {}; there are kinds 1 to {}", node.kind, KINDS.len()));
     };
     for side in 0..2 {
         if let Some(words) = wrong_field(card, i, side, names) {
@@ -282,53 +283,113 @@ fn wrong_mark(card: Sound, sheet: &[u8], line: usize) -> Why {
 }
 
 /// What is to be served, in words.
-pub fn serves(serves: Serves, uses: &[Use]) -> String {
+pub fn serves(serves: Serves, taken: &[Step]) -> String {
     match serves {
         Serves::Goal => "the goal".to_string(),
         Serves::Condition { step, count } => {
-            format!("condition {count} of step {step} ({})", uses[step].entry)
+            format!("condition {count} of step {step} ({})", use_at(taken, step).entry)
         }
     }
 }
 
-/// What a use serves, and on which sides of either ways.
-pub fn served(one: &Use, uses: &[Use]) -> String {
-    let sides: String = one.ways.iter().map(|&side| [", one way", ", the other way"][side]).collect();
-    serves(one.serves, uses) + &sides
+/// The same on which sides of either ways and behind which choices.
+fn serves_by(whom: Serves, turns: &[Turn], taken: &[Step]) -> String {
+    let turn = |turn: &Turn| match *turn {
+        Turn::Way(side) => [", one way", ", the other way"][side].to_string(),
+        Turn::Chosen(side) => format!(", chosen {}", SIDES[side]),
+    };
+    serves(whom, taken) + &turns.iter().map(turn).collect::<String>()
+}
+
+/// What a use serves.
+pub fn served(one: &Use, taken: &[Step]) -> String {
+    serves_by(one.serves, &one.turns, taken)
+}
+
+/// Where a choice is made: `for the goal`, or `in step 0 (rule 2)`.
+pub fn offered(offer: &Offer, taken: &[Step]) -> String {
+    match offer {
+        Offer::OneOf { serves, turns } => format!("for {}", serves_by(*serves, turns, taken)),
+        Offer::Menu { step } => format!("in step {step} ({})", use_at(taken, *step).entry),
+    }
+}
+
+/// What a choice takes, and of what.
+pub fn taken_by(choice: &Choice, card: Card, taken: &[Step], names: &Names) -> String {
+    let [chosen, of] = [choice.chosen, choice.node].map(|node| card.formula(node, names));
+    format!("{chosen} of {of} {}", offered(&choice.offer, taken))
+}
+
+/// What is wanted where a walk stopped.
+fn wanted(card: Sound, wanted: &Wanted, taken: &[Step], names: &Names) -> String {
+    match wanted {
+        Wanted::Nothing => "nothing is wanted there".to_string(),
+        Wanted::Name { name, serves: whom, .. } => {
+            format!("{} is wanted there for {}", names.word(*name), serves(*whom, taken))
+        }
+        Wanted::Side { node, offer } => {
+            let (of, place) = (card.formula(*node, names), offered(offer, taken));
+            format!("a choice of {of}, 254 (left) or 255 (right), is wanted there {place}")
+        }
+    }
+}
+
+/// The names that a clause gives: `gives a, b or c`.
+fn gives(card: Sound, clause: usize, names: &Names) -> String {
+    let heads: Vec<String> = card.heads(clause).into_iter().map(|head| names.word(head)).collect();
+    match heads.split_last() {
+        None => "gives nothing".to_string(),
+        Some((last, [])) => format!("gives {last}"),
+        Some((last, others)) => format!("gives {} or {last}", others.join(", ")),
+    }
 }
 
 fn wrong_step(card: Sound, steps: &[u8], at: usize, refusal: Refusal, names: &Names) -> Why {
-    let Walk { uses, end } = walk(card, steps);
+    let Walk { taken, end } = walk(card, steps);
     let record = (5, steps.len());
-    let Err(Stopped { stop, name, nesting, serves: whom, .. }) = end else {
+    let Err(stopped) = end else {
         return Why::new(5 + at, 1, record, refusal.reason().to_string());
     };
-    let wanted = format!("{} is wanted there for {}", names.word(name), serves(whom, &uses));
-    let (len, words) = match stop {
-        Stop::Missing => (0, format!("step {at} is missing: {wanted}")),
-        Stop::Extra => (1, format!("step {at} is one too many: all that is wanted is met before it")),
-        Stop::NoEntry { entries } => {
-            (1, format!("step {at} is entry {}, but {}; {wanted}", steps[at], entries_there(entries)))
-        }
+    let len = usize::from(stopped.stop != Stop::Missing);
+    let words = format!("step {at} {}", stopped_words(card, &stopped, steps.get(at).copied(), &taken, names));
+    Why::new(5 + at, len, record, words)
+}
+
+/// What of the step is wrong where a walk stopped.
+fn stopped_words(card: Sound, stopped: &Stopped, byte: Option<u8>, taken: &[Step], names: &Names) -> String {
+    let formula = |clause: usize| within(&card.formula(clause, names));
+    let wanted = wanted(card, &stopped.wanted, taken, names);
+    let byte = byte.unwrap_or_default();
+    let side = side_of(byte).map_or("", |side| SIDES[side]);
+    match stopped.stop {
+        Stop::Missing => format!("is missing: {wanted}"),
+        Stop::Extra => "is one too many: all that is wanted is met before it".to_string(),
+        Stop::NoEntry { entries } => format!("is entry {byte}, but {}; {wanted}", entries_there(entries)),
         Stop::Misfit { clause } => {
-            let entry = card.entry(usize::from(steps[at]));
-            let formula = within(&card.formula(clause, names));
-            let gives =
-                card.head(clause).map_or("gives nothing".to_string(), |n| format!("gives {}", names.word(n)));
-            (1, format!("step {at} is {entry} {formula}, which {gives}; {wanted}"))
+            let entry = card.entry(usize::from(byte));
+            format!("is {entry} {}, which {}; {wanted}", formula(clause), gives(card, clause, names))
         }
-        Stop::Deep => {
-            let limit = card.nesting_limit();
-            (
-                1,
-                format!(
-                    "step {at} has nesting {nesting}, above the limit {limit}: it stands inside {}",
-                    count(nesting - 1, "use")
-                ),
+        Stop::Choice => format!("is {byte}, the choice {side}, but an entry has to stand there; {wanted}"),
+        Stop::NoChoice => format!("is {byte}, which is no choice; {wanted}"),
+        Stop::WrongSide { chosen } => {
+            let Wanted::Side { offer: Offer::Menu { step }, .. } = stopped.wanted else { return wanted };
+            let name = names.word(use_at(taken, step).name);
+            let place = offered(&Offer::Menu { step }, taken);
+            format!(
+                "is {side} {}, which {}; {name} is wanted {place}",
+                formula(chosen),
+                gives(card, chosen, names)
             )
         }
-    };
-    Why::new(5 + at, len, record, words)
+        Stop::Deep => deep(card, &stopped.wanted),
+    }
+}
+
+/// 17: how deep the step is nested.
+fn deep(card: Sound, wanted: &Wanted) -> String {
+    let nesting = if let Wanted::Name { nesting, .. } = wanted { *nesting } else { 1 };
+    let (limit, uses) = (card.nesting_limit(), count(nesting - 1, "use"));
+    format!("has nesting {nesting}, above the limit {limit}: it stands inside {uses}")
 }
 
 fn entries_there(entries: usize) -> String {
@@ -340,13 +401,14 @@ fn entries_there(entries: usize) -> String {
 
 /// 19: what does not divide.
 fn undivided(card: Sound, steps: &[u8], refusal: Refusal, names: &Names) -> String {
-    let Walk { uses, end } = walk(card, steps);
+    let Walk { taken, end } = walk(card, steps);
+    let clause = |step: usize| use_at(&taken, step).clause;
     let called = |number: usize, clause: usize| {
         format!("{} {}", card.entry(number), within(&card.formula(clause, names)))
     };
-    match end.ok().and_then(|way| amiss(card, &uses, &way)) {
+    match end.ok().and_then(|way| amiss(card, &taken, &way)) {
         Some(Amiss::Twice { number, steps: [one, other] }) => {
-            let entry = called(number, uses[one].clause);
+            let entry = called(number, clause(one));
             format!("{entry} is used at step {one} and again at step {other}")
         }
         Some(Amiss::Unused { line }) => {
@@ -358,10 +420,13 @@ fn undivided(card: Sound, steps: &[u8], refusal: Refusal, names: &Names) -> Stri
             format!("{entry} is left over: no step inside its lend uses it and no rest there takes it")
         }
         Some(Amiss::OneSide { number, step }) => {
-            let entry = called(number, uses[step].clause);
+            let entry = called(number, clause(step));
             format!(
                 "{entry} is used at step {step} in one way, but the other way neither uses it nor has a rest"
             )
+        }
+        Some(Amiss::Never { serves, turns }) => {
+            format!("never is wanted for {}, and nothing meets it", serves_by(serves, &turns, &taken))
         }
         None => refusal.reason().to_string(),
     }

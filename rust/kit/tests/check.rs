@@ -88,7 +88,7 @@ impl Damage<'_> {
 
     fn node(&mut self, i: usize) {
         let at = self.card.node_at(i);
-        let unknown = (8 + self.r.below(249)) % 256;
+        let unknown = (11 + self.r.below(246)) % 256;
         self.put("kind", 6, at, 1, unknown);
         let kind = self.card.kind(i).unwrap();
         for (side, holds) in kind.fields.into_iter().enumerate() {

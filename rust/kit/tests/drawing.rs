@@ -2,7 +2,7 @@
 #[path = "../../tests/cards/mod.rs"]
 mod cards;
 
-use cards::{any_card, Draft, Random};
+use cards::{any_card, any_step, Draft, Random};
 use desk::card::{Card, Sound};
 use desk::fields::{card_fields, sheet_fields, Field};
 use desk::names::Names;
@@ -54,8 +54,11 @@ fn every_byte_of_a_sheet_is_drawn() {
             sheet[3] = r.below(n) as u8;
             sheet[4] = card.lines() as u8;
         }
+        for step in sheet.iter_mut().skip(5) {
+            *step = if r.once_in(2) { any_step(r, 8) } else { *step };
+        }
         let steps = sheet.get(5..).unwrap_or_default();
-        whole(&sheet, &sheet_fields(*card, &sheet, &walk(card, steps).uses, &names));
+        whole(&sheet, &sheet_fields(*card, &sheet, &walk(card, steps).taken, &names));
     }
 }
 

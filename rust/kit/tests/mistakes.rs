@@ -8,7 +8,7 @@ use std::{env, process};
 const FRONT: &str = "name seal 101\nname body 102\nlimits nesting 4 steps 8\ngoal seal\n";
 
 /// A line behind FRONT, the columns of the carets, and what is wrong there.
-const LINES: [(&str, (usize, usize), &str); 42] = [
+const LINES: [(&str, (usize, usize), &str); 50] = [
     ("must bodi", (6, 4), "\"bodi\" is no name"),
     ("must (seal gives bodi)", (18, 4), "\"bodi\" is no name"),
     ("rule (seal gives 1000)", (18, 4), "1000 is too much: a name goes to 999"),
@@ -26,35 +26,55 @@ const LINES: [(&str, (usize, usize), &str); 42] = [
     ("must (seal gives body))", (23, 1), "\")\" is not expected here: the statement ends before it"),
     ("must seal body", (11, 4), "\"body\" is not expected here: the statement ends before it"),
     ("must seal gives body", (11, 5), "\"gives\" is not expected here: the statement ends before it"),
-    ("must (seal with body)", (12, 4), "\"with\" is not expected here: both, either way, gives or \")\" is"),
+    ("must (seal with body)", (12, 4), "\"with\" is not expected here: both, either way, one of, gives, menu or \")\" is"),
     ("must (seal either body)", (19, 4), "\"body\" is not expected here, but \"way\" is"),
     ("must (lend seal body)", (17, 4), "\"body\" is not expected here, but \"to\" is"),
+    ("must (seal one body)", (16, 4), "\"body\" is not expected here, but \"of\" is"),
+    ("must (one of seal)", (7, 3), "\"one\" is no number: how many is expected here"),
+    ("must (seal menu)", (16, 1), "a formula is missing before \")\""),
+    ("must never", (6, 5), "a line cannot be this, which is no clause: a name, rest, a recipe (\"gives\") or a menu is one"),
+    (
+        "must (seal menu (seal one of body))",
+        (17, 18),
+        "the right side cannot be this, which is no clause: a name, rest, a recipe (\"gives\") or a menu is one",
+    ),
+    (
+        "rule ((seal menu body) gives seal)",
+        (7, 16),
+        "the condition cannot be this, which is no goal: a recipe (\"gives\") or a menu is none",
+    ),
+    (
+        "rule (((seal gives body) one of seal) gives seal)",
+        (8, 17),
+        "the left side cannot be this, which is no goal: a recipe (\"gives\") or a menu is none",
+    ),
+    ("name menu 7", (6, 4), "\"menu\" cannot be a name's word: it begins with no letter, or the format keeps it"),
     ("must both", (6, 4), "\"both\" is no name"),
     ("must seal times 65", (17, 2), "65 is too much: the number of lines goes to 64"),
     (
         "must (seal both body)",
         (6, 16),
-        "a line cannot be this, which is no clause: a name, rest or a recipe (\"gives\") is one",
+        "a line cannot be this, which is no clause: a name, rest, a recipe (\"gives\") or a menu is one",
     ),
     (
         "rule done",
         (6, 4),
-        "a rule cannot be this, which is no clause: a name, rest or a recipe (\"gives\") is one",
+        "a rule cannot be this, which is no clause: a name, rest, a recipe (\"gives\") or a menu is one",
     ),
     (
         "may (done gives (seal both body))",
         (17, 16),
-        "what it gives cannot be this, which is no clause: a name, rest or a recipe (\"gives\") is one",
+        "what it gives cannot be this, which is no clause: a name, rest, a recipe (\"gives\") or a menu is one",
     ),
     (
         "rule ((seal gives body) gives seal)",
         (7, 17),
-        "the condition cannot be this, which is no goal: a recipe (\"gives\") is none",
+        "the condition cannot be this, which is no goal: a recipe (\"gives\") or a menu is none",
     ),
     (
         "rule ((2 of (seal gives body)) gives seal)",
         (13, 17),
-        "a quantity cannot be this, which is no goal: a recipe (\"gives\") is none",
+        "a quantity cannot be this, which is no goal: a recipe (\"gives\") or a menu is none",
     ),
     ("rule ((0 of seal) gives body)", (8, 1), "0 of something is no formula: \"done\" asks for nothing"),
     ("goal seal", (1, 4), "the goal is told twice"),
@@ -152,6 +172,15 @@ fn past_limits() -> Vec<(String, String)> {
             "node 0 name 1\nnode 1 0 gives 0\nnode 2 both 0 1\n".into(),
             "3:8: node 1 is no goal, which both asks for there".into(),
         ),
+        (
+            "node 0 name 1\nnode 1 never\nnode 2 menu 0 1\n".into(),
+            "3:8: node 1 is no clause, which menu asks for there".into(),
+        ),
+        (
+            "node 0 name 1\nnode 1 menu 0 0\nnode 2 one of 1 0\n".into(),
+            "3:8: node 1 is no goal, which one of asks for there".into(),
+        ),
+        ("node 0 one 0 0\n".into(), "1:12: \"0\" is not expected here, but \"of\" is".into()),
         ("node 0 fly 1\n".into(), "1:8: \"fly\" is no number: a node's number is expected here".into()),
     ]
 }

@@ -60,41 +60,50 @@ fn many_are_planned_as_one_by_one() {
     let told = text(kit(&["plan", "--json", "-j", "3"], &scratch.0));
     let lines: Vec<&str> = told.lines().collect();
     assert_eq!(lines.len(), all.len() + 1);
-    let mut planned = 0;
+    let (mut planned, mut chosen) = (0, 0);
     for ((_, answer), line) in all.iter().zip(lines) {
         match answer {
             Ok(sheet) => {
                 let marks: Vec<u8> = sheet.marks().map(|mark| mark as u8).collect();
-                assert_eq!(
-                    (numbers(line, "entry"), numbers(line, "mark")),
-                    (sheet.steps().to_vec(), marks),
-                    "{line}"
-                );
+                let (steps, sides) =
+                    (sheet.steps(), sheet.steps().iter().copied().filter(|&step| step > 253));
+                let entries: Vec<u8> = steps.iter().copied().filter(|&step| step < 254).collect();
+                assert_eq!((numbers(line, "entry"), numbers(line, "mark")), (entries, marks), "{line}");
+                assert_eq!(numbers(line, "byte"), sides.collect::<Vec<_>>(), "{line}");
                 planned += 1;
+                chosen += numbers(line, "byte").len();
             }
             Err(refusal) => assert_eq!(numbers(line, "number"), [refusal.number], "{line}"),
         }
     }
-    assert!(planned > 300, "{planned}");
+    assert!(planned > 300 && chosen > 40, "{planned} planned, {chosen} choices");
     trees(&scratch, &all);
 }
 
-/// A tree has each step of the sheet once, in order, with the kind of its entry.
+/// What a tree tells of a step: the entry used or the side taken.
+fn word(card: &[u8], step: u8) -> String {
+    let (rules, lines) = (card[3], card[4]);
+    match step {
+        254 => ", left".to_string(),
+        255 => ", right".to_string(),
+        e if e < rules => format!(" by rule {e}"),
+        e if e < rules + lines => format!(" by line {}", e - rules),
+        e => format!(" by lent {}", e - rules - lines),
+    }
+}
+
+/// A tree has each step of the sheet once, in order, with the kind of its entry or the side taken.
 fn trees(scratch: &Scratch, all: &[(Vec<u8>, Result<Sheet, Refusal>)]) {
     let planned =
         all.iter().enumerate().filter_map(|(i, (card, answer))| Some((i, card, answer.as_ref().ok()?)));
     for (i, card, sheet) in planned.take(250) {
         let told = text(kit(&["tree"], &scratch.card(i)));
-        let uses: Vec<String> = told.lines().filter(|row| row.contains(" by ")).map(String::from).collect();
-        assert_eq!(uses.len(), sheet.steps().len(), "{told}");
-        for (step, (row, &entry)) in uses.iter().zip(sheet.steps()).enumerate() {
-            let (rules, lines) = (card[3], card[4]);
-            let word = match entry {
-                e if e < rules => format!("rule {e}"),
-                e if e < rules + lines => format!("line {}", e - rules),
-                e => format!("lent {}", e - rules - lines),
-            };
-            assert!(row.contains(&format!(" by {word} [step {step}]")), "{told}");
+        assert_eq!(told.matches(" [step ").count(), sheet.steps().len(), "{told}");
+        let mut behind = told.as_str();
+        for (step, &byte) in sheet.steps().iter().enumerate() {
+            let wanted = format!("{} [step {step}]", word(card, byte));
+            let at = behind.find(&wanted).unwrap_or_else(|| panic!("{wanted}: {told}"));
+            behind = &behind[at + wanted.len()..];
         }
     }
 }

@@ -39,6 +39,10 @@ impl Random {
     }
 }
 
+/// Kinds with parts, by how often a card grows one: the first seven kinds alone, or all.
+pub const SEVEN: &[u8] = &[4, 4, 4, 5, 5, 6, 6, 7, 7, 7];
+pub const ALL: &[u8] = &[4, 4, 4, 5, 5, 6, 6, 7, 7, 7, 8, 8, 10, 10];
+
 /// A card on the way, with what each node reads as and its height.
 #[derive(Clone, Default)]
 pub struct Draft {
@@ -66,13 +70,14 @@ impl Draft {
     /// A node that holds lower ones, or a leaf.
     pub fn add(&mut self, kind: u8, left: usize, right: usize) -> usize {
         let i = self.nodes.len();
-        let height = if kind < 4 { 1 } else { 1 + self.heights[left].max(self.heights[right]) };
+        let leaf = matches!(kind, 1..=3 | 9);
+        let height = if leaf { 1 } else { 1 + self.heights[left].max(self.heights[right]) };
         self.nodes.push((kind, left, right));
         self.heights.push(height);
-        if kind != 7 {
+        if !matches!(kind, 7 | 10) {
             self.goals.push(i);
         }
-        if matches!(kind, 1 | 2 | 7) {
+        if matches!(kind, 1 | 2 | 7 | 10) {
             self.clauses.push(i);
         }
         i
@@ -84,12 +89,26 @@ impl Draft {
 
     /// The balanced "both" of the goals.
     pub fn both(&mut self, goals: &[usize]) -> usize {
-        if let [one] = goals {
+        self.balanced(4, goals)
+    }
+
+    /// The balanced "one of" of the goals.
+    pub fn one_of(&mut self, goals: &[usize]) -> usize {
+        self.balanced(8, goals)
+    }
+
+    /// The balanced menu of the clauses.
+    pub fn menu(&mut self, clauses: &[usize]) -> usize {
+        self.balanced(10, clauses)
+    }
+
+    fn balanced(&mut self, kind: u8, parts: &[usize]) -> usize {
+        if let [one] = parts {
             return *one;
         }
-        let (left, right) = goals.split_at(goals.len() / 2);
-        let (left, right) = (self.both(left), self.both(right));
-        self.add(4, left, right)
+        let (left, right) = parts.split_at(parts.len() / 2);
+        let (left, right) = (self.balanced(kind, left), self.balanced(kind, right));
+        self.add(kind, left, right)
     }
 
     /// The recipe with these conditions, the nearest to the head first.
@@ -136,11 +155,11 @@ impl Draft {
         from.iter().copied().filter(|&i| self.heights[i] < 8).collect()
     }
 
-    fn grow(&mut self, r: &mut Random) {
-        let kind = r.pick(&[4, 4, 4, 5, 5, 6, 6, 7, 7, 7]);
+    fn grow(&mut self, r: &mut Random, kinds: &[u8]) {
+        let kind = r.pick(kinds);
         let (goals, clauses) = (self.low(&self.goals), self.low(&self.clauses));
-        let left = if kind == 6 { r.pick(&clauses) } else { r.pick(&goals) };
-        let right = if kind == 7 { r.pick(&clauses) } else { r.pick(&goals) };
+        let left = if matches!(kind, 6 | 10) { r.pick(&clauses) } else { r.pick(&goals) };
+        let right = if matches!(kind, 7 | 10) { r.pick(&clauses) } else { r.pick(&goals) };
         self.add(kind, left, right);
     }
 
@@ -153,8 +172,14 @@ impl Draft {
         }
     }
 
-    /// A sound card of at most so many rules and lines.
+    /// A sound card of at most so many rules and lines, as often as not with choices.
     pub fn sound(r: &mut Random, rules: usize, lines: usize) -> Draft {
+        let kinds = r.pick(&[SEVEN, ALL]);
+        Draft::sound_of(kinds, r, rules, lines)
+    }
+
+    /// The same of these kinds.
+    pub fn sound_of(kinds: &[u8], r: &mut Random, rules: usize, lines: usize) -> Draft {
         let mut c = Draft::default();
         let names = 1 + r.below(3);
         for i in 0..names {
@@ -165,8 +190,11 @@ impl Draft {
                 c.add(kind, 0, 0);
             }
         }
+        if kinds.contains(&8) && r.once_in(6) {
+            c.add(9, 0, 0);
+        }
         for _ in 0..r.below(12) {
-            c.grow(r);
+            c.grow(r, kinds);
         }
         let late = c.goals.len().saturating_sub(4);
         c.goal = r.pick(&c.goals[late..]);
@@ -183,15 +211,15 @@ impl Draft {
         let mut c = Draft::limits(r.below(17) as u8, r.next() as u8);
         let mut goal = c.name(r.below(1000));
         for _ in 1..height {
-            let kind = r.pick(&[4, 5, 6]);
-            goal = if kind < 6 && r.once_in(2) { c.add(kind, goal, 0) } else { c.add(kind, 0, goal) };
+            let kind = r.pick(&[4, 5, 6, 8]);
+            goal = if kind != 6 && r.once_in(2) { c.add(kind, goal, 0) } else { c.add(kind, 0, goal) };
         }
         c.goal = goal;
         while c.nodes.len() < nodes {
             match r.below(4) {
                 0 => drop(c.name(r.below(1000))),
-                1 => drop(c.add(r.pick(&[2, 3]), 0, 0)),
-                _ => c.grow(r),
+                1 => drop(c.add(r.pick(&[2, 3, 9]), 0, 0)),
+                _ => c.grow(r, ALL),
             }
         }
         c.rules = (0..rules).map(|_| r.pick(&c.clauses)).collect();
@@ -227,7 +255,7 @@ fn damage_body(r: &mut Random, body: &mut [u8]) {
         1 => 5 * r.below(n.div_ceil(5)),
         _ => n - 1 - r.below(n.min(12)),
     };
-    body[at] = r.pick(&[0, 1, 2, 3, 4, 5, 6, 7, 8, 255]);
+    body[at] = r.pick(&[0, 1, 2, 3, 4, 5, 6, 7, 8, 9, 10, 11, 255]);
 }
 
 /// One fault, or none, anywhere in a card.
@@ -251,10 +279,24 @@ pub fn damage(r: &mut Random, bytes: &mut Vec<u8>) {
 
 /// A card of any kind: sound, with one fault, or with several.
 pub fn any_card(r: &mut Random) -> Vec<u8> {
-    let mut bytes = Draft::sound(r, 5, 7).bytes();
+    let kinds = r.pick(&[SEVEN, ALL]);
+    any_card_of(kinds, r)
+}
+
+/// The same, sound or not, of a card of these kinds.
+pub fn any_card_of(kinds: &[u8], r: &mut Random) -> Vec<u8> {
+    let mut bytes = Draft::sound_of(kinds, r, 5, 7).bytes();
     let faults = r.pick(&[0, 0, 0, 1, 1, 2, 3]);
     for _ in 0..faults {
         damage(r, &mut bytes);
     }
     bytes
+}
+
+/// A step: most often an entry's number, else a choice.
+pub fn any_step(r: &mut Random, entries: usize) -> u8 {
+    match r.below(5) {
+        0 => r.pick(&[254, 255]),
+        _ => r.below(entries) as u8,
+    }
 }

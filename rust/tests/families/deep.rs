@@ -6,12 +6,30 @@ use crate::cards::Draft;
 fn nested_goals(kind: u8) -> Draft {
     let mut c = Draft::limits(16, 255);
     let (a, x, rest, done) = (c.name(1), c.name(2), c.add(2, 0, 0), c.add(3, 0, 0));
-    let left = [done, rest, x][usize::from(kind) - 4];
+    let left = match kind {
+        4 => done,
+        5 => rest,
+        6 => x,
+        _ => c.add(9, 0, 0),
+    };
     let chain = |c: &mut Draft, end, n| (0..n).fold(end, |g, _| c.add(kind, left, g));
     c.goal = chain(&mut c, a, 7);
     let (again, ends) = (chain(&mut c, a, 6), chain(&mut c, rest, 6));
     c.rule(&[again], a);
     c.rule(&[ends], a);
+    c
+}
+
+/// Six menus at each of 16 nested uses, the outer ones' right sides the inner ones. By rules 0 and 1, as above.
+fn nested_menus() -> Draft {
+    let mut c = Draft::limits(16, 255);
+    let (a, x, rest) = (c.name(1), c.name(2), c.add(2, 0, 0));
+    for condition in [a, rest] {
+        let recipe = c.gives(&[condition], a);
+        let menus = (0..6).fold(recipe, |clause, _| c.add(10, x, clause));
+        c.rules.push(menus);
+    }
+    c.goal = a;
     c
 }
 
@@ -90,6 +108,21 @@ const ITEMS: &[Item] = &[
     },
 ];
 
+const CHOOSING: &[Item] = &[
+    Item { what: "one of in recipes", steps: 3, most: 126, goal: |c, a, b| paired(c, a, b, 8) },
+    Item {
+        what: "menus",
+        steps: 4,
+        most: 126,
+        goal: |c, a, b| {
+            let recipe = c.gives(&[b], a);
+            let menu = c.menu(&[b, b, b, recipe]);
+            c.rules.push(menu);
+            a
+        },
+    },
+];
+
 /// As many of the item as 252 steps allow. Before them a need with 20 ways, of which the last works: the others
 /// take a line that is wanted behind all items. So there are dead ends before the deepest place is reached.
 fn row(item: &Item) -> Draft {
@@ -133,4 +166,10 @@ pub fn cards() -> Vec<(&'static str, Draft)> {
         ("biggest card", super::biggest(64)),
     ];
     others.into_iter().chain(rows).collect()
+}
+
+/// The same with choices.
+pub fn choosing() -> Vec<(&'static str, Draft)> {
+    let rows = CHOOSING.iter().map(|item| (item.what, row(item)));
+    [("one of 16 deep", nested_goals(8)), ("menus 16 deep", nested_menus())].into_iter().chain(rows).collect()
 }

@@ -144,16 +144,22 @@ pub fn depot(n: usize, fault: Fault) -> Draft {
 
 /// Any kit of 20 to 64 lines.
 pub fn any(r: &mut Random) -> Draft {
-    sized(r, 20, 64)
+    sized(r, 20, 64, false)
 }
 
 /// Any kit of 4 to 20 lines.
 pub fn small(r: &mut Random) -> Draft {
-    sized(r, 4, 20)
+    sized(r, 4, 20, false)
 }
 
-/// Any kit with so many lines at least and at most, with or without a fault.
-fn sized(r: &mut Random, least: usize, most: usize) -> Draft {
+/// Any kit of 4 to 20 lines with choices: lines and rules that offer another thing too, and needs that one of two
+/// things meets.
+pub fn choosing(r: &mut Random) -> Draft {
+    sized(r, 4, 20, true)
+}
+
+/// Any kit with so many lines at least and at most, with or without a fault, with or without choices.
+fn sized(r: &mut Random, least: usize, most: usize, choices: bool) -> Draft {
     let limits = Draft::limits(r.pick(&[3, 4, 6, 16]), r.pick(&[60, 90, 255]));
     let (parts, things, lines) = (3 + r.below(6), 1 + r.below(4), least + r.below(most - least + 1));
     let mut kit = Kit::new(r, limits, parts, things);
@@ -170,13 +176,47 @@ fn sized(r: &mut Random, least: usize, most: usize) -> Draft {
     if r.once_in(2) {
         r.shuffle(&mut kit.c.lines);
     }
+    let names = [&kit.parts[..], &kit.things.iter().map(|t| t.0).collect::<Vec<_>>()].concat();
     let Kit { mut c, mut wanted, .. } = kit;
+    if choices {
+        choose(r, &mut c, &mut wanted, &names);
+    }
     if r.once_in(2) {
         r.shuffle(&mut wanted);
     }
     c.goal = c.both(&wanted);
     covered(r, &mut c, &wanted);
     c
+}
+
+/// Two things by this kind, in either order: this one, and a name or, in a menu, a recipe for it.
+fn beside(r: &mut Random, c: &mut Draft, kind: u8, one: usize, names: &[usize]) -> usize {
+    let mut other = r.pick(names);
+    if kind == 10 && r.once_in(3) {
+        other = c.gives(&[r.pick(names)], other);
+    }
+    let mut sides = [one, other];
+    r.shuffle(&mut sides);
+    c.add(kind, sides[0], sides[1])
+}
+
+/// Every few needs, rules and lines offer a choice.
+fn choose(r: &mut Random, c: &mut Draft, wanted: &mut [usize], names: &[usize]) {
+    for need in wanted {
+        if r.once_in(5) {
+            *need = beside(r, c, 8, *need, names);
+        }
+    }
+    for i in 0..c.rules.len() {
+        if r.once_in(4) {
+            c.rules[i] = beside(r, c, 10, c.rules[i], names);
+        }
+    }
+    for i in 0..c.lines.len() {
+        if r.once_in(4) {
+            c.lines[i].0 = beside(r, c, 10, c.lines[i].0, names);
+        }
+    }
 }
 
 /// Now and then a rest beside the kit, the kit either way in two orders, or a tool lent to it.

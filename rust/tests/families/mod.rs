@@ -1,5 +1,6 @@
 //! Families of sound cards that grow with n up to the format's limits, for benchmarks and tests.
 #![allow(dead_code)]
+pub mod choices;
 pub mod deep;
 pub mod kits;
 pub mod recursive;

@@ -28,6 +28,7 @@ pub fn compare_plan(
     met.count(&answer);
     if let (Ok(k), Ok(sheet)) = (answer, wanted) {
         assert_eq!(kit_planner::read(card, &sheet), Ok(k), "card {card:02x?}");
+        met.choose(&sheet[5..5 + k]);
         met.longest = met.longest.max(k);
         met.long += usize::from(k >= LONG);
     }
@@ -43,6 +44,8 @@ pub struct Met {
     numbers: [usize; 20],
     pub skipped: usize,
     pub given_up: usize,
+    /// How often left and right stand in the lists.
+    pub chosen: [usize; 2],
     /// The most steps of a sheet, and how many sheets are long.
     pub longest: usize,
     pub long: usize,
@@ -57,9 +60,24 @@ impl Met {
     pub fn count_lists(&mut self, lists: Option<&Vec<Vec<u8>>>) {
         match lists {
             Some(lists) if lists.is_empty() => self.numbers[11] += 1,
-            Some(_) => self.numbers[0] += 1,
+            Some(lists) => {
+                self.numbers[0] += 1;
+                lists.iter().for_each(|list| self.choose(list));
+            }
             None => self.skipped += 1,
         }
+    }
+
+    /// Counts the choices of a list.
+    pub fn choose(&mut self, list: &[u8]) {
+        for (count, side) in self.chosen.iter_mut().zip([254, 255]) {
+            *count += list.iter().filter(|&&step| step == side).count();
+        }
+    }
+
+    /// Left and right were taken so often.
+    pub fn chose(&self, least: usize) {
+        assert!(self.chosen.iter().all(|&n| n >= least), "fewer than {least} choices a side: {self:?}");
     }
 
     /// Each of these was met.

@@ -1,5 +1,5 @@
 //! Two cards on one bench: the joined card from the fields of both, and which card holds a line.
-use super::decode::{self, word, Card, Clause, Goal};
+use super::decode::{self, word, Card, Goal, LEFT};
 use super::refused;
 use kit_planner::{BenchRefusal, Place, Refusal, Which};
 
@@ -27,9 +27,9 @@ impl Fields {
         }
     }
 
-    /// Every node's number raised by n. What kinds 1 to 3 hold are no nodes' numbers.
+    /// Every node's number raised by n. What kinds 1 to 3 and 9 hold are no nodes' numbers.
     fn moved(mut self, n: usize) -> Fields {
-        for (_, left, right) in self.nodes.iter_mut().filter(|node| node.0 > 3) {
+        for (_, left, right) in self.nodes.iter_mut().filter(|node| ![1, 2, 3, 9].contains(&node.0)) {
             *left += n;
             *right += n;
         }
@@ -82,15 +82,10 @@ impl Fields {
 /// A goal's height.
 pub fn height(goal: &Goal) -> usize {
     match goal {
-        Goal::Name(_) | Goal::Rest | Goal::Done => 1,
-        Goal::Both(a, b) | Goal::Either(a, b) => 1 + height(a).max(height(b)),
-        Goal::Lend(d, g) => 1 + clause_height(d).max(height(g)),
+        Goal::Name(_) | Goal::Rest | Goal::Done | Goal::Never => 1,
+        Goal::Both(a, b) | Goal::Either(a, b) | Goal::OneOf(a, b) => 1 + height(a).max(height(b)),
+        Goal::Lend(d, g) => 1 + d.height.max(height(g)),
     }
-}
-
-/// A recipe stands on what it gives: one more for each condition, from the head on.
-fn clause_height(clause: &Clause) -> usize {
-    clause.conditions.iter().fold(1, |below, g| 1 + below.max(height(g)))
 }
 
 /// The most rules, lines and nodes of a card, and the greatest height.
@@ -143,7 +138,7 @@ pub fn source(first: &[u8], second: &[u8], i: u16) -> Result<(Which, usize), Ben
     all.nth(usize::from(i)).map_or_else(|| neither(16, Place::Line(i)), Ok)
 }
 
-/// The list of the joined card that does what one of its two cards' lists does.
+/// The list of the joined card that does what one of its two cards' lists does. Choices stay what they are.
 pub fn renumbered(list: &[u8], which: Which, first: &Card, second: &Card) -> Vec<u8> {
     let own = which.of(first, second);
     let other = which.of(second, first);
@@ -156,5 +151,6 @@ pub fn renumbered(list: &[u8], which: Which, first: &Card, second: &Card) -> Vec
         Which::Second if e < p => q,
         _ => q + u,
     };
-    list.iter().map(|&e| e + more(usize::from(e)) as u8).collect()
+    let moved = |e: u8| e + more(usize::from(e)) as u8;
+    list.iter().map(|&step| if step < LEFT { moved(step) } else { step }).collect()
 }

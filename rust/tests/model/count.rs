@@ -2,9 +2,9 @@
 //! told by how many clauses of each class it takes, and of all lists with the same counts only the least number
 //! of steps matters. The list is then found step by step: the lowest entry after which the rest of the goal can
 //! still be derived from what is left.
-use super::decode::{Card, Clause, Goal};
+use super::decode::{Card, Clause, Goal, Use, LEFT, RIGHT};
 use super::Items;
-use std::collections::HashMap;
+use std::collections::{BTreeSet, HashMap};
 use std::rc::Rc;
 
 /// What a derivation takes: the items that the given steps name, how many others of each class, and whether
@@ -34,10 +34,10 @@ struct Count<'a> {
     classes: Vec<Rc<Clause>>,
     lines: Vec<usize>,
     lent: Vec<usize>,
-    /// The different clauses by their heads, with their classes, rules without.
+    /// The different clauses by each of their heads, with their classes, rules without.
     makers: HashMap<u16, Vec<Entry>>,
     known: HashMap<(*const Goal, usize), Rc<Takes>>,
-    /// What stands in scope where the walk is, and the entries for the first name behind the given steps.
+    /// What stands in scope where the walk is, and the steps that can follow the given ones.
     scope: Vec<Entry>,
     next: Option<Vec<u8>>,
     budget: usize,
@@ -55,7 +55,7 @@ struct Held {
 impl Held {
     fn goal(&mut self, g: &Goal) {
         match g {
-            Goal::Both(a, b) | Goal::Either(a, b) => {
+            Goal::Both(a, b) | Goal::Either(a, b) | Goal::OneOf(a, b) => {
                 self.either |= matches!(g, Goal::Either(..));
                 self.goal(a);
                 self.goal(b);
@@ -69,16 +69,23 @@ impl Held {
         }
     }
 
+    /// Each condition once: those outside a menu are the conditions of several uses.
     fn clause(&mut self, c: &Clause) {
-        self.goals.extend(c.conditions.iter().cloned());
-        c.conditions.iter().for_each(|g| self.goal(g));
+        let mut seen: Vec<&Rc<Goal>> = Vec::new();
+        for g in c.uses.iter().flat_map(|u| &u.conditions) {
+            if !seen.iter().any(|other| Rc::ptr_eq(other, g)) {
+                seen.push(g);
+                self.goals.push(g.clone());
+                self.goal(g);
+            }
+        }
     }
 }
 
 /// How often the clause is lent on the way to any place in the goal.
 fn lent_inside(g: &Goal, c: &Clause) -> usize {
     match g {
-        Goal::Both(a, b) | Goal::Either(a, b) => lent_inside(a, c).max(lent_inside(b, c)),
+        Goal::Both(a, b) | Goal::Either(a, b) | Goal::OneOf(a, b) => lent_inside(a, c).max(lent_inside(b, c)),
         Goal::Lend(d, g) => usize::from(**d == *c) + lent_inside(g, c),
         _ => 0,
     }
@@ -113,9 +120,8 @@ impl Count<'_> {
             different(card.rules.iter().cloned()).into_iter().map(|clause| Entry { clause, class: None });
         let items = classes.iter().enumerate().map(|(i, c)| Entry { clause: c.clone(), class: Some(i) });
         for entry in rules.chain(items) {
-            if let Some(head) = entry.clause.head {
-                makers.entry(head).or_default().push(entry);
-            }
+            let heads: BTreeSet<u16> = entry.clause.uses.iter().filter_map(|u| u.head).collect();
+            heads.into_iter().for_each(|head| makers.entry(head).or_default().push(entry.clone()));
         }
         let (known, scope, next) = (HashMap::new(), Vec::new(), None);
         let mut count = Count { card, either, classes, lines, lent, makers, known, scope, next, budget };
@@ -229,10 +235,24 @@ impl Count<'_> {
                 let (class, takes) = (self.class(d)?, self.goal(g, depth)?);
                 self.lend(&takes, Items::default(), class)
             }
+            Goal::OneOf(a, b) => {
+                let (l, r) = (self.goal(a, depth)?, self.goal(b, depth)?);
+                self.one_of(&[&l, &r])
+            }
+            Goal::Never => Takes::new(),
             Goal::Name(a) => self.name(*a, depth)?,
         });
         self.known.insert(key, takes.clone());
         Some(takes)
+    }
+
+    /// What any of the sides takes, behind its choice.
+    fn one_of(&self, sides: &[&Takes]) -> Takes {
+        let mut all = Takes::new();
+        for (take, n) in sides.iter().flat_map(|side| side.iter()).filter(|t| *t.1 < self.card.s) {
+            keep(&mut all, take.clone(), n + 1);
+        }
+        all
     }
 
     fn name(&mut self, a: u16, depth: usize) -> Option<Takes> {
@@ -241,21 +261,32 @@ impl Count<'_> {
             return Some(all);
         }
         for Entry { clause, class } in self.makers.get(&a).cloned().unwrap_or_default() {
-            let mut takes = self.nothing(false);
-            for g in &clause.conditions {
-                let more = self.goal(g, depth - 1)?;
-                takes = self.pairs(&takes, &more, depth - 1, Self::both)?;
-            }
-            for (mut take, n) in takes.into_iter().filter(|t| t.1 < self.card.s) {
-                if let Some(class) = class {
-                    take.others[class] += 1;
-                }
-                if self.at_hand(&take, depth) {
-                    keep(&mut all, take, n + 1);
+            for u in clause.giving(a) {
+                let takes = self.conditions(u, depth - 1, &mut None)?;
+                for (mut take, n) in takes.into_iter().filter(|t| t.1 + u.choices.len() < self.card.s) {
+                    if let Some(class) = class {
+                        take.others[class] += 1;
+                    }
+                    if self.at_hand(&take, depth) {
+                        keep(&mut all, take, n + u.choices.len() + 1);
+                    }
                 }
             }
         }
         Some(all)
+    }
+
+    /// All that the conditions of a use take together, along the steps if there are some.
+    fn conditions(&mut self, u: &Use, depth: usize, steps: &mut Option<&mut &[u8]>) -> Option<Takes> {
+        let mut takes = self.nothing(false);
+        for g in &u.conditions {
+            let more = match steps {
+                Some(steps) => self.walk(g, depth, steps)?,
+                None => self.goal(g, depth)?,
+            };
+            takes = self.pairs(&takes, &more, depth, Self::both)?;
+        }
+        Some(takes)
     }
 
     /// All that a goal can take whose list begins with the steps, as far as they go.
@@ -264,7 +295,7 @@ impl Count<'_> {
             return self.goal(g, depth);
         }
         Some(Rc::new(match &**g {
-            Goal::Done | Goal::Rest => return self.goal(g, depth),
+            Goal::Done | Goal::Rest | Goal::Never => return self.goal(g, depth),
             Goal::Both(a, b) => {
                 let (l, r) = (self.walk(a, depth, steps)?, self.walk(b, depth, steps)?);
                 self.pairs(&l, &r, depth, Self::both)?
@@ -280,42 +311,74 @@ impl Count<'_> {
                 self.scope.pop();
                 self.lend(&*takes?, Items::one(e), class)
             }
-            Goal::Name(a) => {
-                let Some((&e, others)) = steps.split_first() else {
-                    let fits = |e: &usize| self.scope[*e].clause.head == Some(*a);
-                    self.next = Some((0..self.scope.len()).filter(fits).map(|e| e as u8).collect());
-                    return self.goal(g, depth);
-                };
-                *steps = others;
-                self.step(usize::from(e), depth, steps)?
-            }
+            Goal::OneOf(..) | Goal::Name(_) => return self.walk_step(g, depth, steps),
         }))
     }
 
-    /// The use of the entry, which fits, at a name.
-    fn step(&mut self, e: usize, depth: usize, steps: &mut &[u8]) -> Option<Takes> {
+    /// The same of a goal that takes a step.
+    fn walk_step(&mut self, g: &Rc<Goal>, depth: usize, steps: &mut &[u8]) -> Option<Rc<Takes>> {
+        let Some((&step, others)) = steps.split_first() else {
+            self.next = Some(self.first_steps(g));
+            return self.goal(g, depth);
+        };
+        *steps = others;
+        let takes = match &**g {
+            Goal::OneOf(a, b) => {
+                let taken = self.walk(if step == LEFT { a } else { b }, depth, steps)?;
+                self.one_of(&[&taken])
+            }
+            Goal::Name(a) => self.step(usize::from(step), *a, depth, steps)?,
+            _ => unreachable!("no other goal takes a step"),
+        };
+        Some(Rc::new(takes))
+    }
+
+    /// The steps that a goal can begin with: the entries that fit a name, or both choices.
+    fn first_steps(&self, g: &Goal) -> Vec<u8> {
+        match g {
+            Goal::Name(a) => {
+                let fits = |e: &usize| self.scope[*e].clause.gives(*a);
+                (0..self.scope.len()).filter(fits).map(|e| e as u8).collect()
+            }
+            _ => vec![LEFT, RIGHT],
+        }
+    }
+
+    /// The use of the entry, which fits, at a name: by the given choices and, where they are too few, any others.
+    fn step(&mut self, e: usize, a: u16, depth: usize, steps: &mut &[u8]) -> Option<Takes> {
         if depth == 0 {
             return Some(Takes::new());
         }
         let Entry { clause, class } = self.scope[e].clone();
-        let mut takes = self.nothing(false);
-        for g in &clause.conditions {
-            let more = self.walk(g, depth - 1, steps)?;
-            takes = self.pairs(&takes, &more, depth - 1, Self::both)?;
+        let mut open: Vec<&Use> = clause.giving(a).collect();
+        let mut made = 0;
+        while open[0].choices.len() > made && self.next.is_none() {
+            match steps.split_first() {
+                Some((side, others)) => {
+                    open.retain(|u| u.choices[made] == *side);
+                    (made, *steps) = (made + 1, others);
+                }
+                None => {
+                    let sides: BTreeSet<u8> = open.iter().map(|u| u.choices[made]).collect();
+                    self.next = Some(sides.into_iter().collect());
+                }
+            }
         }
         let item = class.map_or(Items::default(), |_| Items::one(e));
         let mut all = Takes::new();
-        for (mut take, n) in takes {
-            if take.named.apart(item) && n < self.card.s {
-                take.named = take.named.with(item);
-                keep(&mut all, take, n + 1);
+        for u in open {
+            for (mut take, n) in self.conditions(u, depth - 1, &mut Some(&mut *steps))? {
+                if take.named.apart(item) && n + u.choices.len() < self.card.s {
+                    take.named = take.named.with(item);
+                    keep(&mut all, take, n + u.choices.len() + 1);
+                }
             }
         }
         Some(all)
     }
 
     /// The least number of steps of a list that begins with these and takes all must lines, or has some rest
-    /// for them, and no more than there are; and the entries that can follow. The steps fit their names.
+    /// for them, and no more than there are; and the steps that can follow. Those given fit what is wanted.
     fn least(&mut self, steps: &[u8]) -> Option<(Option<usize>, Vec<u8>)> {
         self.next = None;
         let takes = self.walk(&self.card.goal.clone(), self.card.d, &mut &steps[..])?;
@@ -344,7 +407,7 @@ impl Count<'_> {
         left
     }
 
-    /// Entries with the same number serve alike: equal lines that are must or may alike, none of them used yet.
+    /// Steps with the same number serve alike: equal lines that are must or may alike, none of them used yet.
     /// None for a line that is used and cannot be again.
     fn likeness(&self, e: u8, steps: &[u8]) -> Option<usize> {
         let used = steps.contains(&e);

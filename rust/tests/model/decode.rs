@@ -11,13 +11,58 @@ pub enum Goal {
     Both(Rc<Goal>, Rc<Goal>),
     Either(Rc<Goal>, Rc<Goal>),
     Lend(Rc<Clause>, Rc<Goal>),
+    OneOf(Rc<Goal>, Rc<Goal>),
+    Never,
 }
 
-/// A clause by its head, if it has one, and its conditions, the nearest to the head first.
+/// The bytes of a choice.
+pub const LEFT: u8 = 254;
+pub const RIGHT: u8 = 255;
+
+/// One way through a clause: the sides taken at its menus, the outermost first; its head, if it has one; its
+/// conditions, the nearest to the head first.
 #[derive(Debug, Clone, PartialEq, Eq)]
-pub struct Clause {
+pub struct Use {
+    pub choices: Vec<u8>,
     pub head: Option<u16>,
     pub conditions: Vec<Rc<Goal>>,
+}
+
+/// A clause by the ways through it, left before right.
+#[derive(Debug, Clone, PartialEq, Eq)]
+pub struct Clause {
+    pub uses: Vec<Use>,
+    pub height: usize,
+}
+
+impl Clause {
+    fn bare(head: Option<u16>) -> Clause {
+        Clause { uses: vec![Use { choices: Vec::new(), head, conditions: Vec::new() }], height: 1 }
+    }
+
+    /// The ways through it whose head is this name.
+    pub fn giving(&self, a: u16) -> impl Iterator<Item = &Use> {
+        self.uses.iter().filter(move |u| u.head == Some(a))
+    }
+
+    pub fn gives(&self, a: u16) -> bool {
+        self.giving(a).next().is_some()
+    }
+
+    /// The same behind one more condition, the farthest from the head.
+    fn recipe(&self, condition: &Rc<Goal>, height: usize) -> Clause {
+        let mut uses = self.uses.clone();
+        uses.iter_mut().for_each(|u| u.conditions.push(condition.clone()));
+        Clause { uses, height }
+    }
+
+    fn menu(&self, right: &Clause, height: usize) -> Clause {
+        let mut uses = [&self.uses[..], &right.uses[..]].concat();
+        for (i, u) in uses.iter_mut().enumerate() {
+            u.choices.insert(0, if i < self.uses.len() { LEFT } else { RIGHT });
+        }
+        Clause { uses, height }
+    }
 }
 
 /// A sound card.
@@ -83,28 +128,29 @@ fn leaf(goal: Goal, clause: Option<Clause>) -> Node {
 }
 
 fn node(below: &[Node], kind: u8, left: usize, right: usize) -> Option<Node> {
-    let bare = |head| Some(Clause { head, conditions: Vec::new() });
     match (kind, left, right) {
-        (1, 0..=999, 0) => return Some(leaf(Goal::Name(left as u16), bare(Some(left as u16)))),
-        (2, 0, 0) => return Some(leaf(Goal::Rest, bare(None))),
+        (1, 0..=999, 0) => {
+            let name = left as u16;
+            return Some(leaf(Goal::Name(name), Some(Clause::bare(Some(name)))));
+        }
+        (2, 0, 0) => return Some(leaf(Goal::Rest, Some(Clause::bare(None)))),
         (3, 0, 0) => return Some(leaf(Goal::Done, None)),
-        (4..=7, _, _) => {}
+        (9, 0, 0) => return Some(leaf(Goal::Never, None)),
+        (4..=8 | 10, _, _) => {}
         _ => return None,
     }
     let (l, r) = (below.get(left)?, below.get(right)?);
+    let height = Some(1 + l.height.max(r.height)).filter(|&h| h <= 8)?;
     let (mut goal, mut clause) = (None, None);
     match kind {
         4 => goal = Some(Goal::Both(l.goal.clone()?, r.goal.clone()?)),
         5 => goal = Some(Goal::Either(l.goal.clone()?, r.goal.clone()?)),
         6 => goal = Some(Goal::Lend(l.clause.clone()?, r.goal.clone()?)),
-        _ => {
-            let mut c = Clause::clone(&*r.clause.clone()?);
-            c.conditions.push(l.goal.clone()?);
-            clause = Some(c);
-        }
+        7 => clause = Some(r.clause.as_ref()?.recipe(l.goal.as_ref()?, height)),
+        8 => goal = Some(Goal::OneOf(l.goal.clone()?, r.goal.clone()?)),
+        _ => clause = Some(l.clause.as_ref()?.menu(r.clause.as_ref()?, height)),
     }
-    let height = 1 + l.height.max(r.height);
-    (height <= 8).then(|| Node { goal: goal.map(Rc::new), clause: clause.map(Rc::new), height })
+    Some(Node { goal: goal.map(Rc::new), clause: clause.map(Rc::new), height })
 }
 
 fn refusal(number: u8, place: Place) -> Refusal {

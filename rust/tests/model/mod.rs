@@ -1,13 +1,14 @@
 //! The rules for cards and sheets once more, in plain Rust and by other means than the planner's: formulas as
 //! trees, all lists of a goal at once with what each needs of the items, and a reader by a walk of its own. For
-//! bigger cards the first list by counting. Two cards joined field by field.
+//! small cards all lists by dividing the items, for bigger ones the first list by counting. Two cards joined field by
+//! field.
 #![allow(dead_code)]
 pub mod bench;
 pub mod count;
 pub mod decode;
 pub mod divide;
 
-use decode::{Card, Clause, Goal};
+use decode::{Card, Clause, Goal, Use, LEFT, RIGHT};
 use kit_planner::{Place, Refusal};
 use std::rc::Rc;
 
@@ -87,7 +88,13 @@ impl Way {
         spent.then_some(self)
     }
 
-    /// name: entry e, then the way of its conditions.
+    /// Behind these choices.
+    pub fn behind(mut self, choices: &[u8]) -> Way {
+        self.list.splice(0..0, choices.iter().copied());
+        self
+    }
+
+    /// name: entry e, then its choices and the way of its conditions.
     pub fn using(mut self, e: usize, stays: bool) -> Option<Way> {
         if !stays {
             if self.used.has(e) {
@@ -144,6 +151,13 @@ impl Ways {
                 scope.pop();
                 Some(ways?.into_iter().filter_map(|w| w.lent(e)).collect())
             }
+            Goal::OneOf(a, b) => {
+                let (l, r) = (self.goal(scope, a, depth)?, self.goal(scope, b, depth)?);
+                let left = l.into_iter().map(|w| w.behind(&[LEFT]));
+                let all = left.chain(r.into_iter().map(|w| w.behind(&[RIGHT])));
+                Some(all.filter(|w| w.list.len() <= self.limit).collect())
+            }
+            Goal::Never => Some(Vec::new()),
             Goal::Name(a) => self.name(scope, *a, depth),
         }
     }
@@ -155,15 +169,15 @@ impl Ways {
         }
         for e in 0..scope.len() {
             let entry = scope[e].clone();
-            if entry.clause.head != Some(a) {
-                continue;
+            for u in entry.clause.giving(a) {
+                let mut ways = vec![Way::none(false)];
+                for g in &u.conditions {
+                    let more = self.goal(scope, g, depth - 1)?;
+                    ways = self.pairs(&ways, &more, Way::both)?;
+                }
+                let chosen = ways.into_iter().map(|w| w.behind(&u.choices));
+                all.extend(chosen.filter_map(|w| w.using(e, entry.stays)));
             }
-            let mut ways = vec![Way::none(false)];
-            for g in &entry.clause.conditions {
-                let more = self.goal(scope, g, depth - 1)?;
-                ways = self.pairs(&ways, &more, Way::both)?;
-            }
-            all.extend(ways.into_iter().filter_map(|w| w.using(e, entry.stays)));
         }
         all.retain(|w| w.list.len() <= self.limit);
         Some(all)
@@ -224,41 +238,76 @@ fn planned(
     })
 }
 
-/// The first wrong step: its number and index. What is still wanted is kept in order, each goal with its nesting
-/// left and the clauses in its scope; who has used what is not minded.
+/// The way through a clause that the steps from i on choose for the name, and the next step; or what is wrong there.
+fn chosen<'a>(
+    clause: &'a Clause,
+    a: u16,
+    steps: &[u8],
+    mut i: usize,
+) -> Result<(&'a Use, usize), (u8, usize)> {
+    let mut open: Vec<&Use> = clause.giving(a).collect();
+    let mut made = 0;
+    while open[0].choices.len() > made {
+        let side = *steps.get(i).ok_or((18, i))?;
+        open.retain(|u| u.choices[made] == side);
+        if open.is_empty() {
+            return Err((13, i));
+        }
+        (made, i) = (made + 1, i + 1);
+    }
+    Ok((open[0], i))
+}
+
+/// What is still wanted, in order, the next one last: each goal with its nesting left and the clauses in its scope.
+type Wanted = Vec<(Rc<Goal>, usize, Vec<Rc<Clause>>)>;
+
+/// The first wrong step: its number and index. Who has used what is not minded.
 fn first_wrong(card: &Card, steps: &[u8]) -> Option<(u8, usize)> {
     let scope: Vec<_> = card.scope().into_iter().map(|entry| entry.clause).collect();
     let mut wanted = vec![(card.goal.clone(), card.d, scope)];
     let mut i = 0;
-    while let Some((goal, depth, mut scope)) = wanted.pop() {
-        match &*goal {
-            Goal::Done | Goal::Rest => {}
-            Goal::Both(a, b) | Goal::Either(a, b) => {
-                wanted.push((b.clone(), depth, scope.clone()));
-                wanted.push((a.clone(), depth, scope));
-            }
-            Goal::Lend(d, g) => {
-                scope.push(d.clone());
-                wanted.push((g.clone(), depth, scope));
-            }
-            Goal::Name(a) => {
-                let Some(&e) = steps.get(i) else {
-                    return Some((18, i));
-                };
-                let clause = scope.get(usize::from(e)).filter(|d| d.head == Some(*a));
-                let Some(clause) = clause.cloned() else {
-                    return Some((13, i));
-                };
-                if depth == 0 {
-                    return Some((17, i));
-                }
-                let conditions = clause.conditions.iter().rev();
-                wanted.extend(conditions.map(|g| (g.clone(), depth - 1, scope.clone())));
-                i += 1;
-            }
+    while !wanted.is_empty() {
+        match take_up(&mut wanted, steps, i) {
+            Ok(next) => i = next,
+            Err(wrong) => return Some(wrong),
         }
     }
     (i < steps.len()).then_some((18, i))
+}
+
+/// Takes up the next goal: the next step, or what is wrong at this one.
+fn take_up(wanted: &mut Wanted, steps: &[u8], i: usize) -> Result<usize, (u8, usize)> {
+    let Some((goal, depth, mut scope)) = wanted.pop() else { return Ok(i) };
+    let step = steps.get(i).copied().ok_or((18, i));
+    match &*goal {
+        Goal::Done | Goal::Rest | Goal::Never => return Ok(i),
+        Goal::Both(a, b) | Goal::Either(a, b) => {
+            wanted.push((b.clone(), depth, scope.clone()));
+            wanted.push((a.clone(), depth, scope));
+            return Ok(i);
+        }
+        Goal::Lend(d, g) => {
+            scope.push(d.clone());
+            wanted.push((g.clone(), depth, scope));
+            return Ok(i);
+        }
+        Goal::OneOf(a, b) => {
+            let side = match step? {
+                LEFT => a,
+                RIGHT => b,
+                _ => return Err((13, i)),
+            };
+            wanted.push((side.clone(), depth, scope));
+        }
+        Goal::Name(a) => {
+            let clause = scope.get(usize::from(step?)).filter(|d| d.gives(*a)).ok_or((13, i))?.clone();
+            let left = depth.checked_sub(1).ok_or((17, i))?;
+            let (u, next) = chosen(&clause, *a, steps, i + 1)?;
+            wanted.extend(u.conditions.iter().rev().map(|g| (g.clone(), left, scope.clone())));
+            return Ok(next);
+        }
+    }
+    Ok(i + 1)
 }
 
 /// Follows a list through a goal: the way it goes, and how many steps it takes.
@@ -266,11 +315,21 @@ fn walk(scope: &mut Scope, g: &Goal, depth: usize, steps: &[u8]) -> Option<(Way,
     match g {
         Goal::Done => Some((Way::none(false), 0)),
         Goal::Rest => Some((Way::none(true), 0)),
+        Goal::Never => None,
         Goal::Both(a, b) | Goal::Either(a, b) => {
             let (l, n) = walk(scope, a, depth, steps)?;
             let (r, m) = walk(scope, b, depth, &steps[n..])?;
             let joined = if let Goal::Both(..) = g { l.both(&r) } else { l.either(&r) };
             Some((joined?, n + m))
+        }
+        Goal::OneOf(a, b) => {
+            let side = match *steps.first()? {
+                LEFT => a,
+                RIGHT => b,
+                _ => return None,
+            };
+            let (w, n) = walk(scope, side, depth, &steps[1..])?;
+            Some((w, n + 1))
         }
         Goal::Lend(d, g) => {
             let e = scope.len();
@@ -280,21 +339,22 @@ fn walk(scope: &mut Scope, g: &Goal, depth: usize, steps: &[u8]) -> Option<(Way,
             let (w, n) = walked?;
             Some((w.lent(e)?, n))
         }
-        Goal::Name(a) => {
-            let e = usize::from(*steps.first()?);
-            let entry = scope.get(e)?.clone();
-            if entry.clause.head != Some(*a) || depth == 0 {
-                return None;
-            }
-            let (mut way, mut n) = (Way::none(false), 1);
-            for g in &entry.clause.conditions {
-                let (w, m) = walk(scope, g, depth - 1, &steps[n..])?;
-                way = way.both(&w)?;
-                n += m;
-            }
-            Some((way.using(e, entry.stays)?, n))
-        }
+        Goal::Name(a) => walk_name(scope, *a, depth, steps),
     }
+}
+
+fn walk_name(scope: &mut Scope, a: u16, depth: usize, steps: &[u8]) -> Option<(Way, usize)> {
+    let e = usize::from(*steps.first()?);
+    let entry = scope.get(e)?.clone();
+    let depth = depth.checked_sub(1)?;
+    let u = entry.clause.giving(a).find(|u| steps[1..].starts_with(&u.choices))?;
+    let (mut way, mut n) = (Way::none(false), 1 + u.choices.len());
+    for g in &u.conditions {
+        let (w, m) = walk(scope, g, depth, &steps[n..])?;
+        way = way.both(&w)?;
+        n += m;
+    }
+    Some((way.using(e, entry.stays)?, n))
 }
 
 /// The steps are the list of a derivation within limits.

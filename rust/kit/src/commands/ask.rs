@@ -3,8 +3,8 @@ use super::told::{about, refusal, Manner, Tally, Told};
 use crate::card::{Card, Sound};
 use crate::fields::{mark_word, must_word};
 use crate::json::{object, Json};
-use crate::way::{walk, Serves, Use};
-use crate::why::{self, count, served};
+use crate::way::{walk, Choice, Offer, Serves, Step, Use, SIDES};
+use crate::why::{self, count, offered, served};
 use kit_planner::Refusal;
 
 /// `kit check`
@@ -45,14 +45,14 @@ pub fn plan(label: &str, bytes: &[u8], manner: Manner) -> Told {
         Err(found) => return refused(label, bytes, found, manner),
     };
     let marks: Vec<u8> = sheet.marks().map(|mark| mark as u8).collect();
-    let uses = walk(card, sheet.steps()).uses;
-    let head = format!("planned, {}", count(uses.len(), "step"));
+    let taken = walk(card, sheet.steps()).taken;
+    let head = format!("planned, {}", count(taken.len(), "step"));
     let line = format!("{label}: {}\n", manner.paint.good(&head));
-    let long = format!("{line}{}{}", steps_told(card, &uses, manner), lines_told(card, &marks, manner));
+    let long = format!("{line}{}{}", steps_told(card, &taken, manner), lines_told(card, &marks, manner));
     let json = about(label)
         .with("answer", "planned")
-        .with("k", uses.len())
-        .with("steps", Json::list(uses.iter().map(|one| step_json(card, one, &uses, manner))))
+        .with("k", taken.len())
+        .with("steps", Json::list(taken.iter().map(|step| step_json(card, step, &taken, manner))))
         .with(
             "lines",
             Json::list(marks.iter().enumerate().map(|(i, &mark)| line_json(card, i, mark, manner))),
@@ -75,20 +75,24 @@ fn columns(rows: &[Vec<String>]) -> String {
     text
 }
 
-fn steps_told(card: Sound, uses: &[Use], manner: Manner) -> String {
-    let row = |one: &Use| {
-        let (name, clause) = (manner.names.word(one.name), card.formula(one.clause, manner.names));
-        let recipe = if clause == name { String::new() } else { format!("by {clause}") };
-        let step = format!("step {}", one.step);
-        vec![
-            step,
-            one.entry.to_string(),
-            format!("gives {name}"),
-            format!("for {}", served(one, uses)),
-            recipe,
-        ]
+/// Of a use its entry, what it gives, what for and by which clause; of a choice its side, what it takes, where and of what.
+fn steps_told(card: Sound, taken: &[Step], manner: Manner) -> String {
+    let formula = |node: usize| card.formula(node, manner.names);
+    let row = |step: &Step| match step {
+        Step::Use(one) => {
+            let (name, clause) = (manner.names.word(one.name), formula(one.clause));
+            let recipe = if clause == name { String::new() } else { format!("by {clause}") };
+            let (gives, whom) = (format!("gives {name}"), format!("for {}", served(one, taken)));
+            vec![format!("step {}", one.step), one.entry.to_string(), gives, whom, recipe]
+        }
+        Step::Choice(choice) => {
+            let side = SIDES[choice.side].to_string();
+            let (takes, of) =
+                (format!("takes {}", formula(choice.chosen)), format!("of {}", formula(choice.node)));
+            vec![format!("step {}", choice.step), side, takes, offered(&choice.offer, taken), of]
+        }
     };
-    columns(&uses.iter().map(row).collect::<Vec<_>>())
+    columns(&taken.iter().map(row).collect::<Vec<_>>())
 }
 
 fn lines_told(card: Sound, marks: &[u8], manner: Manner) -> String {
@@ -105,11 +109,39 @@ fn name_json(number: u16, manner: Manner) -> Json {
     object().with("name", number).with("word", manner.names.given(number))
 }
 
-fn step_json(card: Sound, one: &Use, uses: &[Use], manner: Manner) -> Json {
-    let (step, condition) = match one.serves {
+fn step_json(card: Sound, step: &Step, taken: &[Step], manner: Manner) -> Json {
+    match step {
+        Step::Use(one) => use_json(card, one, taken, manner),
+        Step::Choice(choice) => choice_json(card, choice, taken, manner),
+    }
+}
+
+/// The step whose condition is served, and which that is.
+fn condition_json(serves: Serves) -> (Option<usize>, Option<usize>) {
+    match serves {
         Serves::Goal => (None, None),
         Serves::Condition { step, count } => (Some(step), Some(count)),
+    }
+}
+
+fn choice_json(card: Sound, choice: &Choice, taken: &[Step], manner: Manner) -> Json {
+    let (step, condition) = match choice.offer {
+        Offer::OneOf { serves, .. } => condition_json(serves),
+        Offer::Menu { step } => (Some(step), None),
     };
+    object()
+        .with("step", choice.step)
+        .with("byte", [kit_planner::LEFT, kit_planner::RIGHT][choice.side])
+        .with("choice", SIDES[choice.side])
+        .with("takes", card.formula(choice.chosen, manner.names))
+        .with("of", card.formula(choice.node, manner.names))
+        .with("made", offered(&choice.offer, taken))
+        .with("for_step", step)
+        .with("condition", condition)
+}
+
+fn use_json(card: Sound, one: &Use, taken: &[Step], manner: Manner) -> Json {
+    let (step, condition) = condition_json(one.serves);
     object()
         .with("step", one.step)
         .with("entry", one.number)
@@ -118,7 +150,7 @@ fn step_json(card: Sound, one: &Use, uses: &[Use], manner: Manner) -> Json {
         .with("clause", card.formula(one.clause, manner.names))
         .with("gives", name_json(one.name, manner))
         .with("nesting", one.nesting)
-        .with("serves", served(one, uses))
+        .with("serves", served(one, taken))
         .with("for_step", step)
         .with("condition", condition)
 }

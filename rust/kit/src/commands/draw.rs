@@ -10,7 +10,7 @@ use crate::names::Names;
 use crate::paint::Paint;
 use crate::picture::{svg, Drawn};
 use crate::tree::Tree;
-use crate::way::{walk, Use, Walk};
+use crate::way::{walk, Step, Walk};
 use crate::why::{self, bytes_there, count, Why};
 use kit_planner::Refusal;
 use std::ffi::OsStr;
@@ -61,8 +61,8 @@ pub fn show(options: &Options, names: &Names) -> Result<u8, Trouble> {
     let mut all = vec![Shown::new("card", &options.files[0], &bytes, fields, refusal)];
     let sheet = options.files.get(1).map(|file| read(file)).transpose()?;
     if let Some(sheet) = &sheet {
-        let (uses, refusal) = sound.map_or((Vec::new(), None), |card| read_against(card, sheet, names));
-        let fields = sheet_fields(Card::new(&bytes), sheet, &uses, names);
+        let (taken, refusal) = sound.map_or((Vec::new(), None), |card| read_against(card, sheet, names));
+        let fields = sheet_fields(Card::new(&bytes), sheet, &taken, names);
         let mut shown = Shown::new("sheet", &options.files[1], sheet, fields, refusal);
         if sound.is_err() {
             shown.drawn.title += ", not read: its card is refused";
@@ -74,13 +74,13 @@ pub fn show(options: &Options, names: &Names) -> Result<u8, Trouble> {
     Ok(u8::from(refused))
 }
 
-/// The uses that a sheet's steps reach, and its refusal.
-fn read_against(card: Sound, sheet: &[u8], names: &Names) -> (Vec<Use>, Option<(Refusal, Why)>) {
+/// The steps of a sheet that the walk reaches, and its refusal.
+fn read_against(card: Sound, sheet: &[u8], names: &Names) -> (Vec<Step>, Option<(Refusal, Why)>) {
     let found = kit_planner::read(card.bytes, sheet).err();
     let refusal = found.map(|found| (found, why::sheet(card, sheet, found, names)));
     let steps = sheet.get(5..).unwrap_or_default();
     let k = steps.len().min(usize::from(Card::new(sheet).byte(3)));
-    (walk(card, &steps[..k]).uses, refusal)
+    (walk(card, &steps[..k]).taken, refusal)
 }
 
 fn shown(options: &Options, all: Vec<Shown>, manner: Manner) -> String {
@@ -175,10 +175,10 @@ pub fn tree(options: &Options, names: &Names) -> Result<u8, Trouble> {
     let given = sheet.is_some();
     let sheet = sheet.or(told.sheet).unwrap_or_default();
     let card = Sound::checked(&bytes).map_err(|found| Trouble::new(&file, found))?;
-    let Walk { uses, end } = walk(card, &sheet[5..5 + usize::from(sheet[3])]);
+    let Walk { taken, end } = walk(card, &sheet[5..5 + usize::from(sheet[3])]);
     let way = end.map_err(|stopped| Trouble::new(&file, format!("the walk stopped: {stopped:?}")))?;
-    let tree = Tree { card, uses: &uses, way: &way, names };
-    let title = format!("{file}: {}", count(uses.len(), "step"));
+    let tree = Tree { card, taken: &taken, way: &way, names };
+    let title = format!("{file}: {}", count(taken.len(), "step"));
     let text = if options.has("--svg") {
         tree.svg(&title)
     } else if options.has("--dot") {
@@ -186,7 +186,7 @@ pub fn tree(options: &Options, names: &Names) -> Result<u8, Trouble> {
     } else if options.has("--json") {
         let answer = if given { "accepted" } else { "planned" };
         let begin = about(&file).with("sheet", options.files.get(1).map(|file| label(file)));
-        format!("{}\n", begin.with("answer", answer).with("k", uses.len()).with("way", tree.json()))
+        format!("{}\n", begin.with("answer", answer).with("k", taken.len()).with("way", tree.json()))
     } else {
         tree.text(manner.paint)
     };

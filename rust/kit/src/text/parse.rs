@@ -198,8 +198,8 @@ impl Parser {
             return Ok(());
         }
         let asked = match holds {
-            Holds::Goal => "no goal: a recipe (\"gives\") is none",
-            _ => "no clause: a name, rest or a recipe (\"gives\") is one",
+            Holds::Goal => "no goal: a recipe (\"gives\") or a menu is none",
+            _ => "no clause: a name, rest, a recipe (\"gives\") or a menu is one",
         };
         s.mistake(part.from, part.to, format!("{what} cannot be this, which is {asked}"))
     }
@@ -238,10 +238,16 @@ impl Parser {
             "name" => pair(kinds::NAME, self.name(s)?, 0),
             "rest" => pair(kinds::REST, 0, 0),
             "done" => pair(kinds::DONE, 0, 0),
+            "never" => pair(kinds::NEVER, 0, 0),
             "both" => parts(s, None).map(|(l, r)| pair(kinds::BOTH, l, r))?,
+            "menu" => parts(s, None).map(|(l, r)| pair(kinds::MENU, l, r))?,
             "either" => {
                 s.expect("way")?;
                 parts(s, None).map(|(l, r)| pair(kinds::EITHER_WAY, l, r))?
+            }
+            "one" => {
+                s.expect("of")?;
+                parts(s, None).map(|(l, r)| pair(kinds::ONE_OF, l, r))?
             }
             "lend" => parts(s, Some("to")).map(|(l, r)| pair(kinds::LEND, l, r))?,
             _ => {
@@ -288,6 +294,7 @@ impl Parser {
             "(" => self.inner(s, depth - 1)?,
             "rest" => self.leaf(s, kinds::REST)?,
             "done" => self.leaf(s, kinds::DONE)?,
+            "never" => self.leaf(s, kinds::NEVER)?,
             ")" => return s.wrong("a formula is missing before \")\"".to_string()),
             _ => {
                 s.next -= 1;
@@ -325,11 +332,12 @@ impl Parser {
                 ")" => return Ok(left.node),
                 "both" => kinds::BOTH,
                 "gives" => kinds::RECIPE,
+                "menu" => kinds::MENU,
                 "either" => s.expect("way").map(|()| kinds::EITHER_WAY)?,
+                "one" => s.expect("of").map(|()| kinds::ONE_OF)?,
                 text => {
-                    return s.wrong(format!(
-                        "\"{text}\" is not expected here: both, either way, gives or \")\" is"
-                    ))
+                    let words = "both, either way, one of, gives, menu or \")\" is";
+                    return s.wrong(format!("\"{text}\" is not expected here: {words}"));
                 }
             }
         };

@@ -48,9 +48,9 @@ pub fn tokens(number: usize, line: &str) -> Result<Vec<Token<'_>>, Mistake> {
 }
 
 /// Words of the format: no name can be one.
-pub const KEPT: [&str; 20] = [
+pub const KEPT: [&str; 23] = [
     "name", "limits", "nesting", "steps", "goal", "rule", "must", "may", "node", "bytes", "both", "either",
-    "way", "lend", "to", "gives", "rest", "done", "of", "times",
+    "way", "lend", "to", "gives", "rest", "done", "of", "times", "one", "never", "menu",
 ];
 
 /// Whether it can be a name's word.

@@ -70,7 +70,10 @@ fn node(card: Sound, i: usize, names: &Names) -> String {
         kinds::EITHER_WAY => format!("either way {left} {right}"),
         kinds::LEND => format!("lend {left} to {right}"),
         kinds::RECIPE => format!("{left} gives {right}"),
+        kinds::ONE_OF => format!("one of {left} {right}"),
+        kinds::MENU => format!("menu {left} {right}"),
         kinds::REST => "rest".to_string(),
+        kinds::NEVER => "never".to_string(),
         _ => "done".to_string(),
     }
 }
