@@ -137,13 +137,13 @@ def proved():
     text = text[text.index("\ntrays =") : text.index("-- A rule, a line")]
     for row in re.split(r"\btray\b", re.sub("--.*", "", text))[1:]:
         data, *lists = (bytes(map(int, re.findall(r"\d+", part))) for part in re.findall(r"\(([\d\s∷]*)\[\]\)|\[\]", row))
-        yield data, ELEVEN if "underivable" in row else planned(*lists)
+        yield data, ELEVEN if "underivable" in row else planned(*lists[:2])
 
 
 def main():
     outcomes = {data: outcome for _, data, outcome in TRAYS}
     starred = list(proved())
-    if len(starred) != 13 or any(outcomes.get(data) != outcome for data, outcome in starred):
+    if len(starred) != 26 or any(outcomes.get(data) != outcome for data, outcome in starred):
         sys.exit("planner/specs/Trays.antt: not the cards and outcomes of this script")
     cards, found = bytearray(), bytearray()
     for label, data, outcome, room in [(*t, ANY) for t in TRAYS] + BUFFERS:

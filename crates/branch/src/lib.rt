@@ -158,8 +158,9 @@ impl Branch {
         requires { ⌜ self .at < 255 ⌝ }
         ensures { λ r. ⌜ r ≡ choseB self ⌝ }
     {
+        let next = self.at + 1;
         let mut b = self;
-        b.at = self.at + 1;
+        b.at = next;
         b
     }
 

@@ -1,12 +1,14 @@
 -- Small cases of Figure 1, straight from the definitions: each falls if a rule is changed (see must-fail/).
 use Prim.Native.Nat.{ℕ, zero, suc}
 use mathlib.Core.Path.{_≡_, refl}
-use mathlib.Core.Bool.{Bool, true, false, not, _&&_, true≢false, false≢true}
-use mathlib.Core.List.{[], _∷_}
+use mathlib.Core.Bool.{Bool, true, false, not, _&&_, _||_, true≢false, false≢true}
+use mathlib.Core.List.{List, [], _∷_}
 use lib.Dec.{eqb}
-use Rattle.calculus.specs.Formula.{atomᴳ, oneᴳ, zeroᴳ, tensor, atomᴰ, lolliᴰ, matched, residual}
-use Rattle.calculus.specs.Items.{Items, _∖_, only}
-use Rattle.calculus.specs.Derivation.{Scope, entryAt, clauseAt, linearAt, residualAt, Derives, res-1, res-⊗, res-atm-int, res-atm-lin}
+use Rattle.calculus.specs.Formula.{Goal, atomᴳ, oneᴳ, zeroᴳ, tensor, oplus, atomᴰ, lolliᴰ, withᴰ, matched, residual, usable}
+use Rattle.calculus.specs.Items.{Items, _∖_, only, Empty}
+use Rattle.calculus.specs.Derivation.{Scope, entryAt, clauseAt, linearAt, residualAt, Derives, res-1, res-⊗, res-⊕₁, res-⊕₂}
+use Rattle.calculus.specs.Derivation.{res-atm-int, res-atm-lin}
+use Rattle.calculus.specs.Steps.{steps, nesting, Turn, Need, plain, row, left, choice, under, turn-choice, turn-side, chosen, needs}
 
 -- "the recipe with left a and right (b gives c) meets b, then a"
 nearest-first : residual eqb 3 (lolliᴰ (atomᴳ 1) (lolliᴰ (atomᴳ 2) (atomᴰ 3))) ≡ tensor (tensor oneᴳ (atomᴳ 2)) (atomᴳ 1)
@@ -47,3 +49,41 @@ both-true false b p q r = false≢true p
 -- "the items are divided in two, one share for each part": no two needs share the one line
 line-serves-once : {I : Items} → Derives one-line I (tensor (atomᴳ 1) (atomᴳ 1)) → ⊥
 line-serves-once (res-⊗ {J} {K} s c d) = both-true (J 0) (K 0) (uses-line c) (uses-line d) (s .apart 0)
+
+-- `b gives ((c gives a) menu a)`, of names 1, 2 and 0: one of the sides, then b
+menu-residual : residual eqb 0 (lolliᴰ (atomᴳ 1) (withᴰ (lolliᴰ (atomᴳ 2) (atomᴰ 0)) (atomᴰ 0)))
+    ≡ tensor (oplus (tensor oneᴳ (atomᴳ 2)) oneᴳ) (atomᴳ 1)
+unfolding residual matched
+menu-residual = refl
+
+-- "A menu's entry may be used at a name when either side could"
+either-side : usable eqb 1 (withᴰ (atomᴰ 0) (atomᴰ 1)) ≡ true
+unfolding usable
+either-side = refl
+
+module _ (es : Scope) (I : Items) (G H : Goal) (e : Empty I) where
+  -- "outer menus first": the right side of the left side
+  abbrev two-choices : Derives es I (oplus (oplus G oneᴳ) H)
+  two-choices = res-⊕₁ (res-⊕₂ (res-1 e))
+
+  outer-first : steps two-choices ≡ 254 ∷ 255 ∷ []
+  unfolding steps
+  outer-first = refl
+
+  -- "it adds no nesting"
+  not-nested : nesting two-choices ≡ 0
+  unfolding nesting
+  not-nested = refl
+
+  abbrev need : List Turn → ℕ → Need
+  need p c = record { place = p; entry = c }
+
+  -- "a place tells the side taken at each 'one of' above it"
+  places : needs plain two-choices ≡ need [] 254 ∷ need (left ∷ []) 255 ∷ []
+  unfolding needs under turn-choice turn-side chosen
+  places = refl
+
+  -- "choices at one name are told apart by their order"
+  by-order : needs (row 0) two-choices ≡ need (choice 0 ∷ []) 254 ∷ need (choice 1 ∷ []) 255 ∷ []
+  unfolding needs under turn-choice turn-side chosen
+  by-order = refl

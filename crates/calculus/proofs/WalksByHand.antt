@@ -1,12 +1,12 @@
--- Small walks, computed: what each number of 02, #102, looks like.
+-- Small walks, computed: what each number of 02, #102, looks like, and how the choices of #103 are walked.
 use Prim.Native.Nat.{ℕ}
 use mathlib.Core.Path.{_≡_, refl}
-use mathlib.Core.Bool.{false, true}
+use mathlib.Core.Bool.{false, true, _&&_, _||_}
 use mathlib.Core.List.{List, [], _∷_}
 use lib.Dec.{eqb}
-use Rattle.calculus.specs.Formula.{Clause, atomᴳ, oneᴳ, tensor, lolliᴳ, atomᴰ, lolliᴰ, usable}
+use Rattle.calculus.specs.Formula.{Clause, atomᴳ, oneᴳ, zeroᴳ, tensor, oplus, lolliᴳ, atomᴰ, lolliᴰ, withᴰ, usable}
 use Rattle.calculus.specs.Derivation.{Entry, Scope, entryAt, clauseAt, extend, lend}
-use Rattle.calculus.specs.Walk.{Walk, goes, stops, _⨾_, goalWalk, clauseWalk, nameWalk, nameWithin}
+use Rattle.calculus.specs.Walk.{Walk, goes, stops, _⨾_, choiceWalk, goalWalk, clauseWalk, nameWalk, nameWithin}
 
 abbrev rule : Clause → Entry
 rule D = record { clause = D; linear = false }
@@ -70,3 +70,53 @@ lent-inside = refl
 lent-outside : goalWalk (nameWithin 1) (tensor (lolliᴳ (atomᴰ 1) oneᴳ) (atomᴳ 1)) line 0 (1 ∷ []) ≡ stops 13 0
 unfolding goalWalk nameWalk nameWithin clauseWalk _⨾_ usable clauseAt entryAt lend extend
 lent-outside = refl
+
+-- the rules b, c and `b gives ((c gives a) menu a)`, of names 1, 2 and 0
+abbrev offer : Scope
+offer = record {
+  entries = rule (atomᴰ 1) ∷ rule (atomᴰ 2) ∷ rule (lolliᴰ (atomᴳ 1) (withᴰ (lolliᴰ (atomᴳ 2) (atomᴰ 0)) (atomᴰ 0))) ∷ [];
+  fits = eqb;
+}
+
+-- the walk of a name, with nesting limit d
+abbrev of-name : ℕ → ℕ → List ℕ → Walk
+of-name a d l = goalWalk (nameWithin d) (atomᴳ a) offer 0 l
+
+-- entry 254 c b, or entry 255 b; a choice adds no nesting
+left-way : of-name 0 2 (2 ∷ 254 ∷ 1 ∷ 0 ∷ []) ≡ goes 4 []
+unfolding goalWalk clauseWalk choiceWalk nameWalk nameWithin _⨾_ usable clauseAt entryAt
+left-way = refl
+
+right-way : of-name 0 2 (2 ∷ 255 ∷ 0 ∷ []) ≡ goes 3 []
+unfolding goalWalk clauseWalk choiceWalk nameWalk nameWithin _⨾_ usable clauseAt entryAt
+right-way = refl
+
+-- 13: an entry for a choice, a choice for an entry; 18: no choice
+entry-for-choice : of-name 0 2 (2 ∷ 0 ∷ []) ≡ stops 13 1
+unfolding goalWalk clauseWalk choiceWalk nameWalk nameWithin _⨾_ usable clauseAt entryAt
+entry-for-choice = refl
+
+choice-for-entry : of-name 0 2 (254 ∷ []) ≡ stops 13 0
+unfolding goalWalk nameWalk nameWithin usable clauseAt entryAt
+choice-for-entry = refl
+
+no-choice : of-name 0 2 (2 ∷ []) ≡ stops 18 1
+unfolding goalWalk clauseWalk choiceWalk nameWalk nameWithin _⨾_ usable clauseAt entryAt
+no-choice = refl
+
+-- 13 at a choice whose side has no head that is the name wanted
+abbrev either : Scope
+either = record { entries = rule (withᴰ (atomᴰ 1) (atomᴰ 2)) ∷ []; fits = eqb }
+
+other-side : goalWalk (nameWithin 1) (atomᴳ 1) either 0 (0 ∷ 255 ∷ []) ≡ stops 13 1
+unfolding goalWalk clauseWalk choiceWalk nameWalk nameWithin usable clauseAt entryAt
+other-side = refl
+
+-- one of, with no nesting left; never stops nothing
+chosen-side : goalWalk (nameWithin 0) (oplus (atomᴳ 1) oneᴳ) offer 0 (255 ∷ []) ≡ goes 1 []
+unfolding goalWalk choiceWalk
+chosen-side = refl
+
+past-never : goalWalk (nameWithin 1) (tensor zeroᴳ (atomᴳ 1)) offer 0 (0 ∷ []) ≡ goes 1 []
+unfolding goalWalk clauseWalk nameWalk nameWithin _⨾_ usable clauseAt entryAt
+past-never = refl

@@ -493,7 +493,7 @@ fn choose(
     ensures { λ r. ⌜ Stays (now (card .entry)) (now (names .entry)) (now (table .entry)) (now (masks .entry))
         (now (codes .entry)) (now (words .entry)) (now (codes .exit)) (now (words .exit)) (now (way .exit)) r ⌝ }
 {
-    if b.limit <= b.at {
+    if b.at >= b.limit {
         return Outcome::Stuck;
     }
     let first = first_at(tape, f, b.at);

@@ -3,12 +3,12 @@
 use Prim.Native.Nat.{ℕ}
 use mathlib.Core.Path.{_≡_, refl}
 use mathlib.Core.Bool.{true}
-use mathlib.Core.List.{List, [], flatMap}
+use mathlib.Core.List.{List, [], map, flatMap}
 use Rattle.calculus.specs.Formula.{residual, matched}
 use Rattle.calculus.specs.Items.{∅, _∪_, _∖_, only}
 use Rattle.calculus.specs.Derivation.{size, entryAt, clauseAt, linearAt, residualAt, extend, lend}
 use Rattle.calculus.specs.Steps.{stands}
-use Rattle.calculus.specs.Inner.Enumeration.{kept, pairs, below, all, apart, covering, tensored, sided, lent, spent, takings, named}
+use Rattle.calculus.specs.Inner.Enumeration.{kept, pairs, below, all, apart, covering, tensored, sided, lent, spent, sideTaken, takings, named}
 use Rattle.calculus.specs.Inner.Enumeration.{fitting, lists, matches, among, leads}
 use Rattle.calculus.proofs.EnumerationExact.{first-listed, none-listed}
 use Rattle.card.specs.Format.{listing, grow}
@@ -39,7 +39,7 @@ unfolding _⋀_ kinds kindOf given fitsField partHeight held readBy
     firstFault frontFault inRange isGoal isClause goalPart clausePart wellBuilt heightStep heightAt nodeFault goalFault
     ruleFault lineFault lineGood refuse _▹_ firstOf grow listing scopeOf jobOf readStep readAt goalAt clauseOf ruleEntry lineEntry linesWith
     marksOf markOf stands residual matched ∅ _∪_ _∖_ only size entryAt clauseAt linearAt residualAt extend lend flatMap kept pairs below
-    all apart covering tensored sided lent spent takings named fitting lists matches among leads
+    all apart covering tensored sided lent spent sideTaken takings named map fitting lists matches among leads
 all-come = (
   planned-by refl refl refl refl
       ⋀ underivable-by refl refl
@@ -54,6 +54,19 @@ all-come = (
       ⋀ underivable-by refl refl
       ⋀ planned-by refl refl refl refl
       ⋀ underivable-by refl refl
+      ⋀ planned-by refl refl refl refl
+      ⋀ planned-by refl refl refl refl
+      ⋀ underivable-by refl refl
+      ⋀ planned-by refl refl refl refl
+      ⋀ planned-by refl refl refl refl
+      ⋀ planned-by refl refl refl refl
+      ⋀ planned-by refl refl refl refl
+      ⋀ planned-by refl refl refl refl
+      ⋀ planned-by refl refl refl refl
+      ⋀ planned-by refl refl refl refl
+      ⋀ underivable-by refl refl
+      ⋀ underivable-by refl refl
+      ⋀ planned-by refl refl refl refl
       ⋀ tt,
   planned-by refl refl refl refl ⋀ planned-by refl refl refl refl ⋀ tt,
 )

@@ -1,5 +1,5 @@
--- The trays of document 01 that are to be proved (01, "Trays tried by hand"): one list of cards and outcomes, and one statement about
--- derivations; and beside its sample card one whose list has a rule, a line and a lent clause.
+-- The trays of document 01 that are to be proved (01, "Trays tried by hand"), and trays of 02's new kinds: one list of cards and outcomes,
+-- and one statement about derivations; and beside the sample card of 01 one whose list has a rule, a line and a lent clause.
 use Prim.Native.Nat.{ℕ}
 use mathlib.Core.Path.{_≡_}
 use mathlib.Core.List.{List, [], _∷_}
@@ -40,7 +40,7 @@ abbrev pub EachComes : List Tray → Type 0
 EachComes [] = Unit {0}
 EachComes (t ∷ ts) = Comes (t .bytes) (t .outcome) × EachComes ts
 
--- The starred rows: twelve, one of them with two outcomes.
+-- The starred rows: twelve, one of them with two outcomes; then thirteen of one of, never and menus (02, #103).
 abbrev pub trays : List Tray
 trays =
     -- nothing, done
@@ -111,6 +111,83 @@ trays =
     (0 ∷ 36 ∷ 1 ∷ 0 ∷ 0 ∷ 0 ∷ 5 ∷ 0 ∷ 4 ∷ 4 ∷ 8 ∷ 1 ∷ 0 ∷ 1 ∷ 0 ∷ 0 ∷ 3 ∷ 0 ∷ 0 ∷ 0 ∷ 0 ∷ 6 ∷ 0 ∷ 0 ∷ 0 ∷ 1 ∷ 2 ∷ 0 ∷ 0 ∷ 0
     ∷ 0 ∷ 4 ∷ 0 ∷ 2 ∷ 0 ∷ 3 ∷ [])
     underivable
+    ∷
+    -- may a, may b, a one of b: left works
+    tray
+    (0 ∷ 32 ∷ 1 ∷ 0 ∷ 2 ∷ 0 ∷ 3 ∷ 0 ∷ 2 ∷ 4 ∷ 8 ∷ 1 ∷ 0 ∷ 1 ∷ 0 ∷ 0 ∷ 1 ∷ 0 ∷ 2 ∷ 0 ∷ 0 ∷ 8 ∷ 0 ∷ 0 ∷ 0 ∷ 1 ∷ 0 ∷ 0 ∷ 0 ∷ 0
+    ∷ 1 ∷ 0 ∷ [])
+    (planned (254 ∷ 0 ∷ []) (1 ∷ 0 ∷ []))
+    ∷
+    -- must b, a one of b: left fails, right works
+    tray
+    (0 ∷ 29 ∷ 1 ∷ 0 ∷ 1 ∷ 0 ∷ 3 ∷ 0 ∷ 2 ∷ 4 ∷ 8 ∷ 1 ∷ 0 ∷ 1 ∷ 0 ∷ 0 ∷ 1 ∷ 0 ∷ 2 ∷ 0 ∷ 0 ∷ 8 ∷ 0 ∷ 0 ∷ 0 ∷ 1 ∷ 0 ∷ 1 ∷ 1
+    ∷ [])
+    (planned (255 ∷ 0 ∷ []) (1 ∷ []))
+    ∷
+    -- nothing, never
+    tray
+    (0 ∷ 16 ∷ 1 ∷ 0 ∷ 0 ∷ 0 ∷ 1 ∷ 0 ∷ 0 ∷ 4 ∷ 8 ∷ 9 ∷ 0 ∷ 0 ∷ 0 ∷ 0 ∷ [])
+    underivable
+    ∷
+    -- must a, never one of a
+    tray
+    (0 ∷ 29 ∷ 1 ∷ 0 ∷ 1 ∷ 0 ∷ 3 ∷ 0 ∷ 2 ∷ 4 ∷ 8 ∷ 9 ∷ 0 ∷ 0 ∷ 0 ∷ 0 ∷ 1 ∷ 0 ∷ 1 ∷ 0 ∷ 0 ∷ 8 ∷ 0 ∷ 0 ∷ 0 ∷ 1 ∷ 0 ∷ 1 ∷ 1
+    ∷ [])
+    (planned (255 ∷ 0 ∷ []) (1 ∷ []))
+    ∷
+    -- must (a menu b), a
+    tray
+    (0 ∷ 29 ∷ 1 ∷ 0 ∷ 1 ∷ 0 ∷ 3 ∷ 0 ∷ 0 ∷ 4 ∷ 8 ∷ 1 ∷ 0 ∷ 1 ∷ 0 ∷ 0 ∷ 1 ∷ 0 ∷ 2 ∷ 0 ∷ 0 ∷ 10 ∷ 0 ∷ 0 ∷ 0 ∷ 1 ∷ 0 ∷ 2 ∷ 1
+    ∷ [])
+    (planned (0 ∷ 254 ∷ []) (1 ∷ []))
+    ∷
+    -- must (a menu b), b
+    tray
+    (0 ∷ 29 ∷ 1 ∷ 0 ∷ 1 ∷ 0 ∷ 3 ∷ 0 ∷ 0 ∷ 4 ∷ 8 ∷ 1 ∷ 0 ∷ 2 ∷ 0 ∷ 0 ∷ 1 ∷ 0 ∷ 1 ∷ 0 ∷ 0 ∷ 10 ∷ 0 ∷ 1 ∷ 0 ∷ 0 ∷ 0 ∷ 2 ∷ 1
+    ∷ [])
+    (planned (0 ∷ 255 ∷ []) (1 ∷ []))
+    ∷
+    -- must b gives ((c gives a) menu a), must b, may c, a: entry, left, c, b
+    tray
+    (0 ∷ 50 ∷ 1 ∷ 0 ∷ 3 ∷ 0 ∷ 6 ∷ 0 ∷ 0 ∷ 4 ∷ 8 ∷ 1 ∷ 0 ∷ 1 ∷ 0 ∷ 0 ∷ 1 ∷ 0 ∷ 2 ∷ 0 ∷ 0 ∷ 1 ∷ 0 ∷ 3 ∷ 0 ∷ 0 ∷ 7 ∷ 0 ∷ 2 ∷ 0
+    ∷ 0 ∷ 10 ∷ 0 ∷ 3 ∷ 0 ∷ 0 ∷ 7 ∷ 0 ∷ 1 ∷ 0 ∷ 4 ∷ 0 ∷ 5 ∷ 1 ∷ 0 ∷ 1 ∷ 1 ∷ 0 ∷ 2 ∷ 0 ∷ [])
+    (planned (0 ∷ 254 ∷ 2 ∷ 1 ∷ []) (1 ∷ 1 ∷ 1 ∷ []))
+    ∷
+    -- the same without c: entry, right, b
+    tray
+    (0 ∷ 47 ∷ 1 ∷ 0 ∷ 2 ∷ 0 ∷ 6 ∷ 0 ∷ 0 ∷ 4 ∷ 8 ∷ 1 ∷ 0 ∷ 1 ∷ 0 ∷ 0 ∷ 1 ∷ 0 ∷ 2 ∷ 0 ∷ 0 ∷ 1 ∷ 0 ∷ 3 ∷ 0 ∷ 0 ∷ 7 ∷ 0 ∷ 2 ∷ 0
+    ∷ 0 ∷ 10 ∷ 0 ∷ 3 ∷ 0 ∷ 0 ∷ 7 ∷ 0 ∷ 1 ∷ 0 ∷ 4 ∷ 0 ∷ 5 ∷ 1 ∷ 0 ∷ 1 ∷ 1 ∷ [])
+    (planned (0 ∷ 255 ∷ 1 ∷ []) (1 ∷ 1 ∷ []))
+    ∷
+    -- must ((a menu b) menu c), b
+    tray
+    (0 ∷ 39 ∷ 1 ∷ 0 ∷ 1 ∷ 0 ∷ 5 ∷ 0 ∷ 0 ∷ 4 ∷ 8 ∷ 1 ∷ 0 ∷ 2 ∷ 0 ∷ 0 ∷ 1 ∷ 0 ∷ 1 ∷ 0 ∷ 0 ∷ 10 ∷ 0 ∷ 1 ∷ 0 ∷ 0 ∷ 1 ∷ 0 ∷ 3
+    ∷ 0 ∷ 0 ∷ 10 ∷ 0 ∷ 2 ∷ 0 ∷ 3 ∷ 0 ∷ 4 ∷ 1 ∷ [])
+    (planned (0 ∷ 254 ∷ 255 ∷ []) (1 ∷ []))
+    ∷
+    -- must b, a one of b with s = 2
+    tray
+    (0 ∷ 29 ∷ 1 ∷ 0 ∷ 1 ∷ 0 ∷ 3 ∷ 0 ∷ 2 ∷ 4 ∷ 2 ∷ 1 ∷ 0 ∷ 1 ∷ 0 ∷ 0 ∷ 1 ∷ 0 ∷ 2 ∷ 0 ∷ 0 ∷ 8 ∷ 0 ∷ 0 ∷ 0 ∷ 1 ∷ 0 ∷ 1 ∷ 1
+    ∷ [])
+    (planned (255 ∷ 0 ∷ []) (1 ∷ []))
+    ∷
+    -- the same with s = 1
+    tray
+    (0 ∷ 29 ∷ 1 ∷ 0 ∷ 1 ∷ 0 ∷ 3 ∷ 0 ∷ 2 ∷ 4 ∷ 1 ∷ 1 ∷ 0 ∷ 1 ∷ 0 ∷ 0 ∷ 1 ∷ 0 ∷ 2 ∷ 0 ∷ 0 ∷ 8 ∷ 0 ∷ 0 ∷ 0 ∷ 1 ∷ 0 ∷ 1 ∷ 1
+    ∷ [])
+    underivable
+    ∷
+    -- must (a menu b), a with s = 1
+    tray
+    (0 ∷ 29 ∷ 1 ∷ 0 ∷ 1 ∷ 0 ∷ 3 ∷ 0 ∷ 0 ∷ 4 ∷ 1 ∷ 1 ∷ 0 ∷ 1 ∷ 0 ∷ 0 ∷ 1 ∷ 0 ∷ 2 ∷ 0 ∷ 0 ∷ 10 ∷ 0 ∷ 0 ∷ 0 ∷ 1 ∷ 0 ∷ 2 ∷ 1
+    ∷ [])
+    underivable
+    ∷
+    -- (a one of done) both (done one of a) with d = 0
+    tray
+    (0 ∷ 36 ∷ 1 ∷ 0 ∷ 0 ∷ 0 ∷ 5 ∷ 0 ∷ 4 ∷ 0 ∷ 8 ∷ 1 ∷ 0 ∷ 1 ∷ 0 ∷ 0 ∷ 3 ∷ 0 ∷ 0 ∷ 0 ∷ 0 ∷ 8 ∷ 0 ∷ 0 ∷ 0 ∷ 1 ∷ 8 ∷ 0 ∷ 1 ∷ 0
+    ∷ 0 ∷ 4 ∷ 0 ∷ 2 ∷ 0 ∷ 3 ∷ [])
+    (planned (255 ∷ 254 ∷ []) [])
     ∷ []
 
 -- A rule, a line and a lent clause: rule b and a give c; must a; goal lend b to c; d = 2, s = 3.
