@@ -1,4 +1,4 @@
--- What the reader's answers 13, 17, 18 and 19 say of a sound card and a sheet that fits it (02, #102).
+-- What the reader's answers 13, 17, 18 and 19 say of a sound card and a sheet that fits it (02, #102 and #103).
 use Prim.Native.Nat.{ℕ}
 use native.Mathlib.Omega.{arith}
 use mathlib.Core.Path.{_≡_, refl, sym, ap, ap₂, _∙_}
@@ -10,8 +10,9 @@ use Rattle.card.specs.Fault.{Sound}
 use Rattle.card.specs.Decode.{jobOf}
 use Rattle.card.proofs.FaultsInOrder.{sound-or-faulty}
 use Rattle.sheet_front.specs.Front.{stepsOf, sheetFault}
-use Rattle.trace.specs.Steps.{stepsFault, WrongStep, ExtraStep}
+use Rattle.trace.specs.Steps.{stepsFault, WrongStep, ExtraStep, NeverPassed}
 use Rattle.trace.proofs.StepsMean.{thirteen, seventeen, eighteen, names-a-step}
+use Rattle.trace.proofs.NeverDivides.{never-divides}
 use Rattle.reader.specs.Read.{ReadVerdict, refused, Reading, faulty, misfit, astray, undivided, wrong-mark, accepted-as}
 use Rattle.reader.proofs.AcceptedExactly.{marks-told}
 
@@ -29,8 +30,8 @@ module _ {bs sh : List ℕ} (s : Sound bs) (f : sheetFault bs sh ≡ sound) wher
   by-walk : (n i : ℕ) → (n ≡ 14 → ⊥) → (n ≡ 19 → ⊥) → Reading bs sh (refused n (step i)) ↔ (stepsFault bs (stepsOf sh) ≡ fault n (step i))
   by-walk n i g h = (λ r. of-walk r n (step i) refl g h, λ p. astray s f p)
 
-  -- THEOREM. 13 is told of step i exactly where "step i names no entry in scope whose head is the name wanted", the steps before it being
-  -- the beginning of a walk.
+  -- THEOREM. 13 is told of step i exactly where "step i names no entry in scope whose head is the name wanted", or is no choice of a side
+  -- that can be taken where one is wanted, the steps before it being the beginning of a walk.
   pub thirteen-told : (i : ℕ) → Reading bs sh (refused 13 (step i)) ↔ WrongStep bs (stepsOf sh) 13 i
   thirteen-told i =
       let r = by-walk 13 i (λ e. omega arith) (λ e. omega arith) in
@@ -69,3 +70,7 @@ module _ {bs sh : List ℕ} (s : Sound bs) (f : sheetFault bs sh ≡ sound) wher
           let z = marks-told bs sh .told-so p .0 in
           absurd (omega arith)
       to (accepted-as t q x m) e = let z : _≡_ {A = ℕ} 0 1 = cc in absurd (omega arith)
+
+  -- THEOREM. "19 also where the walk passes 'never'."
+  pub never-told : NeverPassed bs (stepsOf sh) → Reading bs sh (refused 19 steps)
+  never-told x = nineteen-told .1 (never-divides bs (stepsOf sh) x)

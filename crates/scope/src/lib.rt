@@ -67,9 +67,8 @@ pub fn enter(card: &[u8], nodes: &mut [u16; 256], linear: &mut [bool; 256])
     }
 }
 
-// Whether the clause at the node can be used for the name: one of its heads, found by following the right parts of recipes and both parts
-// of menus, is the name.
-pub fn usable(card: &[u8], node: usize, name: usize) -> bool
+// Whether the name is one of the clause's heads, found by following the right parts of recipes and both parts of menus.
+fn some_head(card: &[u8], node: usize, name: usize) -> bool
     requires { ⌜ Sound (now card) ⌝ }
     requires { ⌜ clausePart (now card) (nodeCount (now card)) node ≡ true ⌝ }
     ensures { λ r. ⌜ r ≡ usableM (scopeOf (now (card .entry)) .fits) name (clauseOf (now (card .entry)) node) ⌝ }
@@ -79,14 +78,35 @@ pub fn usable(card: &[u8], node: usize, name: usize) -> bool
         return left(card, node) == name;
     }
     if k == 7 {
-        return usable(card, right(card, node), name);
+        return some_head(card, right(card, node), name);
     }
     if k == 10 {
-        let first = usable(card, left(card, node), name);
+        let first = some_head(card, left(card, node), name);
         if first {
             return true;
         }
-        return usable(card, right(card, node), name);
+        return some_head(card, right(card, node), name);
+    }
+    false
+}
+
+// Whether the clause at the node can be used for the name: the name is one of its heads. The recipes above any menu are followed in a loop.
+pub fn usable(card: &[u8], node: usize, name: usize) -> bool
+    requires { ⌜ Sound (now card) ⌝ }
+    requires { ⌜ clausePart (now card) (nodeCount (now card)) node ≡ true ⌝ }
+    ensures { λ r. ⌜ r ≡ usableM (scopeOf (now (card .entry)) .fits) name (clauseOf (now (card .entry)) node) ⌝ }
+{
+    let mut at = node;
+    let mut k = kind(card, at);
+    while k == 7 {
+        at = right(card, at);
+        k = kind(card, at);
+    }
+    if k == 1 {
+        return left(card, at) == name;
+    }
+    if k == 10 {
+        return some_head(card, at, name);
     }
     false
 }

@@ -1,22 +1,29 @@
--- What the next of the given steps tells: it is an entry that is used for the name, or what is wrong there.
+-- What the next of the given steps tells: it is an entry that is used for the name or a choice that takes a part, or what is wrong there.
 use Prim.Native.Nat.{ℕ, _+_, _-_, _≤_, _<_}
 use native.Mathlib.Omega.{arith}
 use mathlib.Core.Path.{_≡_, sym, _∙_, ap}
-use mathlib.Core.Bool.{Bool, true, false}
+use mathlib.Core.Logic.{inl, inr}
+use mathlib.Core.Bool.{Bool, true, false, _&&_}
 use mathlib.Core.List.{List, _∷_}
-use lib.ListN.{getD}
+use lib.ListN.{length, getD}
+use lib.Dec.{eqb}
+use borrow.Author.Tests.{eqb-true}
 use Rattle.calculus.specs.Formula.{usable}
 use Rattle.calculus.specs.Derivation.{Scope, clauseAt}
+use Rattle.calculus.specs.Steps.{leftChoice, rightChoice}
+use Rattle.calculus.specs.Walk.{choiceWalk}
 use Rattle.calculus.proofs.RenamingKeeps.{entry-past}
 use Rattle.card.specs.declared.Place.{Place}
+use Rattle.card.specs.Format.{leftAt, rightAt}
 use Rattle.card.specs.Decode.{clauseOf, scopeOf}
+use Rattle.card.proofs.FrontChecked.{both-left, both-right}
 use Rattle.card.specs.Verdict.{whereOf, step}
 use Rattle.scope.specs.Inner.Tables.{scopeIn}
 use Rattle.scope.proofs.TablesAreScopes.{scope-size, scope-clause}
 use Rattle.summary.specs.declared.Branch.{Branch}
 use Rattle.summary.specs.declared.Step.the-variants.{Taken, Wrong}
 use Rattle.summary.specs.Inner.Values.{wrongF}
-use Rattle.summary.specs.Inner.Walks.{from, Ready, Stepping}
+use Rattle.summary.specs.Inner.Walks.{from, Ready, Stepping, Siding}
 use Rattle.summary.proofs.WalksTell.{from-next, from-none, none-left, unfit, too-deep}
 
 module _ {bs steps nodes : List ℕ} {linear : List Bool} {b : Branch} (R : Ready bs steps nodes linear b) (name : ℕ) where
@@ -57,3 +64,41 @@ module _ {bs steps nodes : List ℕ} {linear : List Bool} {b : Branch} (R : Read
       pub step-taken : good ≡ true → 1 ≤ b .depth → Stepping bs steps nodes linear b name (Taken e)
       unfolding Stepping
       step-taken g d = record { deep = d; room = room; inside = inside; next = next; fitting = fits-here ∙ g }
+
+-- A choice
+
+module _ (bs steps : List ℕ) (b : Branch) (given : b .given ≤ length steps) (node : ℕ) (first second : Bool) where
+  pub side-past : (place : Place) → whereOf place ≡ step (b .at) → b .given ≤ b .at
+      → Siding bs steps b node first second (Wrong (wrongF 18 place))
+  unfolding Siding choiceWalk
+  side-past place here h =
+      record { place = here; walk = λ x y. ap (choiceWalk first second x y (b .at)) (from-none steps b h given) }
+
+  module _ (c : ℕ) (room : b .at < b .given) (ec : c ≡ getD steps (b .at) 0) (is-left : Bool) (el : is-left ≡ (eqb c leftChoice && first)) where
+    next-choice : from steps b (b .at) ≡ c ∷ from steps b (b .at + 1)
+    next-choice = from-next steps b room given ∙ ap (λ x. x ∷ from steps b (b .at + 1)) (sym ec)
+
+    -- a test of the choice and of what is allowed
+    taken : (d : ℕ) (allowed : Bool) → (eqb c d && allowed) ≡ true → (c ≡ d) × (allowed ≡ true)
+    taken d allowed h = (eqb-true c d (both-left (eqb c d) allowed h), both-right (eqb c d) allowed h)
+
+    pub side-left : is-left ≡ true → (m : ℕ) → m ≡ leftAt bs node → Siding bs steps b node first second (Taken m)
+    unfolding Siding
+    side-left h m em =
+        let t = taken leftChoice first (sym el ∙ h) in
+        record { choice = c; room = room; next = next-choice; chosen = inl (t .0, (t .1, em)) }
+
+    module _ (is-right : Bool) (er : is-right ≡ (eqb c rightChoice && second)) where
+      pub side-right : is-right ≡ true → (m : ℕ) → m ≡ rightAt bs node → Siding bs steps b node first second (Taken m)
+      unfolding Siding
+      side-right h m em =
+          let t = taken rightChoice second (sym er ∙ h) in
+          record { choice = c; room = room; next = next-choice; chosen = inr (t .0, (t .1, em)) }
+
+      pub side-none : is-left ≡ false → is-right ≡ false → (place : Place) → whereOf place ≡ step (b .at)
+          → Siding bs steps b node first second (Wrong (wrongF 13 place))
+      unfolding Siding choiceWalk
+      side-none h k place here = record {
+        place = here;
+        walk = λ x y. rw (next-choice, sym el ∙ h, sym er ∙ k);
+      }

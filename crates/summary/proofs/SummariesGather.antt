@@ -4,10 +4,10 @@ use mathlib.Core.Path.{_≡_, refl, sym, _∙_, ap}
 use mathlib.Core.Logic.{_↔_}
 use mathlib.Core.Bool.{Bool, true, false, not, _&&_, _||_, false≢true}
 use mathlib.Core.List.{List, [], _∷_, _++_}
-use Rattle.calculus.specs.Items.{_∪_, _∖_, only, Within}
+use Rattle.calculus.specs.Items.{_∪_, _∖_, only, Empty, Within}
 use Rattle.calculus.specs.Derivation.{Scope, size}
 use Rattle.calculus.specs.Inner.Summary.{Joins, spare, Covers}
-use Rattle.calculus.specs.Inner.Trace.{Says, Apart, Ends, Tensors, Withs, Lends, UsesRule, UsesItem}
+use Rattle.calculus.specs.Inner.Trace.{Says, Apart, Ends, Fails, Tensors, Withs, Lends, UsesRule, UsesItem}
 use Rattle.lines.specs.declared.LineSet.{LineSet}
 use Rattle.lines.specs.Inner.Set.{member, isEmptyS, emptyS, cutS, meetS, Words}
 use Rattle.lines.proofs.MemberLaws.{words-empty, words-meet, words-cut}
@@ -87,10 +87,17 @@ says-4 a b c d s t = says-via _ (says-and (a && b) (c && d) (says-and a b (says-
 
 -- The connectives
 
-pub ended-gathers : (P : ℕ) (b : Branch) (slack : Bool) → Ends (gathered P (endedW b slack) []) slack
-unfolding gathered isEmptyS emptyS
-ended-gathers P b slack =
-    record { no-list = refl; unused = items-none P emptyS words-empty .0 refl; slack-is = refl; is-alive = refl }
+unused : (P : ℕ) → Empty (items P emptyS)
+unfolding isEmptyS emptyS
+unused P = items-none P emptyS words-empty .0 refl
+
+pub ended-gathers : (P : ℕ) (b : Branch) (slack : Bool) → Ends (gathered P (endedW b slack true) []) slack
+unfolding gathered
+ended-gathers P b slack = record { no-list = refl; unused = unused P; slack-is = refl; is-alive = refl }
+
+pub never-gathers : (P : ℕ) (b : Branch) → Fails (gathered P (endedW b false false) [])
+unfolding gathered
+never-gathers P b = record { no-list = refl; unused = unused P; slack-is = refl; is-dead = refl }
 
 module _ (P : ℕ) (w v : Summary) (l m : List ℕ) (p : Words (w .used)) (q : Words (v .used)) where
   joined : Joins (items P (tensorW w v .used)) (items P (w .used)) (items P (v .used))

@@ -7,21 +7,22 @@ use mathlib.Core.Bool.{Bool, true, false}
 use mathlib.Core.List.{List, [], _∷_, _++_, append-assoc}
 use lib.ListN.{length, getD, take, drop, drop-of-length-le, length-drop, length-append}
 use lib.Seq.{drop-cons, getD-take, length-take-le}
-use Rattle.calculus.specs.Formula.{Goal, Clause, atomᴳ, lolliᴳ, usable}
+use Rattle.calculus.specs.Formula.{Goal, Clause, atomᴳ, zeroᴳ, oplus, lolliᴳ, withᴰ, usable}
 use Rattle.calculus.specs.Derivation.{Scope, size, clauseAt, linearAt, lend}
-use Rattle.calculus.specs.Walk.{goes, stops, _⨾_}
-use Rattle.calculus.specs.Wanted.{Part, goal, meet, Both}
-use Rattle.calculus.specs.Inner.Trace.{partWalk, Gathered, Ends, Tensors, Withs, Trace, trace-⊸, trace-rule, trace-item}
-use Rattle.calculus.proofs.WalkExact.{walk-both, walk-lent, walk-none, walk-unfit, walk-deep, walk-use, along-walk, trace-along}
+use Rattle.calculus.specs.Walk.{goes, stops, _⨾_, goalWalk, clauseWalk}
+use Rattle.calculus.specs.Wanted.{Part, goal, meet, Both, Side}
+use Rattle.calculus.specs.Inner.Trace.{partWalk, Gathered, Ends, Tensors, Withs, Trace, trace-0, trace-⊸, trace-side, trace-rule, trace-item}
+use Rattle.calculus.proofs.WalkExact.{walk-both, walk-lent, walk-side, walk-none, walk-unfit, walk-deep, walk-use, along-walk, trace-along}
 use Rattle.lines.specs.Inner.Set.{Words}
 use Rattle.card.specs.declared.Place.{Place}
 use Rattle.card.specs.declared.Refusal.{Refusal}
 use Rattle.card.specs.Verdict.{whereOf, step}
 use Rattle.summary.specs.declared.Branch.{Branch}
 use Rattle.summary.specs.declared.Summary.{Summary}
-use Rattle.summary.specs.Inner.Values.{onB, lentB, deeperB, endedW, tensorW, withW, withoutW, behindW, wrongF}
-use Rattle.summary.specs.Inner.Walks.{from, gathered, EndsWith, StopsWith}
-use Rattle.summary.proofs.SummariesGather.{ended-gathers, tensor-gathers, with-gathers, lend-gathers, item-gathers, rule-gathers}
+use Rattle.summary.specs.Inner.Values.{onB, lentB, steppedB, endedW, tensorW, withW, withoutW, behindW, wrongF}
+use Rattle.summary.specs.Inner.Walks.{from, gathered, EndsWith, StopsWith, CannotChoose}
+use Rattle.summary.proofs.SummariesGather.{ended-gathers, never-gathers, tensor-gathers, with-gathers, lend-gathers, item-gathers}
+use Rattle.summary.proofs.SummariesGather.{rule-gathers}
 
 -- The given steps
 
@@ -45,13 +46,22 @@ module _ {steps : List ℕ} {b : Branch} {es : Scope} where
   -- No step is taken
 
   pub ends-here : {p : Part} (slack : Bool) → b .at ≤ b .given → ((w : Gathered) → Ends w slack → Trace (b .depth) es p w)
-      → EndsWith steps b es p (endedW b slack)
+      → EndsWith steps b es p (endedW b slack true)
   ends-here slack h c = record {
     onward = omega arith;
     bounded = h;
     list = [];
     along = refl;
-    trace = c (gathered (b .rules) (endedW b slack) []) (ended-gathers (b .rules) b slack);
+    trace = c (gathered (b .rules) (endedW b slack true) []) (ended-gathers (b .rules) b slack);
+  }
+
+  pub fails-here : b .at ≤ b .given → EndsWith steps b es (goal zeroᴳ) (endedW b false false)
+  fails-here h = record {
+    onward = omega arith;
+    bounded = h;
+    list = [];
+    along = refl;
+    trace = trace-0 (never-gathers (b .rules) b);
   }
 
   -- what has ended has gone along its list
@@ -143,11 +153,46 @@ module _ {steps : List ℕ} {b : Branch} {es : Scope} where
     walk = walk-lent (b .depth) D G es (b .at) (from steps b (b .at)) ∙ s .walk;
   }
 
+  -- A choice
+
+  module _ {p q : Part} {c : ℕ} (side : Side es p c q) (next : from steps b (b .at) ≡ c ∷ from steps b (b .at + 1)) where
+    pub side-ends : {w : Summary} → EndsWith steps (onB b (b .at + 1)) es q w → EndsWith steps b es p w
+    unfolding from
+    side-ends {w} k = record {
+      onward = let o = k .onward in omega arith;
+      bounded = k .bounded;
+      list = c ∷ k .list;
+      along = ap (λ l. c ∷ l) (k .along) ∙ sym next;
+      trace = trace-side side (rule-gathers (b .rules) c w (k .list)) (k .trace);
+    }
+
+    pub side-stops : {f : Refusal} → StopsWith steps (onB b (b .at + 1)) es q f → StopsWith steps b es p f
+    unfolding from
+    side-stops s = record {
+      index = s .index;
+      place = s .place;
+      walk =
+          ap (partWalk (b .depth) p es (b .at)) next
+          ∙ walk-side (b .depth) es side (b .at) (from steps b (b .at + 1))
+          ∙ s .walk;
+    }
+
+  -- what is wrong at a choice
+  module _ {f : Refusal} where
+    pub one-of-stops : {G H : Goal} → CannotChoose steps b true true f → StopsWith steps b es (goal (oplus G H)) f
+    unfolding partWalk goalWalk
+    one-of-stops n = record { index = b .at; place = n .place; walk = n .walk _ _ }
+
+    pub menu-stops : {a : ℕ} {D E : Clause} → CannotChoose steps b (usable (es .fits) a D) (usable (es .fits) a E) f
+        → StopsWith steps b es (meet a (withᴰ D E)) f
+    unfolding partWalk clauseWalk
+    menu-stops n = record { index = b .at; place = n .place; walk = n .walk _ _ }
+
   -- A use
 
   module _ {a e : ℕ} (deep : 1 ≤ b .depth) (next : from steps b (b .at) ≡ e ∷ from steps b (b .at + 1)) where
     pub use-ends : {w : Summary} (gone : Bool) → linearAt es e ≡ gone → (gone ≡ true → b .rules ≤ e) → e - b .rules < 192
-        → EndsWith steps (deeperB b) es (meet a (clauseAt es e)) w → EndsWith steps b es (goal (atomᴳ a)) (behindW w gone (b .rules) e)
+        → EndsWith steps (steppedB b 1) es (meet a (clauseAt es e)) w → EndsWith steps b es (goal (atomᴳ a)) (behindW w gone (b .rules) e)
     unfolding from behindW
     use-ends {w} gone q low few k = record {
       onward = let o = k .onward in at gone (λ u. b .at ≤ u .at) (omega arith) (omega arith);
@@ -171,7 +216,7 @@ module _ {steps : List ℕ} {b : Branch} {es : Scope} where
         by false r l = trace-rule r (rule-gathers (b .rules) e w (k .list)) (k .trace)
 
     pub use-stops : usable (es .fits) a (clauseAt es e) ≡ true → {f : Refusal}
-        → StopsWith steps (deeperB b) es (meet a (clauseAt es e)) f → StopsWith steps b es (goal (atomᴳ a)) f
+        → StopsWith steps (steppedB b 1) es (meet a (clauseAt es e)) f → StopsWith steps b es (goal (atomᴳ a)) f
     unfolding from
     use-stops u {f} s = record {
       index = s .index;

@@ -5,14 +5,17 @@ use card::Refusal;
 use card::both;
 use card::either;
 use card::format::byte;
+use card::format::left;
+use card::format::right;
 use lines::LineSet;
 ghost use mathlib.Core.Path.{_≡_};
 ghost use mathlib.Core.Bool.{true};
-ghost use Prim.Native.Nat.{_≤_, _<_};
+ghost use Prim.Native.Nat.{_+_, _*_, _≤_, _<_};
+ghost use lib.ListN.{length};
 ghost use Rattle.lines.specs.Inner.Set.{Words};
-ghost use Rattle.summary.specs.Inner.Values.{onB, lentB, deeperB, endedW, coverW, tensorW, withW, withoutW, usingW, behindW, wrongF};
+ghost use Rattle.summary.specs.Inner.Values.{onB, lentB, steppedB, endedW, coverW, tensorW, withW, withoutW, usingW, behindW, wrongF};
 ghost use Rattle.summary.specs.declared.Step.the-variants.{Wrong};
-ghost use Rattle.summary.specs.Inner.Walks.{Ready, Stepping};
+ghost use Rattle.summary.specs.Inner.Walks.{Ready, Stepping, Siding};
 
 // Where a walk stands: P and how many steps are given; its place in the list, how many entries stand in scope, and the nesting left.
 pub struct Branch {
@@ -38,7 +41,7 @@ pub enum Walked {
     Astray(Refusal),
 }
 
-// The entry that serves a name, or what is wrong at its step.
+// The entry that serves a name or the part that a choice takes, or what is wrong at its step.
 pub enum Step {
     Taken(usize),
     Wrong(Refusal),
@@ -72,29 +75,29 @@ impl Branch {
         }
     }
 
-    // The conditions of an entry in use: one step further, one deeper.
-    pub fn deeper(self) -> Branch
-        requires { ⌜ (self .at < 255) × (1 ≤ self .depth) ⌝ }
-        ensures { λ r. ⌜ r ≡ deeperB self ⌝ }
+    // Behind a step: one further in the list, and nested deeper by 1 where an entry is used, by 0 at a choice.
+    pub fn stepped(self, nested: usize) -> Branch
+        requires { ⌜ (self .at < 255) × (nested ≤ self .depth) ⌝ }
+        ensures { λ r. ⌜ r ≡ steppedB self nested ⌝ }
     {
         Branch {
             rules: self.rules,
             given: self.given,
             at: self.at + 1,
             count: self.count,
-            depth: self.depth - 1,
+            depth: self.depth - nested,
         }
     }
 
-    // 1, ⊤ or a head: no step is taken.
-    pub fn ended(self, slack: bool) -> Summary
-        ensures { λ r. ⌜ r ≡ endedW self slack ⌝ }
+    // 1, ⊤, a head or 0: no step is taken. Only 0 is never divided.
+    pub fn ended(self, slack: bool, alive: bool) -> Summary
+        ensures { λ r. ⌜ r ≡ endedW self slack alive ⌝ }
     {
         Summary {
             at: self.at,
             used: LineSet::empty(),
             slack,
-            alive: true,
+            alive,
         }
     }
 }
@@ -219,4 +222,35 @@ pub fn next_step(
         return wrong(17, here);
     }
     Step::Taken(e)
+}
+
+// The next step at a node whose parts are chosen from, where some may be taken: the part that it takes, 254 the left and 255 the right, or
+// 18 (there is no step left) or 13 (no choice, or one of a part that may not be taken).
+pub fn next_side(
+    card: &[u8],
+    steps: &[u8],
+    b: Branch,
+    node: usize,
+    first: bool,
+    second: bool,
+) -> Step
+    requires { ⌜ 16 + 5 * node ≤ length (now card) ⌝ }
+    requires { ⌜ (b .at ≤ b .given) × ((b .given ≤ length (now steps)) × (b .given ≤ 255)) ⌝ }
+    ensures { λ r. ⌜ Siding (now (card .entry)) (now (steps .entry)) b node first second r ⌝ }
+{
+    let at = b.at;
+    let here = Place::Step(at as u16);
+    if b.given == at {
+        return wrong(18, here);
+    }
+    let c = byte(steps, at);
+    let is_left = both(c == 254, first);
+    if is_left {
+        return Step::Taken(left(card, node));
+    }
+    let is_right = both(c == 255, second);
+    if is_right {
+        return Step::Taken(right(card, node));
+    }
+    wrong(13, here)
 }

@@ -8,7 +8,7 @@ use lib.ListN.{length, length-append}
 use Rattle.calculus.specs.Derivation.{Scope}
 use Rattle.calculus.specs.Job.{Listed}
 use Rattle.calculus.specs.Walk.{Walk, goes, stops, jobWalk, ItemsDivide}
-use Rattle.calculus.specs.Wanted.{goal, Along, Wrong, no-entry, too-deep, missing}
+use Rattle.calculus.specs.Wanted.{Part, goal, Along, Wrong, no-entry, no-side, too-deep, missing}
 use Rattle.calculus.proofs.WalkExact.{goes-along, stops-first, listed-exactly}
 use Rattle.card.specs.Format.{stepLimit}
 use Rattle.card.specs.Verdict.{Where, sound, fault, steps, step}
@@ -59,7 +59,8 @@ module _ (bs l : List ℕ) where
       let f = stops-first (jobOf bs) l n i in
       (λ e. f .0 (s .0 e), λ x. s .1 (f .1 x))
 
-  -- THEOREM (13). "step i names no entry in scope whose head is the name wanted", and the steps before it are the beginning of a walk.
+  -- THEOREM (13). "step i names no entry in scope whose head is the name wanted", or is no choice of a side that can be taken where one is
+  -- wanted, and the steps before it are the beginning of a walk.
   pub thirteen : (i : ℕ) → (stepsFault bs l ≡ fault 13 (step i)) ↔ WrongStep bs l 13 i
   thirteen i = by-number 13 i (λ e. omega arith)
 
@@ -116,8 +117,9 @@ module _ (bs l : List ℕ) where
   unfolding stepsFault walkFault Placed
   steps-placed h {n} {w} e = by (jobWalk (jobOf bs) l) refl e
     where
-      number : {d m a u : ℕ} {fs : Scope} {t : List ℕ} → Wrong d fs a u m t → ((12 ≤ m) × (m ≤ 14)) ⊎ ((17 ≤ m) × (m ≤ 19))
+      number : {d m u : ℕ} {fs : Scope} {q : Part} {t : List ℕ} → Wrong d fs u q m t → ((12 ≤ m) × (m ≤ 14)) ⊎ ((17 ≤ m) × (m ≤ 19))
       number (no-entry u) = inl (omega arith, omega arith)
+      number (no-side c n) = inl (omega arith, omega arith)
       number (too-deep u g) = inr (omega arith, omega arith)
       number missing = inr (omega arith, omega arith)
 

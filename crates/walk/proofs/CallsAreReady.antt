@@ -7,9 +7,9 @@ use mathlib.Core.Logic.{⊎-elim}
 use mathlib.Core.Bool.{Bool, true, false, false≢true}
 use mathlib.Core.List.{List}
 use lib.ListN.{length, getD, set}
-use Rattle.calculus.specs.Formula.{Goal, atomᴳ, lolliᴳ, usable}
+use Rattle.calculus.specs.Formula.{Goal, atomᴳ, oplus, lolliᴳ, withᴰ, usable}
 use Rattle.calculus.specs.Derivation.{Scope, clauseAt, lend}
-use Rattle.calculus.specs.Wanted.{Part, goal, meet, Both, parts-⊗, parts-&, parts-⊸}
+use Rattle.calculus.specs.Wanted.{Part, goal, meet, Both, parts-⊗, parts-&, parts-⊸, Side, side-⊕₁, side-⊕₂, side-&₁, side-&₂}
 use Rattle.calculus.specs.Inner.Trace.{Gathered, Ends, Tensors, Withs, Trace, trace-⊗, trace-&}
 use Rattle.calculus.specs.Inner.Trace.{trace-head, trace-recipe}
 use Rattle.lines.specs.Inner.Set.{Words}
@@ -17,12 +17,11 @@ use Rattle.card.specs.Format.{nodeCount, ruleCount, kindAt, leftAt, rightAt}
 use Rattle.card.specs.Fault.{goalPart, clausePart, heightAt}
 use Rattle.card.specs.Decode.{goalAt, clauseOf, scopeOf}
 use Rattle.card.proofs.CardChecked.{sound-front}
-use Rattle.card.proofs.NodesDecoded.{reads-name}
+use Rattle.card.proofs.NodesDecoded.{reads-name, reads-never}
 use Rattle.card.proofs.SoundNodes.{goal-lower, goal-kind, goal-above, clause-lower, clause-above, clause-kind, node-here, height-low}
-use Rattle.card.proofs.SoundNodes.{height-pos}
-use Rattle.card.proofs.SoundNodes.{height-parts, parts-below, both-parts, either-parts, lend-parts, recipe-parts, sound-both}
-use Rattle.card.proofs.SoundNodes.{sound-either}
-use Rattle.card.proofs.SoundNodes.{sound-lend, sound-recipe, usable-name, usable-rest, usable-recipe}
+use Rattle.card.proofs.SoundNodes.{height-pos, height-parts, parts-below, both-parts, either-parts, lend-parts, recipe-parts}
+use Rattle.card.proofs.SoundNodes.{one-of-parts, menu-parts, sound-both, sound-either, sound-lend, sound-recipe, sound-one-of}
+use Rattle.card.proofs.SoundNodes.{sound-menu, usable-name, usable-rest, usable-recipe}
 use Rattle.scope.specs.Inner.Tables.{scopeIn, Kept}
 use Rattle.scope.proofs.TablesAreScopes.{scope-size, scope-clause, scope-linear, scope-kept, lend-scope, entered-kept, entered-more}
 use Rattle.scope.proofs.TablesAreScopes.{kept-self, kept-trans, kept-again, kept-set}
@@ -33,14 +32,27 @@ use Rattle.summary.specs.declared.Walked.{Walked}
 use Rattle.summary.specs.declared.Walked.the-variants.{Ended, Astray}
 use Rattle.summary.specs.declared.Step.{Step}
 use Rattle.summary.specs.declared.Step.the-variants.{Taken, Wrong}
-use Rattle.summary.specs.Inner.Values.{onB, lentB, deeperB, endedW, tensorW, withW, withoutW, behindW}
+use Rattle.summary.specs.Inner.Values.{onB, lentB, steppedB, endedW, tensorW, withW, withoutW, behindW}
 use Rattle.summary.specs.Inner.Walks.{EndsWith, StopsWith, Tells, Ready, GoalReady, ClauseReady, CanUse, Stepping, PartWalks}
-use Rattle.summary.proofs.WalksTell.{ends-here, first-stops, second-stops, tensor-ends, with-ends, lend-ends, lend-stops, use-ends}
-use Rattle.summary.proofs.WalksTell.{use-stops}
+use Rattle.summary.specs.Inner.Walks.{Chosen, CanChoose, Siding}
+use Rattle.summary.proofs.WalksTell.{ends-here, fails-here, first-stops, second-stops, tensor-ends, with-ends, lend-ends, lend-stops}
+use Rattle.summary.proofs.WalksTell.{side-ends, side-stops, one-of-stops, menu-stops, use-ends, use-stops}
+
+-- a number from 1 to 6, each of which it is not
+none-high : (k : ℕ) → k ≤ 6 → (k ≡ 4 → ⊥) → (k ≡ 5 → ⊥) → (k ≡ 6 → ⊥) → k ≤ 3
+none-high k h n₄ n₅ n₆ = omega arith
+
+none-low : (k : ℕ) → 1 ≤ k → k ≤ 3 → (k ≡ 1 → ⊥) → (k ≡ 2 → ⊥) → (k ≡ 3 → ⊥) → ⊥
+none-low k g h n₁ n₂ n₃ = omega arith
 
 -- the falling number of a call, without its node: nesting and steps left
 abbrev pub weight : Branch → ℕ
 weight b = (b .depth + (b .given - b .at)) * 4096
+
+-- which parts of a menu have a head that is the name
+pub record Fitting (bs : List ℕ) (name node : ℕ) (first second : Bool) : Type 0 where
+  pub left-fits : first ≡ usable (scopeOf bs .fits) name (clauseOf bs (leftAt bs node))
+  pub right-fits : second ≡ usable (scopeOf bs .fits) name (clauseOf bs (rightAt bs node))
 
 module _ {bs steps nodes : List ℕ} {linear : List Bool} {b : Branch} (R : Ready bs steps nodes linear b) where
   abbrev es : Scope
@@ -147,6 +159,45 @@ module _ {bs steps nodes : List ℕ} {linear : List Bool} {b : Branch} (R : Read
           → PartWalks bs steps nodes nodes₂ linear linear₂ b r (Ended u)
       run-with eu c = rw eu (with-done first-run second-run m n c)
 
+  -- Behind a choice
+
+  module _ {node m : ℕ} {first second : Bool} (U : CanChoose bs steps b node first second m) where
+    pub stepped-room : (b .at < 255) × (0 ≤ b .depth)
+    stepped-room = let r = U .room in let s = R .short in (omega arith, omega arith)
+
+    module _ (b₁ : Branch) (eb : b₁ ≡ steppedB b 0) where
+      -- a choice adds no nesting
+      as-on : b₁ ≡ onB b (b .at + 1)
+      as-on =
+          let z : b .depth - 0 ≡ b .depth = omega arith in
+          eb ∙ ap (λ d. record { rules = b .rules; given = b .given; at = b .at + 1; count = b .count; depth = d }) z
+
+      ready-stepped : Ready bs steps nodes linear b₁
+      ready-stepped = rw as-on (record {
+        sound = R .sound;
+        rules = R .rules;
+        given = R .given;
+        short = R .short;
+        at = let r = U .room in omega arith;
+        entered = R .entered;
+        scoped = R .scoped;
+        few = R .few;
+      })
+
+      lighter-stepped : weight b₁ ≤ weight b
+      lighter-stepped = rw as-on (omega arith)
+
+      side-done : {p q : Part} {nodes₂ : List ℕ} {linear₂ : List Bool} (x : Walked) → Side es p (U .choice) q
+          → PartWalks bs steps nodes nodes₂ linear linear₂ b₁ q x → PartWalks bs steps nodes nodes₂ linear linear₂ b p x
+      unfolding Tells
+      side-done {p} {q} {nodes₂} {linear₂} x o X =
+          let F : PartWalks bs steps nodes nodes₂ linear linear₂ (onB b (b .at + 1)) q x = rw as-on at X in
+          record { tells = by x (F .tells); node-kept = F .node-kept; linear-kept = F .linear-kept }
+        where
+          by : (x : Walked) → Tells steps (onB b (b .at + 1)) es q x → Tells steps b es p x
+          by (Ended w) k = side-ends o (U .next) k
+          by (Astray f) k = side-stops o (U .next) k
+
   -- At a goal
 
   module _ (node : ℕ) (Q : GoalReady bs b node) where
@@ -158,10 +209,16 @@ module _ {bs steps nodes : List ℕ} {linear : List Bool} {b : Branch} (R : Read
 
     -- 1 and ⊤
     pub done-ends : (slack : Bool) (G : Goal) → goalAt bs node ≡ G → ((w : Gathered) → Ends w slack → Trace (b .depth) es (goal G) w)
-        → (w : Summary) → w ≡ endedW b slack → PartWalks bs steps nodes nodes linear linear b (goal (goalAt bs node)) (Ended w)
+        → (w : Summary) → w ≡ endedW b slack true → PartWalks bs steps nodes nodes linear linear b (goal (goalAt bs node)) (Ended w)
     unfolding Tells
     done-ends slack G e c w q =
-        rw (q, e) (at-once {r = Ended (endedW b slack)} (ends-here slack (R .at) c))
+        rw (q, e) (at-once {r = Ended (endedW b slack true)} (ends-here slack (R .at) c))
+
+    -- 0
+    pub never-ends : kindAt bs node ≡ 9 → (w : Summary) → w ≡ endedW b false false
+        → PartWalks bs steps nodes nodes linear linear b (goal (goalAt bs node)) (Ended w)
+    unfolding Tells
+    never-ends k w q = rw (q, reads-never bs node k) (at-once {r = Ended (endedW b false false)} (fails-here (R .at)))
 
     -- a part that is a goal, in a branch with the same entries and nesting
     part-ready : (part : ℕ) (b′ : Branch) → goalPart bs node part ≡ true → heightAt bs part < heightAt bs node → b′ .count ≡ b .count
@@ -171,15 +228,15 @@ module _ {bs steps nodes : List ℕ} {linear : List Bool} {b : Branch} (R : Read
       deep = let q = Q .deep in omega arith;
     }
 
-    -- two parts that are goals
-    module _ (big : 3 < kindAt bs node) (first : goalPart bs node (leftAt bs node) ≡ true) (second : goalPart bs node (rightAt bs node) ≡ true)
-      where
-        lower : (leftAt bs node < node) × (rightAt bs node < node)
-        lower = parts-below (R .sound) node below big
+    module _ (big : 3 < kindAt bs node) (not-nine : kindAt bs node ≡ 9 → ⊥) where
+      lower : (leftAt bs node < node) × (rightAt bs node < node)
+      lower = parts-below (R .sound) node below big not-nine
 
-        heights : (heightAt bs (leftAt bs node) < heightAt bs node) × (heightAt bs (rightAt bs node) < heightAt bs node)
-        heights = height-parts (R .sound) node below big
+      heights : (heightAt bs (leftAt bs node) < heightAt bs node) × (heightAt bs (rightAt bs node) < heightAt bs node)
+      heights = height-parts (R .sound) node below big not-nine
 
+      -- two parts that are goals
+      module _ (first : goalPart bs node (leftAt bs node) ≡ true) (second : goalPart bs node (rightAt bs node) ≡ true) where
         pub left-call : (t : ℕ) → weight b + 4 * node + 2 ≡ t → (l : ℕ) → l ≡ leftAt bs node
             → (weight b + 4 * l + 3 < t) × (Ready bs steps nodes linear b × GoalReady bs b l)
         left-call t m l e = rw e (
@@ -198,17 +255,19 @@ module _ {bs steps nodes : List ℕ} {linear : List Bool} {b : Branch} (R : Read
             )
             )
 
-    pub kind-six : (kindAt bs node ≡ 1 → ⊥) → (kindAt bs node ≡ 2 → ⊥) → (kindAt bs node ≡ 3 → ⊥) → (kindAt bs node ≡ 4 → ⊥)
-        → (kindAt bs node ≡ 5 → ⊥) → kindAt bs node ≡ 6
-    kind-six n₁ n₂ n₃ n₄ n₅ = let k = goal-kind bs (nodeCount bs) node (Q .goal-node) in omega (arith, k .0, k .1)
+    pub kind-nine : (kindAt bs node ≡ 1 → ⊥) → (kindAt bs node ≡ 2 → ⊥) → (kindAt bs node ≡ 3 → ⊥) → (kindAt bs node ≡ 4 → ⊥)
+        → (kindAt bs node ≡ 5 → ⊥) → (kindAt bs node ≡ 6 → ⊥) → (kindAt bs node ≡ 8 → ⊥) → kindAt bs node ≡ 9
+    kind-nine n₁ n₂ n₃ n₄ n₅ n₆ n₈ =
+        let k = goal-kind bs (nodeCount bs) node (Q .goal-node) in
+        ⊎-elim (λ h. absurd (none-low _ (k .0) (none-high _ h n₄ n₅ n₆) n₁ n₂ n₃)) (⊎-elim (λ h. absurd (n₈ h)) (λ h. h)) (k .1)
 
-    pub tensor-parts : kindAt bs node ≡ 4 → (3 < kindAt bs node) × (goalPart bs node (leftAt bs node) ≡ true)
-        × (goalPart bs node (rightAt bs node) ≡ true)
-    tensor-parts k = let p = both-parts (R .sound) node below k in (omega arith, p .0, p .1)
+    pub tensor-parts : kindAt bs node ≡ 4 → (3 < kindAt bs node) × (kindAt bs node ≡ 9 → ⊥)
+        × (goalPart bs node (leftAt bs node) ≡ true) × (goalPart bs node (rightAt bs node) ≡ true)
+    tensor-parts k = let p = both-parts (R .sound) node below k in (omega arith, λ e. omega (arith, e, k), p .0, p .1)
 
-    pub with-parts : kindAt bs node ≡ 5 → (3 < kindAt bs node) × (goalPart bs node (leftAt bs node) ≡ true)
-        × (goalPart bs node (rightAt bs node) ≡ true)
-    with-parts k = let p = either-parts (R .sound) node below k in (omega arith, p .0, p .1)
+    pub with-parts : kindAt bs node ≡ 5 → (3 < kindAt bs node) × (kindAt bs node ≡ 9 → ⊥)
+        × (goalPart bs node (leftAt bs node) ≡ true) × (goalPart bs node (rightAt bs node) ≡ true)
+    with-parts k = let p = either-parts (R .sound) node below k in (omega arith, λ e. omega (arith, e, k), p .0, p .1)
 
     -- what a node of each kind reads as is walked as
     module _ (l : ℕ) (el : l ≡ leftAt bs node) (m : ℕ) (em : m ≡ rightAt bs node) where
@@ -229,10 +288,10 @@ module _ {bs steps nodes : List ℕ} {linear : List Bool} {b : Branch} (R : Read
     -- D ⊸ G
     module _ (kind : kindAt bs node ≡ 6) where
       lower-6 : (leftAt bs node < node) × (rightAt bs node < node)
-      lower-6 = parts-below (R .sound) node below (omega arith)
+      lower-6 = lower (omega arith) (λ e. omega (arith, e, kind))
 
       heights-6 : (heightAt bs (leftAt bs node) < heightAt bs node) × (heightAt bs (rightAt bs node) < heightAt bs node)
-      heights-6 = height-parts (R .sound) node below (omega arith)
+      heights-6 = heights (omega arith) (λ e. omega (arith, e, kind))
 
       lent-clause : clausePart bs (nodeCount bs) (leftAt bs node) ≡ true
       lent-clause =
@@ -317,6 +376,53 @@ module _ {bs steps nodes : List ℕ} {linear : List Bool} {b : Branch} (R : Read
             linear-kept = linear-back;
           })
 
+    -- G ⊕ H
+    module _ (kind : kindAt bs node ≡ 8) where
+      as-one-of : goalAt bs node ≡ oplus (goalAt bs (leftAt bs node)) (goalAt bs (rightAt bs node))
+      as-one-of = sound-one-of (R .sound) node below kind
+
+      module _ {c m : ℕ} (s : Chosen bs node true true c m) where
+        -- the part taken is a goal below the node, less high
+        one-of-part : (goalPart bs node m ≡ true) × ((m < node) × (heightAt bs m < heightAt bs node))
+        one-of-part =
+            let l = lower (omega arith) (λ e. omega (arith, e, kind)) in
+            let h = heights (omega arith) (λ e. omega (arith, e, kind)) in
+            let p = one-of-parts (R .sound) node below kind in
+            ⊎-elim (λ s. rw (s .1 .1) (p .0, (l .0, h .0))) (λ s. rw (s .1 .1) (p .1, (l .1, h .1))) s
+
+        one-of-side : Side es (goal (goalAt bs node)) c (goal (goalAt bs m))
+        one-of-side = ⊎-elim (λ s. rw (as-one-of, s .1 .1) (side-⊕₁ (s .0))) (λ s. rw (as-one-of, s .1 .1) (side-⊕₂ (s .0))) s
+
+      module _ {y : Step} (S : Siding bs steps b node true true y) where
+        pub one-of-lost : {f : Refusal} → y ≡ Wrong f → PartWalks bs steps nodes nodes linear linear b (goal (goalAt bs node)) (Astray f)
+        unfolding Siding Tells
+        one-of-lost {f} e = rw as-one-of (at-once {r = Astray f} (one-of-stops (rw e at S)))
+
+        module _ (m : ℕ) (q : y ≡ Taken m) where
+          one-of-takes : CanChoose bs steps b node true true m
+          unfolding Siding
+          one-of-takes = rw q at S
+
+          pub one-of-room : (b .at < 255) × (0 ≤ b .depth)
+          one-of-room = stepped-room one-of-takes
+
+          module _ (b₁ : Branch) (eb : b₁ ≡ steppedB b 0) where
+            pub one-of-call : (t : ℕ) → weight b + 4 * node + 2 ≡ t
+                → (weight b₁ + 4 * m + 3 < t) × (Ready bs steps nodes linear b₁ × GoalReady bs b₁ m)
+            one-of-call t e =
+                let p = one-of-part (one-of-takes .chosen) in (
+                  let w = lighter-stepped one-of-takes b₁ eb in omega (arith, p .1 .0, w),
+                  (
+                    ready-stepped one-of-takes b₁ eb,
+                    rw (as-on one-of-takes b₁ eb) (part-ready m (onB b (b .at + 1)) (p .0) (p .1 .1) refl refl refl),
+                  ),
+                )
+
+            pub one-of-done : {nodes₂ : List ℕ} {linear₂ : List Bool} {x : Walked}
+                → PartWalks bs steps nodes nodes₂ linear linear₂ b₁ (goal (goalAt bs m)) x
+                → PartWalks bs steps nodes nodes₂ linear linear₂ b (goal (goalAt bs node)) x
+            one-of-done {x} X = side-done one-of-takes b₁ eb x (one-of-side (one-of-takes .chosen)) X
+
     -- a name
     module _ (kind : kindAt bs node ≡ 1) (name : ℕ) (en : name ≡ leftAt bs node) where
       as-atom : goalAt bs node ≡ atomᴳ name
@@ -349,20 +455,25 @@ module _ {bs steps nodes : List ℕ} {linear : List Bool} {b : Branch} (R : Read
     pub clause-here : 16 + 5 * node ≤ length bs
     clause-here = node-here (R .sound) node clause-below
 
-    -- a clause that is no recipe and can be used is a name that is met
-    pub head-ends : (kindAt bs node ≡ 7 → ⊥) → (w : Summary) → w ≡ endedW b false
+    -- a name that is met
+    pub head-ends : kindAt bs node ≡ 1 → (w : Summary) → w ≡ endedW b false true
         → PartWalks bs steps nodes nodes linear linear b (meet name (clauseOf bs node)) (Ended w)
     unfolding Tells scopeIn
-    head-ends n w q = ⊎-elim
-        (λ k. rw (q, reads-name bs node k .1)
-        (at-once {r = Ended (endedW b false)} (ends-here false (R .at)
-        (λ g e. trace-head (sym (usable-name bs node k (scopeOf bs .fits) name) ∙ Q .fitting) e))))
-        (⊎-elim (λ k. absurd (false≢true (sym (usable-rest bs node k (scopeOf bs .fits) name) ∙ Q .fitting))) (λ k. absurd (n k)))
+    head-ends k w q = rw (q, reads-name bs node k .1)
+        (at-once {r = Ended (endedW b false true)} (ends-here false (R .at)
+        (λ g e. trace-head (sym (usable-name bs node k (scopeOf bs .fits) name) ∙ Q .fitting) e)))
+
+    -- a clause that can be used and is neither a name nor a menu is a recipe
+    pub kind-seven : (kindAt bs node ≡ 1 → ⊥) → (kindAt bs node ≡ 10 → ⊥) → kindAt bs node ≡ 7
+    kind-seven n m = ⊎-elim (λ k. absurd (n k))
+        (⊎-elim (λ k. absurd (false≢true (sym (usable-rest bs node k (scopeOf bs .fits) name) ∙ Q .fitting)))
+        (⊎-elim (λ k. k) (λ k. absurd (m k))))
         (clause-kind bs (nodeCount bs) node (Q .clause-node))
 
+    -- G ⊸ D
     module _ (kind : kindAt bs node ≡ 7) where
       lower-7 : (leftAt bs node < node) × (rightAt bs node < node)
-      lower-7 = parts-below (R .sound) node clause-below (omega arith)
+      lower-7 = parts-below (R .sound) node clause-below (omega arith) (λ e. omega (arith, e, kind))
 
       module _ (m : ℕ) (em : m ≡ rightAt bs node) (l : ℕ) (el : l ≡ leftAt bs node) where
         pub recipe-both : Both (meet name (clauseOf bs node)) (meet name (clauseOf bs m)) (goal (goalAt bs l))
@@ -402,12 +513,70 @@ module _ {bs steps nodes : List ℕ} {linear : List Bool} {b : Branch} (R : Read
                     goal-above bs node (leftAt bs node) (nodeCount bs) (let k = clause-below in omega arith)
                     (recipe-parts (R .sound) node clause-below kind .0);
                 deep =
-                    let q = Q .deep in let h = height-parts (R .sound) node clause-below (omega arith) .0 in
+                    let q = Q .deep in let h = height-parts (R .sound) node clause-below (omega arith) (λ e. omega (arith, e, kind)) .0 in
                     let k = height-low (R .sound) node clause-below in omega arith;
               },
             ),
           )
           )
+
+    -- D & E
+    module _ (kind : kindAt bs node ≡ 10) where
+      pub menu-clauses : (clausePart bs (nodeCount bs) (leftAt bs node) ≡ true) × (clausePart bs (nodeCount bs) (rightAt bs node) ≡ true)
+      menu-clauses = let p = menu-parts (R .sound) node clause-below kind in (above (leftAt bs node) (p .0), above (rightAt bs node) (p .1))
+        where
+          above : (part : ℕ) → clausePart bs node part ≡ true → clausePart bs (nodeCount bs) part ≡ true
+          above part = clause-above bs node part (nodeCount bs) (let l = clause-below in omega arith)
+
+      as-menu : clauseOf bs node ≡ withᴰ (clauseOf bs (leftAt bs node)) (clauseOf bs (rightAt bs node))
+      as-menu = sound-menu (R .sound) node clause-below kind
+
+      module _ {first second : Bool} (F : Fitting bs name node first second) where
+        module _ {c m : ℕ} (s : Chosen bs node first second c m) where
+          -- the part taken is a clause below the node that can be used for the name
+          menu-part : (clausePart bs (nodeCount bs) m ≡ true) × ((m < node) × (usable (scopeOf bs .fits) name (clauseOf bs m) ≡ true))
+          menu-part =
+              let p = menu-clauses in
+              let l = parts-below (R .sound) node clause-below (omega arith) (λ e. omega (arith, e, kind)) in
+              ⊎-elim (λ s. rw (s .1 .1) (p .0, (l .0, sym (F .left-fits) ∙ s .1 .0)))
+              (λ s. rw (s .1 .1) (p .1, (l .1, sym (F .right-fits) ∙ s .1 .0))) s
+
+          menu-side : Side es (meet name (clauseOf bs node)) c (meet name (clauseOf bs m))
+          unfolding scopeIn
+          menu-side =
+              ⊎-elim (λ s. rw (as-menu, s .1 .1) (side-&₁ (s .0) (sym (F .left-fits) ∙ s .1 .0)))
+              (λ s. rw (as-menu, s .1 .1) (side-&₂ (s .0) (sym (F .right-fits) ∙ s .1 .0))) s
+
+        module _ {y : Step} (S : Siding bs steps b node first second y) where
+          pub menu-lost : {f : Refusal} → y ≡ Wrong f
+              → PartWalks bs steps nodes nodes linear linear b (meet name (clauseOf bs node)) (Astray f)
+          unfolding Siding Tells scopeIn
+          menu-lost {f} e = rw as-menu (at-once {r = Astray f} (menu-stops (rw (e, F .left-fits, F .right-fits) at S)))
+
+          module _ (m : ℕ) (q : y ≡ Taken m) where
+            menu-takes : CanChoose bs steps b node first second m
+            unfolding Siding
+            menu-takes = rw q at S
+
+            pub menu-room : (b .at < 255) × (0 ≤ b .depth)
+            menu-room = stepped-room menu-takes
+
+            module _ (b₁ : Branch) (eb : b₁ ≡ steppedB b 0) where
+              pub menu-call : (t : ℕ) → weight b + 4 * node + 1 ≡ t
+                  → (weight b₁ + 4 * m + 2 < t) × (Ready bs steps nodes linear b₁ × ClauseReady bs b₁ name m)
+              menu-call t e =
+                  let p = menu-part (menu-takes .chosen) in (
+                    let w = lighter-stepped menu-takes b₁ eb in omega (arith, p .1 .0, w),
+                    (
+                      ready-stepped menu-takes b₁ eb,
+                      record { clause-node = p .0; fitting = p .1 .1; deep = rw (as-on menu-takes b₁ eb) (Q .deep) },
+                    ),
+                  )
+
+              pub menu-done : {nodes₂ : List ℕ} {linear₂ : List Bool} {x : Walked}
+                  → PartWalks bs steps nodes nodes₂ linear linear₂ b₁ (meet name (clauseOf bs m)) x
+                  → PartWalks bs steps nodes nodes₂ linear linear₂ b (meet name (clauseOf bs node)) x
+              menu-done {x} X = side-done menu-takes b₁ eb x (menu-side (menu-takes .chosen)) X
 
   -- The use of an entry
 
@@ -416,7 +585,7 @@ module _ {bs steps nodes : List ℕ} {linear : List Bool} {b : Branch} (R : Read
     entry-clause = R .entered .clauses e (U .inside)
 
     pub use-call : b .count + 1 + 6 * b .depth ≤ b .rules + 168 → (t : ℕ) → weight b ≡ t → (node : ℕ) → node ≡ getD nodes e 0
-        → (b₁ : Branch) → b₁ ≡ deeperB b
+        → (b₁ : Branch) → b₁ ≡ steppedB b 1
         → (weight b₁ + 4 * node + 2 < t) × (Ready bs steps nodes linear b₁ × ClauseReady bs b₁ name node)
     use-call room t m node en b₁ eb = rw (eb, en) (
       (
@@ -439,9 +608,9 @@ module _ {bs steps nodes : List ℕ} {linear : List Bool} {b : Branch} (R : Read
       ),
     )
 
-    module _ (node : ℕ) (en : node ≡ getD nodes e 0) (b₁ : Branch) (eb : b₁ ≡ deeperB b) {nodes₂ : List ℕ} {linear₂ : List Bool}
+    module _ (node : ℕ) (en : node ≡ getD nodes e 0) (b₁ : Branch) (eb : b₁ ≡ steppedB b 1) {nodes₂ : List ℕ} {linear₂ : List Bool}
         {x : Walked} (X : PartWalks bs steps nodes nodes₂ linear linear₂ b₁ (meet name (clauseOf bs node)) x) where
-      conditions : PartWalks bs steps nodes nodes₂ linear linear₂ (deeperB b) (meet name (clauseAt es e)) x
+      conditions : PartWalks bs steps nodes nodes₂ linear linear₂ (steppedB b 1) (meet name (clauseAt es e)) x
       conditions = rw (scope-clause bs nodes linear (b .count) e (U .inside), ← en, ← eb) X
 
       pub use-lost : {f : Refusal} → x ≡ Astray f → PartWalks bs steps nodes nodes₂ linear linear₂ b (goal (atomᴳ name)) x

@@ -1,4 +1,4 @@
-// One pass along a given list (02, #102). It goes by clauses and does not mind items: it ends, or stops at its first wrong step; on the way
+// One pass along a given list (02, #102 and #103). It goes by clauses and does not mind items: it ends, or stops at its first wrong step; on the way
 // it gathers the list's summary and whether the items divided, and never breaks off because they did not.
 use card::format::kind;
 use card::format::left;
@@ -6,6 +6,7 @@ use card::format::right;
 use summary::Branch;
 use summary::Step;
 use summary::Walked;
+use summary::next_side;
 use summary::next_step;
 ghost use mathlib.Core.Path.{_≡_};
 ghost use Prim.Native.Nat.{_+_, _*_, _≤_};
@@ -29,11 +30,13 @@ pub fn walk(
     let k = kind(card, node);
     match k {
         1 => walk_atom(card, steps, nodes, linear, b, node),
-        2 => Walked::Ended(b.ended(true)),
-        3 => Walked::Ended(b.ended(false)),
+        2 => Walked::Ended(b.ended(true, true)),
+        3 => Walked::Ended(b.ended(false, true)),
         4 => walk_tensor(card, steps, nodes, linear, b, node),
         5 => walk_with(card, steps, nodes, linear, b, node),
-        _ => walk_lend(card, steps, nodes, linear, b, node),
+        6 => walk_lend(card, steps, nodes, linear, b, node),
+        8 => walk_one_of(card, steps, nodes, linear, b, node),
+        _ => Walked::Ended(b.ended(false, false)),
     }
 }
 
@@ -119,6 +122,28 @@ fn walk_lend(
     Walked::Ended(w.without(item))
 }
 
+// G ⊕ H: the part that the next step chooses.
+fn walk_one_of(
+    card: &[u8],
+    steps: &[u8],
+    nodes: &mut [u16; 256],
+    linear: &mut [bool; 256],
+    b: Branch,
+    node: usize,
+) -> Walked
+    requires { ⌜ Ready (now card) (now steps) (now nodes) (now linear) b ⌝ }
+    requires { ⌜ GoalReady (now card) b node ⌝ }
+    requires { ⌜ kindAt (now card) node ≡ 8 ⌝ }
+    ensures { λ r. ⌜ GoalWalks (now (card .entry)) (now (steps .entry)) (now (nodes .entry)) (now (nodes .exit))
+        (now (linear .entry)) (now (linear .exit)) b node r ⌝ }
+{
+    let next = next_side(card, steps, b, node, true, true);
+    match next {
+        Step::Taken(side) => walk(card, steps, nodes, linear, b.stepped(0), side),
+        Step::Wrong(refusal) => Walked::Astray(refusal),
+    }
+}
+
 // A name.
 fn walk_atom(
     card: &[u8],
@@ -160,7 +185,7 @@ fn use_clause(
 {
     let node = nodes[e] as usize;
     let gone = linear[e];
-    let inner = conditions(card, steps, nodes, linear, b.deeper(), name, node);
+    let inner = conditions(card, steps, nodes, linear, b.stepped(1), name, node);
     let Walked::Ended(w) = inner else {
         return inner;
     };
@@ -183,8 +208,11 @@ fn conditions(
         (now (linear .entry)) (now (linear .exit)) b name node r ⌝ }
 {
     let k = kind(card, node);
-    if k != 7 {
-        return Walked::Ended(b.ended(false));
+    if k == 1 {
+        return Walked::Ended(b.ended(false, true));
+    }
+    if k == 10 {
+        return menu(card, steps, nodes, linear, b, name, node);
     }
     let r = right(card, node);
     let first = conditions(card, steps, nodes, linear, b, name, r);
@@ -197,4 +225,29 @@ fn conditions(
         return second;
     };
     Walked::Ended(w.tensor(v))
+}
+
+// D & E in use for a name: the part that the next step chooses, one with a head that is the name.
+fn menu(
+    card: &[u8],
+    steps: &[u8],
+    nodes: &mut [u16; 256],
+    linear: &mut [bool; 256],
+    b: Branch,
+    name: usize,
+    node: usize,
+) -> Walked
+    requires { ⌜ Ready (now card) (now steps) (now nodes) (now linear) b ⌝ }
+    requires { ⌜ ClauseReady (now card) b name node ⌝ }
+    requires { ⌜ kindAt (now card) node ≡ 10 ⌝ }
+    ensures { λ r. ⌜ ClauseWalks (now (card .entry)) (now (steps .entry)) (now (nodes .entry)) (now (nodes .exit))
+        (now (linear .entry)) (now (linear .exit)) b name node r ⌝ }
+{
+    let first = scope::usable(card, left(card, node), name);
+    let second = scope::usable(card, right(card, node), name);
+    let next = next_side(card, steps, b, node, first, second);
+    match next {
+        Step::Taken(side) => conditions(card, steps, nodes, linear, b.stepped(0), name, side),
+        Step::Wrong(refusal) => Walked::Astray(refusal),
+    }
 }

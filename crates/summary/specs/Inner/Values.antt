@@ -1,6 +1,6 @@
 -- What each change of a branch and of a summary is.
 use Prim.Native.Nat.{ℕ, _+_, _-_}
-use mathlib.Core.Bool.{Bool, true, not, cond, _&&_, _||_}
+use mathlib.Core.Bool.{Bool, not, cond, _&&_, _||_}
 use mathlib.Core.List.{List}
 use Rattle.card.specs.Format.{ruleCount, lineCount, depthLimit}
 use Rattle.lines.specs.Inner.Set.{member, isEmptyS, emptyS, addS, takeS, cutS, meetS, joinS}
@@ -19,11 +19,11 @@ onB b at = record { rules = b .rules; given = b .given; at = at; count = b .coun
 abbrev pub lentB : Branch → Branch
 lentB b = record { rules = b .rules; given = b .given; at = b .at; count = b .count + 1; depth = b .depth }
 
-abbrev pub deeperB : Branch → Branch
-deeperB b = record { rules = b .rules; given = b .given; at = b .at + 1; count = b .count; depth = b .depth - 1 }
+abbrev pub steppedB : Branch → ℕ → Branch
+steppedB b n = record { rules = b .rules; given = b .given; at = b .at + 1; count = b .count; depth = b .depth - n }
 
-abbrev pub endedW : Branch → Bool → Summary
-endedW b slack = record { at = b .at; used = emptyS; slack = slack; alive = true }
+abbrev pub endedW : Branch → Bool → Bool → Summary
+endedW b slack alive = record { at = b .at; used = emptyS; slack = slack; alive = alive }
 
 abbrev pub tensorW : Summary → Summary → Summary
 tensorW w v = record {

@@ -1,17 +1,19 @@
 -- What a walk asks, and what it tells of the given steps in terms of traces.
 use Prim.Native.Nat.{ℕ, _+_, _*_, _≤_, _<_}
 use mathlib.Core.Path.{_≡_}
+use mathlib.Core.Logic.{_⊎_}
 use mathlib.Core.Bool.{Bool, true}
 use mathlib.Core.List.{List, _∷_, _++_}
 use lib.ListN.{length, getD, take, drop}
 use Rattle.calculus.specs.Formula.{atomᴳ, usable}
 use Rattle.calculus.specs.Derivation.{Scope}
-use Rattle.calculus.specs.Walk.{stops}
+use Rattle.calculus.specs.Steps.{leftChoice, rightChoice}
+use Rattle.calculus.specs.Walk.{Walk, stops, choiceWalk}
 use Rattle.calculus.specs.Wanted.{Part, goal, meet}
 use Rattle.calculus.specs.Inner.Trace.{partWalk, Gathered, Trace}
 use Rattle.card.specs.declared.Refusal.{Refusal}
 use Rattle.card.specs.Verdict.{whereOf, step}
-use Rattle.card.specs.Format.{ruleCount, nodeCount}
+use Rattle.card.specs.Format.{ruleCount, nodeCount, leftAt, rightAt}
 use Rattle.card.specs.Fault.{Sound, goalPart, clausePart, heightAt}
 use Rattle.card.specs.Decode.{goalAt, clauseOf, scopeOf}
 use Rattle.scope.specs.Inner.Sets.{items}
@@ -84,6 +86,29 @@ pub record CanUse (bs steps nodes : List ℕ) (b : Branch) (name e : ℕ) : Type
 unfoldable pub Stepping : List ℕ → List ℕ → List ℕ → List Bool → Branch → ℕ → Step → Type 0
 Stepping bs steps nodes linear b name (Taken e) = CanUse bs steps nodes b name e
 Stepping bs steps nodes linear b name (Wrong f) = StopsWith steps b (scopeIn bs nodes linear (b .count)) (goal (atomᴳ name)) f
+
+-- The choice c takes the part m of the node, which is one that may be taken.
+abbrev pub Chosen : List ℕ → ℕ → Bool → Bool → ℕ → ℕ → Type 0
+Chosen bs node first second c m =
+    ((c ≡ leftChoice) × ((first ≡ true) × (m ≡ leftAt bs node)))
+    ⊎ ((c ≡ rightChoice) × ((second ≡ true) × (m ≡ rightAt bs node)))
+
+-- The next step is such a choice.
+pub record CanChoose (bs steps : List ℕ) (b : Branch) (node : ℕ) (first second : Bool) (m : ℕ) : Type 0 where
+  pub choice : ℕ
+  pub room : b .at < b .given
+  pub next : from steps b (b .at) ≡ choice ∷ from steps b (b .at + 1)
+  pub chosen : Chosen bs node first second choice m
+
+-- The next step is no such choice, whatever the parts are walked as.
+pub record CannotChoose (steps : List ℕ) (b : Branch) (first second : Bool) (f : Refusal) : Type 0 where
+  pub place : whereOf (f .place) ≡ step (b .at)
+  pub walk : (x y : ℕ → List ℕ → Walk) → choiceWalk first second x y (b .at) (from steps b (b .at)) ≡ stops (f .number) (b .at)
+
+-- What the test of the next step answers at a choice.
+unfoldable pub Siding : List ℕ → List ℕ → Branch → ℕ → Bool → Bool → Step → Type 0
+Siding bs steps b node first second (Taken m) = CanChoose bs steps b node first second m
+Siding bs steps b node first second (Wrong f) = CannotChoose steps b first second f
 
 -- What every function of the walk promises: what it tells of the part, and that the entries in scope are kept. Behind them the tables are
 -- free: as many places as before.

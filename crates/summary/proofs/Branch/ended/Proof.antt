@@ -1,6 +1,5 @@
 -- The empty set.
 use mathlib.Core.Path.{ap}
-use mathlib.Core.Bool.{true}
 use borrow.Author.Needs.{needs}
 use Rattle.summary.proofs.Branch.ended.Statement.{statement}
 use Rattle.summary.proofs.Branch.ended.Tie as tie
@@ -10,8 +9,8 @@ empty-requires c κs = search needs
 
 returns : tie.Need-returns
 returns c =
-    let b = c .before .args .self in
-    ap (λ u. record { at = b .at; used = u; slack = c .before .args .slack; alive = true }) (c .empty .ensures)
+    let a = c .before .args in
+    ap (λ u. record { at = a .self .at; used = u; slack = a .slack; alive = a .alive }) (c .empty .ensures)
 
 pub ended-spec : {M : Type 1} → statement M
 ended-spec = tie.close (tie.spec empty-requires returns)

@@ -1,64 +1,78 @@
 -- The walk by its connectives: each call is ready, and each answer tells of the part walked. Nesting left, steps left and node fall.
-use mathlib.Core.Path.{refl, sym, _∙_}
+use mathlib.Core.Path.{_≡_, refl, sym, ap, _∙_}
 use native.Mathlib.Omega.{arith}
 use Prim.Native.Nat.{_+_, _*_}
-use mathlib.Core.Bool.{true, false}
-use Rattle.calculus.specs.Formula.{topᴳ, oneᴳ}
+use mathlib.Core.Bool.{Bool, true, false}
+use Rattle.calculus.specs.Formula.{topᴳ, oneᴳ, usable}
 use Rattle.calculus.specs.Inner.Trace.{trace-1, trace-⊤}
+use Rattle.card.specs.Format.{kindAt}
+use Rattle.card.specs.Decode.{clauseOf, scopeOf}
 use Rattle.card.proofs.CardChecked.{sound-front}
 use Rattle.card.proofs.NodesDecoded.{reads-rest, reads-done}
 use Rattle.card.proofs.SoundNodes.{clause-lower}
-use Rattle.walk.proofs.CallsAreReady.{weight, rules-below, first-lost, run-lost, run-tensor, run-with, goal-here, done-ends}
-use Rattle.walk.proofs.CallsAreReady.{left-call, right-call, kind-six, tensor-parts, with-parts, tensor-both, tensor-joins}
-use Rattle.walk.proofs.CallsAreReady.{with-both, with-joins, put-room, lend-call, lend-lost, lend-done, atom-lost}
-use Rattle.walk.proofs.CallsAreReady.{atom-call, atom-done, clause-here, head-ends, recipe-both, recipe-joins, recipe-call}
-use Rattle.walk.proofs.CallsAreReady.{condition-call, use-call, use-lost, use-done, behind-low}
+use Rattle.walk.proofs.CallsAreReady.{Fitting, weight, rules-below, first-lost, run-lost, run-tensor, run-with, goal-here, done-ends}
+use Rattle.walk.proofs.CallsAreReady.{never-ends, left-call, right-call, kind-nine, tensor-parts, with-parts, tensor-both}
+use Rattle.walk.proofs.CallsAreReady.{tensor-joins, with-both, with-joins, put-room, lend-call, lend-lost, lend-done, one-of-lost}
+use Rattle.walk.proofs.CallsAreReady.{one-of-room, one-of-call, one-of-done, atom-lost, atom-call, atom-done, clause-here, head-ends}
+use Rattle.walk.proofs.CallsAreReady.{kind-seven, recipe-both, recipe-joins, recipe-call, condition-call, menu-clauses}
+use Rattle.walk.proofs.CallsAreReady.{menu-lost, menu-room, menu-call, menu-done, use-call, use-lost, use-done, behind-low}
 use Prim.Native.Nat.{ℕ, _<_}
 use borrow.Fn.Kinds.{In}
 use borrow.Fn.PlainCycle.{Measures, is, falls, and}
 use Rattle.walk.proofs.conditions.Reads as conditions
 use Rattle.walk.proofs.conditions.Kinds as conditions-kinds
-use Rattle.walk.proofs.+conditions+use_clause+walk+walk_atom+walk_lend+walk_tensor+walk_with.Lts-conditions as conditions-lts
+use Rattle.walk.proofs.+conditions+menu+use_clause+walk+walk_atom+walk_lend+walk_one_of+walk_tensor+walk_with.Lts-conditions as conditions-lts
+use Rattle.walk.proofs.menu.Reads as menu
+use Rattle.walk.proofs.menu.Kinds as menu-kinds
+use Rattle.walk.proofs.+conditions+menu+use_clause+walk+walk_atom+walk_lend+walk_one_of+walk_tensor+walk_with.Lts-menu as menu-lts
 use Rattle.walk.proofs.use_clause.Reads as use-clause
 use Rattle.walk.proofs.use_clause.Kinds as use-clause-kinds
-use Rattle.walk.proofs.+conditions+use_clause+walk+walk_atom+walk_lend+walk_tensor+walk_with.Lts-use_clause as use-clause-lts
+use Rattle.walk.proofs.+conditions+menu+use_clause+walk+walk_atom+walk_lend+walk_one_of+walk_tensor+walk_with.Lts-use_clause as use-clause-lts
 use Rattle.walk.proofs.walk.Reads as walk
 use Rattle.walk.proofs.walk.Kinds as walk-kinds
-use Rattle.walk.proofs.+conditions+use_clause+walk+walk_atom+walk_lend+walk_tensor+walk_with.Lts-walk as walk-lts
+use Rattle.walk.proofs.+conditions+menu+use_clause+walk+walk_atom+walk_lend+walk_one_of+walk_tensor+walk_with.Lts-walk as walk-lts
 use Rattle.walk.proofs.walk_atom.Reads as walk-atom
 use Rattle.walk.proofs.walk_atom.Kinds as walk-atom-kinds
-use Rattle.walk.proofs.+conditions+use_clause+walk+walk_atom+walk_lend+walk_tensor+walk_with.Lts-walk_atom as walk-atom-lts
+use Rattle.walk.proofs.+conditions+menu+use_clause+walk+walk_atom+walk_lend+walk_one_of+walk_tensor+walk_with.Lts-walk_atom as walk-atom-lts
 use Rattle.walk.proofs.walk_lend.Reads as walk-lend
 use Rattle.walk.proofs.walk_lend.Kinds as walk-lend-kinds
-use Rattle.walk.proofs.+conditions+use_clause+walk+walk_atom+walk_lend+walk_tensor+walk_with.Lts-walk_lend as walk-lend-lts
+use Rattle.walk.proofs.+conditions+menu+use_clause+walk+walk_atom+walk_lend+walk_one_of+walk_tensor+walk_with.Lts-walk_lend as walk-lend-lts
+use Rattle.walk.proofs.walk_one_of.Reads as walk-one-of
+use Rattle.walk.proofs.walk_one_of.Kinds as walk-one-of-kinds
+use Rattle.walk.proofs.+conditions+menu+use_clause+walk+walk_atom+walk_lend+walk_one_of+walk_tensor+walk_with.Lts-walk_one_of as walk-one-of-lts
 use Rattle.walk.proofs.walk_tensor.Reads as walk-tensor
 use Rattle.walk.proofs.walk_tensor.Kinds as walk-tensor-kinds
-use Rattle.walk.proofs.+conditions+use_clause+walk+walk_atom+walk_lend+walk_tensor+walk_with.Lts-walk_tensor as walk-tensor-lts
+use Rattle.walk.proofs.+conditions+menu+use_clause+walk+walk_atom+walk_lend+walk_one_of+walk_tensor+walk_with.Lts-walk_tensor as walk-tensor-lts
 use Rattle.walk.proofs.walk_with.Reads as walk-with
 use Rattle.walk.proofs.walk_with.Kinds as walk-with-kinds
-use Rattle.walk.proofs.+conditions+use_clause+walk+walk_atom+walk_lend+walk_tensor+walk_with.Lts-walk_with as walk-with-lts
+use Rattle.walk.proofs.+conditions+menu+use_clause+walk+walk_atom+walk_lend+walk_one_of+walk_tensor+walk_with.Lts-walk_with as walk-with-lts
 use Rattle.card.proofs.format.kind.Reads as kind-reads
 use Rattle.card.proofs.format.left.Reads as left-reads
 use Rattle.card.proofs.format.right.Reads as right-reads
 use Rattle.scope.proofs.put.Reads as put-reads
-use Rattle.summary.proofs.Branch.deeper.Reads as deeper-reads
+use Rattle.scope.proofs.usable.Reads as usable-reads
 use Rattle.summary.proofs.Branch.ended.Reads as ended-reads
 use Rattle.summary.proofs.Branch.lent.Reads as lent-reads
 use Rattle.summary.proofs.Branch.on.Reads as on-reads
+use Rattle.summary.proofs.Branch.stepped.Reads as stepped-reads
 use Rattle.summary.proofs.Summary.behind.Reads as behind-reads
 use Rattle.summary.proofs.Summary.beside.Reads as beside-reads
 use Rattle.summary.proofs.Summary.tensor.Reads as tensor-reads
 use Rattle.summary.proofs.Summary.without.Reads as without-reads
+use Rattle.summary.proofs.next_side.Reads as next-side-reads
 use Rattle.summary.proofs.next_step.Reads as next-step-reads
-use Rattle.walk.proofs.+conditions+use_clause+walk+walk_atom+walk_lend+walk_tensor+walk_with.{
+use Rattle.walk.proofs.+conditions+menu+use_clause+walk+walk_atom+walk_lend+walk_one_of+walk_tensor+walk_with.{
   statement,
 }
-use Rattle.walk.proofs.+conditions+use_clause+walk+walk_atom+walk_lend+walk_tensor+walk_with.Tie.{
+use Rattle.walk.proofs.+conditions+menu+use_clause+walk+walk_atom+walk_lend+walk_one_of+walk_tensor+walk_with.Tie.{
   close,
 }
 
 abbrev μ-conditions : Measures 4 conditions-kinds.ps ℕ
 μ-conditions κs a = weight (a .1 .1 .1 .1 .0) + 4 * (a .1 .1 .1 .1 .1 .1 .0) + 2
+
+abbrev μ-menu : Measures 4 menu-kinds.ps ℕ
+μ-menu κs a = weight (a .1 .1 .1 .1 .0) + 4 * (a .1 .1 .1 .1 .1 .1 .0) + 1
 
 abbrev μ-use-clause : Measures 4 use-clause-kinds.ps ℕ
 μ-use-clause κs a = weight (a .1 .1 .1 .1 .0)
@@ -72,6 +86,9 @@ abbrev μ-walk-atom : Measures 4 walk-atom-kinds.ps ℕ
 abbrev μ-walk-lend : Measures 4 walk-lend-kinds.ps ℕ
 μ-walk-lend κs a = weight (a .1 .1 .1 .1 .0) + 4 * (a .1 .1 .1 .1 .1 .0) + 2
 
+abbrev μ-walk-one-of : Measures 4 walk-one-of-kinds.ps ℕ
+μ-walk-one-of κs a = weight (a .1 .1 .1 .1 .0) + 4 * (a .1 .1 .1 .1 .1 .0) + 2
+
 abbrev μ-walk-tensor : Measures 4 walk-tensor-kinds.ps ℕ
 μ-walk-tensor κs a = weight (a .1 .1 .1 .1 .0) + 4 * (a .1 .1 .1 .1 .1 .0) + 2
 
@@ -83,6 +100,12 @@ conditions-at t = and 4 conditions-kinds.ps (is 4 conditions-kinds.ps μ-conditi
 
 abbrev conditions-below : ℕ → In 4 conditions-kinds.ps
 conditions-below t = and 4 conditions-kinds.ps (falls 4 conditions-kinds.ps _<_ μ-conditions t) conditions.Pre
+
+abbrev menu-at : ℕ → In 4 menu-kinds.ps
+menu-at t = and 4 menu-kinds.ps (is 4 menu-kinds.ps μ-menu t) menu.Pre
+
+abbrev menu-below : ℕ → In 4 menu-kinds.ps
+menu-below t = and 4 menu-kinds.ps (falls 4 menu-kinds.ps _<_ μ-menu t) menu.Pre
 
 abbrev use-clause-at : ℕ → In 4 use-clause-kinds.ps
 use-clause-at t = and 4 use-clause-kinds.ps (is 4 use-clause-kinds.ps μ-use-clause t) use-clause.Pre
@@ -108,6 +131,12 @@ walk-lend-at t = and 4 walk-lend-kinds.ps (is 4 walk-lend-kinds.ps μ-walk-lend 
 abbrev walk-lend-below : ℕ → In 4 walk-lend-kinds.ps
 walk-lend-below t = and 4 walk-lend-kinds.ps (falls 4 walk-lend-kinds.ps _<_ μ-walk-lend t) walk-lend.Pre
 
+abbrev walk-one-of-at : ℕ → In 4 walk-one-of-kinds.ps
+walk-one-of-at t = and 4 walk-one-of-kinds.ps (is 4 walk-one-of-kinds.ps μ-walk-one-of t) walk-one-of.Pre
+
+abbrev walk-one-of-below : ℕ → In 4 walk-one-of-kinds.ps
+walk-one-of-below t = and 4 walk-one-of-kinds.ps (falls 4 walk-one-of-kinds.ps _<_ μ-walk-one-of t) walk-one-of.Pre
+
 abbrev walk-tensor-at : ℕ → In 4 walk-tensor-kinds.ps
 walk-tensor-at t = and 4 walk-tensor-kinds.ps (is 4 walk-tensor-kinds.ps μ-walk-tensor t) walk-tensor.Pre
 
@@ -126,6 +155,8 @@ conditions-claims t = (
   kind-reads.Learnt,
   ended-reads.Asked,
   ended-reads.Learnt,
+  menu-below t,
+  menu.Post,
   right-reads.Asked,
   right-reads.Learnt,
   conditions-below t,
@@ -140,10 +171,26 @@ conditions-claims t = (
   tensor-reads.Learnt,
 )
 
+abbrev menu-claims : ℕ → menu-lts.Claims
+menu-claims t = (
+  left-reads.Asked,
+  left-reads.Learnt,
+  usable-reads.Asked,
+  usable-reads.Learnt,
+  right-reads.Asked,
+  right-reads.Learnt,
+  next-side-reads.Asked,
+  next-side-reads.Learnt,
+  stepped-reads.Asked,
+  stepped-reads.Learnt,
+  conditions-below t,
+  conditions.Post,
+)
+
 abbrev use-clause-claims : ℕ → use-clause-lts.Claims
 use-clause-claims t = (
-  deeper-reads.Asked,
-  deeper-reads.Learnt,
+  stepped-reads.Asked,
+  stepped-reads.Learnt,
   conditions-below t,
   conditions.Post,
   behind-reads.Asked,
@@ -164,6 +211,8 @@ walk-claims t = (
   walk-with.Post,
   walk-lend-below t,
   walk-lend.Post,
+  walk-one-of-below t,
+  walk-one-of.Post,
 )
 
 abbrev walk-atom-claims : ℕ → walk-atom-lts.Claims
@@ -190,6 +239,16 @@ walk-lend-claims t = (
   walk.Post,
   without-reads.Asked,
   without-reads.Learnt,
+)
+
+abbrev walk-one-of-claims : ℕ → walk-one-of-lts.Claims
+walk-one-of-claims t = (
+  next-side-reads.Asked,
+  next-side-reads.Learnt,
+  stepped-reads.Asked,
+  stepped-reads.Learnt,
+  walk-below t,
+  walk.Post,
 )
 
 abbrev walk-tensor-claims : ℕ → walk-tensor-lts.Claims
@@ -233,20 +292,38 @@ conditions-returns t c =
     let at-then1 = c .before in
     let at-kind = at-then1 .before in
     let start = at-kind .before .before .before in
-    head-ends (start .pre .1 .0) _ _ (start .pre .1 .1) (λ q. at-then1 .if1 .taken (at-kind .kind .ensures .0 ∙ q)) _ (c .ended .ensures)
+    head-ends (start .pre .1 .0) _ _ (start .pre .1 .1) (sym (at-kind .kind .ensures .0) ∙ at-then1 .if1 .taken) _ (c .ended .ensures)
+
+conditions-menu-requires : (t : ℕ) → conditions-lts.Need-menu-requires (conditions-claims t) (conditions-at t) conditions.Post
+conditions-menu-requires t c κs =
+    let at-then2 = c .before .before in
+    let at-kind = at-then2 .before .before in
+    let start = at-kind .before .before .before in
+    (omega (arith, start .pre .0), (start .pre .1 .0, (start .pre .1 .1, sym (at-kind .kind .ensures .0) ∙ at-then2 .if2 .taken)))
+
+conditions-returns-2 : (t : ℕ) → conditions-lts.Need-returns-2 (conditions-claims t) (conditions-at t) conditions.Post
+conditions-returns-2 t c = c .menu .ensures
+
+-- what is neither a head nor a menu is a recipe
+is-recipe : (t : ℕ) (c : conditions-lts.Else2 (conditions-claims t) (conditions-at t) conditions.Post)
+    → kindAt (c .before .before .before .before .before .args .card .now) (c .before .before .before .before .before .args .node) ≡ 7
+is-recipe t c =
+    let at-kind = c .before .before in
+    let start = at-kind .before .before .before in
+    kind-seven (start .pre .1 .0) _ _ (start .pre .1 .1) (λ q. c .before .if1 .left (at-kind .kind .ensures .0 ∙ q))
+    (λ q. c .if2 .left (at-kind .kind .ensures .0 ∙ q))
 
 conditions-right-requires : (t : ℕ) → conditions-lts.Need-right-requires (conditions-claims t) (conditions-at t) conditions.Post
 conditions-right-requires t c κs =
-    let start = c .before .before .before .before in
+    let start = c .before .before .before .before .before in
     clause-here (start .pre .1 .0) _ _ (start .pre .1 .1)
 
 conditions-conditions-requires : (t : ℕ) → conditions-lts.Need-conditions-requires (conditions-claims t) (conditions-at t) conditions.Post
 conditions-conditions-requires t c κs =
     let at-right = c .before .before in
-    let at-else1 = at-right .before in
-    let at-kind = at-else1 .before in
-    let start = at-kind .before .before .before in
-    recipe-call (start .pre .1 .0) _ _ (start .pre .1 .1) (sym (at-kind .kind .ensures .0) ∙ at-else1 .if1 .left) t (start .pre .0) _
+    let at-else2 = at-right .before in
+    let start = at-else2 .before .before .before .before .before in
+    recipe-call (start .pre .1 .0) _ _ (start .pre .1 .1) (is-recipe t at-else2) t (start .pre .0) _
     (at-right .right .ensures .0)
 
 conditions-enum-known-first : (t : ℕ) → conditions-lts.Need-enum-known-first (conditions-claims t) (conditions-at t) conditions.Post
@@ -255,19 +332,18 @@ conditions-enum-known-first t c = c .match .keys1
 conditions-enum-told : (t : ℕ) → conditions-lts.Need-enum-told (conditions-claims t) (conditions-at t) conditions.Post
 conditions-enum-told t c = c .match .keys2
 
-conditions-returns-2 : (t : ℕ) → conditions-lts.Need-returns-2 (conditions-claims t) (conditions-at t) conditions.Post
-conditions-returns-2 t c =
+conditions-returns-3 : (t : ℕ) → conditions-lts.Need-returns-3 (conditions-claims t) (conditions-at t) conditions.Post
+conditions-returns-3 t c =
     let at-conditions = c .before .before in
     let at-right = at-conditions .before .before .before in
-    let at-else1 = at-right .before in
-    let at-kind = at-else1 .before in
-    let start = at-kind .before .before .before in
-    first-lost (start .pre .1 .0) (recipe-both (start .pre .1 .0) _ _ (start .pre .1 .1) (sym (at-kind .kind .ensures .0) ∙ at-else1
-    .if1 .left) _ (at-right .right .ensures .0) _ refl) (c .enum-told .given .1) (at-conditions .conditions .ensures)
+    let at-else2 = at-right .before in
+    let start = at-else2 .before .before .before .before .before in
+    first-lost (start .pre .1 .0) (recipe-both (start .pre .1 .0) _ _ (start .pre .1 .1) (is-recipe t at-else2) _ (at-right .right
+    .ensures .0) _ refl) (c .enum-told .given .1) (at-conditions .conditions .ensures)
 
 conditions-left-requires : (t : ℕ) → conditions-lts.Need-left-requires (conditions-claims t) (conditions-at t) conditions.Post
 conditions-left-requires t c κs =
-    let start = c .before .before .before .before .before .before .before .before .before .before .before in
+    let start = c .before .before .before .before .before .before .before .before .before .before .before .before in
     clause-here (start .pre .1 .0) _ _ (start .pre .1 .1)
 
 conditions-on-requires : (t : ℕ) → conditions-lts.Need-on-requires (conditions-claims t) (conditions-at t) conditions.Post
@@ -278,10 +354,9 @@ conditions-walk-requires t c κs =
     let at-left = c .before .before .before in
     let at-first = at-left .before .before in
     let at-conditions = at-first .before .before in
-    let at-else1 = at-conditions .before .before .before .before in
-    let at-kind = at-else1 .before in
-    let start = at-kind .before .before .before in
-    condition-call (start .pre .1 .0) _ _ (start .pre .1 .1) (sym (at-kind .kind .ensures .0) ∙ at-else1 .if1 .left) _ (at-first .first
+    let at-else2 = at-conditions .before .before .before .before in
+    let start = at-else2 .before .before .before .before .before in
+    condition-call (start .pre .1 .0) _ _ (start .pre .1 .1) (is-recipe t at-else2) _ (at-first .first
     .given .1) (at-conditions .conditions .ensures) t (start .pre .0) _ (at-left .left .ensures .0) _ (c .on .ensures)
 
 conditions-enum-known-second : (t : ℕ) → conditions-lts.Need-enum-known-second (conditions-claims t) (conditions-at t) conditions.Post
@@ -290,26 +365,25 @@ conditions-enum-known-second t c = c .match2 .keys1
 conditions-enum-told-2 : (t : ℕ) → conditions-lts.Need-enum-told-2 (conditions-claims t) (conditions-at t) conditions.Post
 conditions-enum-told-2 t c = c .match2 .keys2
 
-conditions-returns-3 : (t : ℕ) → conditions-lts.Need-returns-3 (conditions-claims t) (conditions-at t) conditions.Post
-conditions-returns-3 t c =
+conditions-returns-4 : (t : ℕ) → conditions-lts.Need-returns-4 (conditions-claims t) (conditions-at t) conditions.Post
+conditions-returns-4 t c =
     let at-walk = c .before .before in
     let at-on = at-walk .before in
     let at-left = at-on .before .before .before in
     let at-first = at-left .before .before in
     let at-conditions = at-first .before .before in
     let at-right = at-conditions .before .before .before in
-    let at-else1 = at-right .before in
-    let at-kind = at-else1 .before in
-    let start = at-kind .before .before .before in
+    let at-else2 = at-right .before in
+    let start = at-else2 .before .before .before .before .before in
     run-lost (start .pre .1 .0) _ (at-first .first .given .1) (at-conditions .conditions .ensures) _ (at-on .on .ensures) (at-walk .walk
-    .ensures) (recipe-both (start .pre .1 .0) _ _ (start .pre .1 .1) (sym (at-kind .kind .ensures .0) ∙ at-else1 .if1 .left) _
+    .ensures) (recipe-both (start .pre .1 .0) _ _ (start .pre .1 .1) (is-recipe t at-else2) _
     (at-right .right .ensures .0) _ (at-left .left .ensures .0)) (c .enum-told2 .given .1)
 
 conditions-tensor-requires : (t : ℕ) → conditions-lts.Need-tensor-requires (conditions-claims t) (conditions-at t) conditions.Post
 conditions-tensor-requires t c κs = tt
 
-conditions-returns-4 : (t : ℕ) → conditions-lts.Need-returns-4 (conditions-claims t) (conditions-at t) conditions.Post
-conditions-returns-4 t c =
+conditions-returns-5 : (t : ℕ) → conditions-lts.Need-returns-5 (conditions-claims t) (conditions-at t) conditions.Post
+conditions-returns-5 t c =
     let at-second = c .before .before in
     let at-walk = at-second .before .before in
     let at-on = at-walk .before in
@@ -317,13 +391,93 @@ conditions-returns-4 t c =
     let at-first = at-left .before .before in
     let at-conditions = at-first .before .before in
     let at-right = at-conditions .before .before .before in
-    let at-else1 = at-right .before in
-    let at-kind = at-else1 .before in
-    let start = at-kind .before .before .before in
+    let at-else2 = at-right .before in
+    let start = at-else2 .before .before .before .before .before in
     run-tensor (start .pre .1 .0) _ (at-first .first .given .1) (at-conditions .conditions .ensures) _ (at-on .on .ensures) (at-walk
     .walk .ensures) _ (at-second .second .given .1) (c .tensor .ensures .1 .0) (c .tensor .ensures .1 .1) _ (c .tensor .ensures .0)
-    (recipe-joins (start .pre .1 .0) _ _ (start .pre .1 .1) (sym (at-kind .kind .ensures .0) ∙ at-else1 .if1 .left) _ (at-right .right
+    (recipe-joins (start .pre .1 .0) _ _ (start .pre .1 .1) (is-recipe t at-else2) _ (at-right .right
     .ensures .0) _ (at-left .left .ensures .0))
+
+menu-left-requires : (t : ℕ) → menu-lts.Need-left-requires (menu-claims t) (menu-at t) menu.Post
+menu-left-requires t c κs =
+    let start = c .before .before in
+    clause-here (start .pre .1 .0) _ _ (start .pre .1 .1 .0)
+
+menu-usable-requires : (t : ℕ) → menu-lts.Need-usable-requires (menu-claims t) (menu-at t) menu.Post
+menu-usable-requires t c κs =
+    let start = c .before .before .before in
+    (start .pre .1 .0 .sound, rw (c .left .ensures .0) (menu-clauses (start .pre .1 .0) _ _ (start .pre .1 .1 .0) (start .pre .1 .1 .1) .0))
+
+menu-right-requires : (t : ℕ) → menu-lts.Need-right-requires (menu-claims t) (menu-at t) menu.Post
+menu-right-requires t c κs =
+    let start = c .before .before .before .before in
+    clause-here (start .pre .1 .0) _ _ (start .pre .1 .1 .0)
+
+menu-usable-requires-2 : (t : ℕ) → menu-lts.Need-usable-requires-2 (menu-claims t) (menu-at t) menu.Post
+menu-usable-requires-2 t c κs =
+    let start = c .before .before .before .before .before in
+    (start .pre .1 .0 .sound, rw (c .right .ensures .0) (menu-clauses (start .pre .1 .0) _ _ (start .pre .1 .1 .0) (start .pre .1 .1 .1) .1))
+
+-- what the two tests of the parts say
+tested : (t : ℕ) (c : menu-lts.After-usable2 (menu-claims t) (menu-at t) menu.Post)
+    → (let start = c .before .before .before .before .before .before in
+    Fitting (start .args .card .now) (start .args .name) (start .args .node) (c .before .before .usable .result) (c .usable2 .result))
+tested t c =
+    let at-right = c .before in
+    let at-first = at-right .before in
+    let at-left = at-first .before in
+    let start = at-left .before .before .before in
+    let bs = start .args .card .now in
+    let fits : ℕ → Bool = λ n. usable (scopeOf bs .fits) (start .args .name) (clauseOf bs n) in record {
+      left-fits = at-first .usable .ensures ∙ ap fits (at-left .left .ensures .0);
+      right-fits = c .usable2 .ensures ∙ ap fits (at-right .right .ensures .0);
+    }
+
+menu-next-side-requires : (t : ℕ) → menu-lts.Need-next-side-requires (menu-claims t) (menu-at t) menu.Post
+menu-next-side-requires t c κs =
+    let start = c .before .before .before .before .before .before in (
+      clause-here (start .pre .1 .0) _ _ (start .pre .1 .1 .0),
+      (start .pre .1 .0 .at, (start .pre .1 .0 .given, start .pre .1 .0 .short)),
+    )
+
+menu-enum-known-next : (t : ℕ) → menu-lts.Need-enum-known-next (menu-claims t) (menu-at t) menu.Post
+menu-enum-known-next t c = c .match .keys1
+
+menu-stepped-requires : (t : ℕ) → menu-lts.Need-stepped-requires (menu-claims t) (menu-at t) menu.Post
+menu-stepped-requires t c κs =
+    let at-next = c .before .before .before in
+    let at-side = at-next .before .before in
+    let start = at-side .before .before .before .before .before .before .before in
+    menu-room (start .pre .1 .0) _ _ (start .pre .1 .1 .0) (start .pre .1 .1 .1) (tested t (at-side .before)) (at-side .next-side .ensures) _
+    (at-next .next .given .1)
+
+menu-conditions-requires : (t : ℕ) → menu-lts.Need-conditions-requires (menu-claims t) (menu-at t) menu.Post
+menu-conditions-requires t c κs =
+    let at-next = c .before .before .before .before in
+    let at-side = at-next .before .before in
+    let start = at-side .before .before .before .before .before .before .before in
+    menu-call (start .pre .1 .0) _ _ (start .pre .1 .1 .0) (start .pre .1 .1 .1) (tested t (at-side .before)) (at-side .next-side .ensures) _
+    (at-next .next .given .1) _ (c .stepped .ensures) t (start .pre .0)
+
+menu-enum-known-next-2 : (t : ℕ) → menu-lts.Need-enum-known-next-2 (menu-claims t) (menu-at t) menu.Post
+menu-enum-known-next-2 t c = c .match .keys2
+
+menu-returns : (t : ℕ) → menu-lts.Need-returns (menu-claims t) (menu-at t) menu.Post
+menu-returns t c =
+    let at-stepped = c .before in
+    let at-next = at-stepped .before .before .before .before in
+    let at-side = at-next .before .before in
+    let start = at-side .before .before .before .before .before .before .before in
+    menu-done (start .pre .1 .0) _ _ (start .pre .1 .1 .0) (start .pre .1 .1 .1) (tested t (at-side .before)) (at-side .next-side .ensures) _
+    (at-next .next .given .1) _ (at-stepped .stepped .ensures) (c .conditions .ensures)
+
+menu-returns-2 : (t : ℕ) → menu-lts.Need-returns-2 (menu-claims t) (menu-at t) menu.Post
+menu-returns-2 t c =
+    let at-next = c .before in
+    let at-side = at-next .before .before in
+    let start = at-side .before .before .before .before .before .before .before in
+    menu-lost (start .pre .1 .0) _ _ (start .pre .1 .1 .0) (start .pre .1 .1 .1) (tested t (at-side .before)) (at-side .next-side .ensures)
+    (at-next .next2 .given .1)
 
 use-clause-mul-node : (t : ℕ) → use-clause-lts.Need-mul-node (use-clause-claims t) (use-clause-at t) use-clause.Post
 use-clause-mul-node t c =
@@ -356,8 +510,8 @@ use-clause-element-copy-out-gone t c =
     let f = sound-front _ (start .pre .1 .0 .sound) in
     omega (arith, few, in-it, f .rules, f .lines)
 
-use-clause-deeper-requires : (t : ℕ) → use-clause-lts.Need-deeper-requires (use-clause-claims t) (use-clause-at t) use-clause.Post
-use-clause-deeper-requires t c κs =
+use-clause-stepped-requires : (t : ℕ) → use-clause-lts.Need-stepped-requires (use-clause-claims t) (use-clause-at t) use-clause.Post
+use-clause-stepped-requires t c κs =
     let start = c .before .before .before .before .before .before in
     let room = start .pre .1 .1 .0 .room in
     let short = start .pre .1 .0 .short in
@@ -366,7 +520,7 @@ use-clause-deeper-requires t c κs =
 use-clause-conditions-requires : (t : ℕ) → use-clause-lts.Need-conditions-requires (use-clause-claims t) (use-clause-at t) use-clause.Post
 use-clause-conditions-requires t c κs =
     let start = c .before .before .before .before .before .before .before in
-    use-call (start .pre .1 .0) _ _ (start .pre .1 .1 .0) (start .pre .1 .1 .1) t (start .pre .0) _ refl _ (c .deeper .ensures)
+    use-call (start .pre .1 .0) _ _ (start .pre .1 .1 .0) (start .pre .1 .1 .1) t (start .pre .0) _ refl _ (c .stepped .ensures)
 
 use-clause-enum-known-inner : (t : ℕ) → use-clause-lts.Need-enum-known-inner (use-clause-claims t) (use-clause-at t) use-clause.Post
 use-clause-enum-known-inner t c = c .match .keys1
@@ -377,9 +531,9 @@ use-clause-enum-told t c = c .match .keys2
 use-clause-returns : (t : ℕ) → use-clause-lts.Need-returns (use-clause-claims t) (use-clause-at t) use-clause.Post
 use-clause-returns t c =
     let at-conditions = c .before .before in
-    let at-deeper = at-conditions .before in
-    let start = at-deeper .before .before .before .before .before .before .before in
-    use-lost (start .pre .1 .0) _ _ (start .pre .1 .1 .0) _ refl _ (at-deeper .deeper .ensures) (at-conditions .conditions .ensures) (c
+    let at-stepped = at-conditions .before in
+    let start = at-stepped .before .before .before .before .before .before .before in
+    use-lost (start .pre .1 .0) _ _ (start .pre .1 .1 .0) _ refl _ (at-stepped .stepped .ensures) (at-conditions .conditions .ensures) (c
     .enum-told .given .1)
 
 use-clause-behind-requires : (t : ℕ) → use-clause-lts.Need-behind-requires (use-clause-claims t) (use-clause-at t) use-clause.Post
@@ -391,9 +545,9 @@ use-clause-returns-2 : (t : ℕ) → use-clause-lts.Need-returns-2 (use-clause-c
 use-clause-returns-2 t c =
     let at-inner = c .before .before in
     let at-conditions = at-inner .before .before in
-    let at-deeper = at-conditions .before in
-    let start = at-deeper .before .before .before .before .before .before .before in
-    use-done (start .pre .1 .0) _ _ (start .pre .1 .1 .0) _ refl _ (at-deeper .deeper .ensures) (at-conditions .conditions .ensures) _ _
+    let at-stepped = at-conditions .before in
+    let start = at-stepped .before .before .before .before .before .before .before in
+    use-done (start .pre .1 .0) _ _ (start .pre .1 .1 .0) _ refl _ (at-stepped .stepped .ensures) (at-conditions .conditions .ensures) _ _
     (at-inner .inner .given .1) _ refl (c .behind .ensures)
 
 walk-kind-requires : (t : ℕ) → walk-lts.Need-kind-requires (walk-claims t) (walk-at t) walk.Post
@@ -403,19 +557,10 @@ walk-kind-requires t c κs =
 
 walk-walk-atom-requires : (t : ℕ) → walk-lts.Need-walk-atom-requires (walk-claims t) (walk-at t) walk.Post
 walk-walk-atom-requires t c κs =
-    let at-match-keys1 = c .before .before in
-    let at-kind = at-match-keys1 .before in
-    let start = at-kind .before .before .before in (
-      omega (arith, (start .pre .0)),
-      (
-        (start .pre .1 .0),
-        (
-          (start .pre .1 .1),
-          sym (at-kind .kind .ensures .0) ∙ at-match-keys1 .match
-              .keys1,
-        ),
-      ),
-    )
+    let at-keys1 = c .before .before in
+    let at-kind = at-keys1 .before in
+    let start = at-kind .before .before .before in
+    (omega (arith, start .pre .0), (start .pre .1 .0, (start .pre .1 .1, sym (at-kind .kind .ensures .0) ∙ at-keys1 .match .keys1)))
 
 walk-ended-requires : (t : ℕ) → walk-lts.Need-ended-requires (walk-claims t) (walk-at t) walk.Post
 walk-ended-requires t c κs = tt
@@ -425,53 +570,34 @@ walk-ended-requires-2 t c κs = tt
 
 walk-walk-tensor-requires : (t : ℕ) → walk-lts.Need-walk-tensor-requires (walk-claims t) (walk-at t) walk.Post
 walk-walk-tensor-requires t c κs =
-    let at-match-keys4 = c .before .before in
-    let at-kind = at-match-keys4 .before in
-    let start = at-kind .before .before .before in (
-      omega (arith, (start .pre .0)),
-      (
-        (start .pre .1 .0),
-        (
-          (start .pre .1 .1),
-          sym (at-kind .kind .ensures .0) ∙ at-match-keys4 .match
-              .keys4,
-        ),
-      ),
-    )
+    let at-keys4 = c .before .before in
+    let at-kind = at-keys4 .before in
+    let start = at-kind .before .before .before in
+    (omega (arith, start .pre .0), (start .pre .1 .0, (start .pre .1 .1, sym (at-kind .kind .ensures .0) ∙ at-keys4 .match .keys4)))
 
 walk-walk-with-requires : (t : ℕ) → walk-lts.Need-walk-with-requires (walk-claims t) (walk-at t) walk.Post
 walk-walk-with-requires t c κs =
-    let at-match-keys5 = c .before .before in
-    let at-kind = at-match-keys5 .before in
-    let start = at-kind .before .before .before in (
-      omega (arith, (start .pre .0)),
-      (
-        (start .pre .1 .0),
-        (
-          (start .pre .1 .1),
-          sym (at-kind .kind .ensures .0) ∙ at-match-keys5 .match
-              .keys5,
-        ),
-      ),
-    )
+    let at-keys5 = c .before .before in
+    let at-kind = at-keys5 .before in
+    let start = at-kind .before .before .before in
+    (omega (arith, start .pre .0), (start .pre .1 .0, (start .pre .1 .1, sym (at-kind .kind .ensures .0) ∙ at-keys5 .match .keys5)))
 
 walk-walk-lend-requires : (t : ℕ) → walk-lts.Need-walk-lend-requires (walk-claims t) (walk-at t) walk.Post
 walk-walk-lend-requires t c κs =
-    let at-match-rest = c .before .before in
-    let at-kind = at-match-rest .before in
-    let start = at-kind .before .before .before in (
-      omega (arith, (start .pre .0)),
-      (
-        (start .pre .1 .0),
-        (
-          (start .pre .1 .1),
-          kind-six (start .pre .1 .0) _ (start .pre .1 .1) (λ q.
-              at-match-rest .match .rest .0 .0 .0 .0 .1 (at-kind .kind .ensures .0 ∙ q)) (λ q. at-match-rest .match .rest .0 .0 .0 .1 (at-kind
-              .kind .ensures .0 ∙ q)) (λ q. at-match-rest .match .rest .0 .0 .1 (at-kind .kind .ensures .0 ∙ q)) (λ q. at-match-rest .match .rest
-              .0 .1 (at-kind .kind .ensures .0 ∙ q)) (λ q. at-match-rest .match .rest .1 (at-kind .kind .ensures .0 ∙ q)),
-        ),
-      ),
-    )
+    let at-keys6 = c .before .before in
+    let at-kind = at-keys6 .before in
+    let start = at-kind .before .before .before in
+    (omega (arith, start .pre .0), (start .pre .1 .0, (start .pre .1 .1, sym (at-kind .kind .ensures .0) ∙ at-keys6 .match .keys6)))
+
+walk-walk-one-of-requires : (t : ℕ) → walk-lts.Need-walk-one-of-requires (walk-claims t) (walk-at t) walk.Post
+walk-walk-one-of-requires t c κs =
+    let at-keys7 = c .before .before in
+    let at-kind = at-keys7 .before in
+    let start = at-kind .before .before .before in
+    (omega (arith, start .pre .0), (start .pre .1 .0, (start .pre .1 .1, sym (at-kind .kind .ensures .0) ∙ at-keys7 .match .keys7)))
+
+walk-ended-requires-3 : (t : ℕ) → walk-lts.Need-ended-requires-3 (walk-claims t) (walk-at t) walk.Post
+walk-ended-requires-3 t c κs = tt
 
 walk-returns : (t : ℕ) → walk-lts.Need-returns (walk-claims t) (walk-at t) walk.Post
 walk-returns t c = c .walk-atom .ensures
@@ -500,6 +626,21 @@ walk-returns-5 t c = c .walk-with .ensures
 
 walk-returns-6 : (t : ℕ) → walk-lts.Need-returns-6 (walk-claims t) (walk-at t) walk.Post
 walk-returns-6 t c = c .walk-lend .ensures
+
+walk-returns-7 : (t : ℕ) → walk-lts.Need-returns-7 (walk-claims t) (walk-at t) walk.Post
+walk-returns-7 t c = c .walk-one-of .ensures
+
+walk-returns-8 : (t : ℕ) → walk-lts.Need-returns-8 (walk-claims t) (walk-at t) walk.Post
+walk-returns-8 t c =
+    let at-rest = c .before in
+    let at-kind = at-rest .before in
+    let start = at-kind .before .before .before in
+    let is = at-kind .kind .ensures .0 in
+    let rest = at-rest .match .rest in
+    never-ends (start .pre .1 .0) _ (start .pre .1 .1)
+    (kind-nine (start .pre .1 .0) _ (start .pre .1 .1) (λ q. rest .0 .0 .0 .0 .0 .0 .1 (is ∙ q)) (λ q. rest .0 .0 .0 .0 .0 .1 (is ∙ q))
+    (λ q. rest .0 .0 .0 .0 .1 (is ∙ q)) (λ q. rest .0 .0 .0 .1 (is ∙ q)) (λ q. rest .0 .0 .1 (is ∙ q)) (λ q. rest .0 .1 (is ∙ q))
+    (λ q. rest .1 (is ∙ q))) _ (c .ended3 .ensures)
 
 walk-atom-left-requires : (t : ℕ) → walk-atom-lts.Need-left-requires (walk-atom-claims t) (walk-atom-at t) walk-atom.Post
 walk-atom-left-requires t c κs =
@@ -613,6 +754,50 @@ walk-lend-returns-2 t c =
     (at-put .put .ensures .1) _ (at-lent .lent .ensures) _ (at-right .right .ensures .0) (at-walk .walk .ensures) _ _ (at-inner .inner
     .given .1) (c .without .ensures)
 
+walk-one-of-next-side-requires : (t : ℕ) → walk-one-of-lts.Need-next-side-requires (walk-one-of-claims t) (walk-one-of-at t) walk-one-of.Post
+walk-one-of-next-side-requires t c κs =
+    let start = c .before .before in (
+      goal-here (start .pre .1 .0) _ (start .pre .1 .1 .0),
+      (start .pre .1 .0 .at, (start .pre .1 .0 .given, start .pre .1 .0 .short)),
+    )
+
+walk-one-of-enum-known-next : (t : ℕ) → walk-one-of-lts.Need-enum-known-next (walk-one-of-claims t) (walk-one-of-at t) walk-one-of.Post
+walk-one-of-enum-known-next t c = c .match .keys1
+
+walk-one-of-stepped-requires : (t : ℕ) → walk-one-of-lts.Need-stepped-requires (walk-one-of-claims t) (walk-one-of-at t) walk-one-of.Post
+walk-one-of-stepped-requires t c κs =
+    let at-next = c .before .before .before in
+    let at-side = at-next .before .before in
+    let start = at-side .before .before .before in
+    one-of-room (start .pre .1 .0) _ (start .pre .1 .1 .0) (start .pre .1 .1 .1) (at-side .next-side .ensures) _ (at-next .next .given .1)
+
+walk-one-of-walk-requires : (t : ℕ) → walk-one-of-lts.Need-walk-requires (walk-one-of-claims t) (walk-one-of-at t) walk-one-of.Post
+walk-one-of-walk-requires t c κs =
+    let at-next = c .before .before .before .before in
+    let at-side = at-next .before .before in
+    let start = at-side .before .before .before in
+    one-of-call (start .pre .1 .0) _ (start .pre .1 .1 .0) (start .pre .1 .1 .1) (at-side .next-side .ensures) _ (at-next .next .given .1) _
+    (c .stepped .ensures) t (start .pre .0)
+
+walk-one-of-enum-known-next-2 : (t : ℕ) → walk-one-of-lts.Need-enum-known-next-2 (walk-one-of-claims t) (walk-one-of-at t) walk-one-of.Post
+walk-one-of-enum-known-next-2 t c = c .match .keys2
+
+walk-one-of-returns : (t : ℕ) → walk-one-of-lts.Need-returns (walk-one-of-claims t) (walk-one-of-at t) walk-one-of.Post
+walk-one-of-returns t c =
+    let at-stepped = c .before in
+    let at-next = at-stepped .before .before .before .before in
+    let at-side = at-next .before .before in
+    let start = at-side .before .before .before in
+    one-of-done (start .pre .1 .0) _ (start .pre .1 .1 .0) (start .pre .1 .1 .1) (at-side .next-side .ensures) _ (at-next .next .given .1) _
+    (at-stepped .stepped .ensures) (c .walk .ensures)
+
+walk-one-of-returns-2 : (t : ℕ) → walk-one-of-lts.Need-returns-2 (walk-one-of-claims t) (walk-one-of-at t) walk-one-of.Post
+walk-one-of-returns-2 t c =
+    let at-next = c .before in
+    let at-side = at-next .before .before in
+    let start = at-side .before .before .before in
+    one-of-lost (start .pre .1 .0) _ (start .pre .1 .1 .0) (start .pre .1 .1 .1) (at-side .next-side .ensures) (at-next .next2 .given .1)
+
 walk-tensor-left-requires : (t : ℕ) → walk-tensor-lts.Need-left-requires (walk-tensor-claims t) (walk-tensor-at t) walk-tensor.Post
 walk-tensor-left-requires t c κs =
     let start = c .before .before in
@@ -623,7 +808,7 @@ walk-tensor-walk-requires t c κs =
     let at-left = c .before .before in
     let start = at-left .before .before .before in
     let parts = tensor-parts (start .pre .1 .0) _ (start .pre .1 .1 .0) (start .pre .1 .1 .1) in
-    left-call (start .pre .1 .0) _ (start .pre .1 .1 .0) (parts .0) (parts .1) (parts .2) t (start .pre .0) _ (at-left .left .ensures .0)
+    left-call (start .pre .1 .0) _ (start .pre .1 .1 .0) (parts .0) (parts .1) (parts .2) (parts .3) t (start .pre .0) _ (at-left .left .ensures .0)
 
 walk-tensor-enum-known-first : (t : ℕ) → walk-tensor-lts.Need-enum-known-first (walk-tensor-claims t) (walk-tensor-at t) walk-tensor.Post
 walk-tensor-enum-known-first t c = c .match .keys1
@@ -654,7 +839,7 @@ walk-tensor-walk-requires-2 t c κs =
     let at-walk = at-first .before .before in
     let start = at-walk .before .before .before .before .before .before in
     let parts = tensor-parts (start .pre .1 .0) _ (start .pre .1 .1 .0) (start .pre .1 .1 .1) in
-    right-call (start .pre .1 .0) _ (start .pre .1 .1 .0) (parts .0) (parts .1) (parts .2) _ (at-first .first .given .1) (at-walk .walk
+    right-call (start .pre .1 .0) _ (start .pre .1 .1 .0) (parts .0) (parts .1) (parts .2) (parts .3) _ (at-first .first .given .1) (at-walk .walk
     .ensures) t (start .pre .0) _ (at-right .right .ensures .0) _ (c .on .ensures)
 
 walk-tensor-enum-known-second : (t : ℕ) → walk-tensor-lts.Need-enum-known-second (walk-tensor-claims t) (walk-tensor-at t) walk-tensor.Post
@@ -704,7 +889,7 @@ walk-with-walk-requires t c κs =
     let at-left = c .before .before in
     let start = at-left .before .before .before in
     let parts = with-parts (start .pre .1 .0) _ (start .pre .1 .1 .0) (start .pre .1 .1 .1) in
-    left-call (start .pre .1 .0) _ (start .pre .1 .1 .0) (parts .0) (parts .1) (parts .2) t (start .pre .0) _ (at-left .left .ensures .0)
+    left-call (start .pre .1 .0) _ (start .pre .1 .1 .0) (parts .0) (parts .1) (parts .2) (parts .3) t (start .pre .0) _ (at-left .left .ensures .0)
 
 walk-with-enum-known-first : (t : ℕ) → walk-with-lts.Need-enum-known-first (walk-with-claims t) (walk-with-at t) walk-with.Post
 walk-with-enum-known-first t c = c .match .keys1
@@ -735,7 +920,7 @@ walk-with-walk-requires-2 t c κs =
     let at-walk = at-first .before .before in
     let start = at-walk .before .before .before .before .before .before in
     let parts = with-parts (start .pre .1 .0) _ (start .pre .1 .1 .0) (start .pre .1 .1 .1) in
-    right-call (start .pre .1 .0) _ (start .pre .1 .1 .0) (parts .0) (parts .1) (parts .2) _ (at-first .first .given .1) (at-walk .walk
+    right-call (start .pre .1 .0) _ (start .pre .1 .1 .0) (parts .0) (parts .1) (parts .2) (parts .3) _ (at-first .first .given .1) (at-walk .walk
     .ensures) t (start .pre .0) _ (at-right .right .ensures .0) _ (c .on .ensures)
 
 walk-with-enum-known-second : (t : ℕ) → walk-with-lts.Need-enum-known-second (walk-with-claims t) (walk-with-at t) walk-with.Post
@@ -774,15 +959,17 @@ walk-with-returns-3 t c =
     _ (at-second .second .given .1) (c .beside .ensures .1 .0) (c .beside .ensures .1 .1) _ (c .beside .ensures .0) (with-joins (start
     .pre .1 .0) _ (start .pre .1 .1 .0) _ (at-left .left .ensures .0) _ (at-right .right .ensures .0) (start .pre .1 .1 .1))
 
-pub +conditions+use-clause+walk+walk-atom+walk-lend+walk-tensor+walk-with-spec :
+pub +conditions+menu+use-clause+walk+walk-atom+walk-lend+walk-one-of+walk-tensor+walk-with-spec :
     {M : Type 1} → statement M
-+conditions+use-clause+walk+walk-atom+walk-lend+walk-tensor+walk-with-spec =
++conditions+menu+use-clause+walk+walk-atom+walk-lend+walk-one-of+walk-tensor+walk-with-spec =
     close
     μ-conditions
+    μ-menu
     μ-use-clause
     μ-walk
     μ-walk-atom
     μ-walk-lend
+    μ-walk-one-of
     μ-walk-tensor
     μ-walk-with
     (λ t. conditions-lts.spec (conditions-claims t)
@@ -791,19 +978,35 @@ pub +conditions+use-clause+walk+walk-atom+walk-lend+walk-tensor+walk-with-spec :
     (conditions-kind-requires t)
     (conditions-ended-requires t)
     (conditions-returns t)
+    (conditions-menu-requires t)
+    (conditions-returns-2 t)
     (conditions-right-requires t)
     (conditions-conditions-requires t)
     (conditions-enum-known-first t)
     (conditions-enum-told t)
-    (conditions-returns-2 t)
+    (conditions-returns-3 t)
     (conditions-left-requires t)
     (conditions-on-requires t)
     (conditions-walk-requires t)
     (conditions-enum-known-second t)
     (conditions-enum-told-2 t)
-    (conditions-returns-3 t)
+    (conditions-returns-4 t)
     (conditions-tensor-requires t)
-    (conditions-returns-4 t))
+    (conditions-returns-5 t))
+    (λ t. menu-lts.spec (menu-claims t)
+    (menu-at t)
+    menu.Post
+    (menu-left-requires t)
+    (menu-usable-requires t)
+    (menu-right-requires t)
+    (menu-usable-requires-2 t)
+    (menu-next-side-requires t)
+    (menu-enum-known-next t)
+    (menu-stepped-requires t)
+    (menu-conditions-requires t)
+    (menu-enum-known-next-2 t)
+    (menu-returns t)
+    (menu-returns-2 t))
     (λ t. use-clause-lts.spec (use-clause-claims t)
     (use-clause-at t)
     use-clause.Post
@@ -811,7 +1014,7 @@ pub +conditions+use-clause+walk+walk-atom+walk-lend+walk-tensor+walk-with-spec :
     (use-clause-element-copy-out-node t)
     (use-clause-cast-node t)
     (use-clause-element-copy-out-gone t)
-    (use-clause-deeper-requires t)
+    (use-clause-stepped-requires t)
     (use-clause-conditions-requires t)
     (use-clause-enum-known-inner t)
     (use-clause-enum-told t)
@@ -828,12 +1031,16 @@ pub +conditions+use-clause+walk+walk-atom+walk-lend+walk-tensor+walk-with-spec :
     (walk-walk-tensor-requires t)
     (walk-walk-with-requires t)
     (walk-walk-lend-requires t)
+    (walk-walk-one-of-requires t)
+    (walk-ended-requires-3 t)
     (walk-returns t)
     (walk-returns-2 t)
     (walk-returns-3 t)
     (walk-returns-4 t)
     (walk-returns-5 t)
-    (walk-returns-6 t))
+    (walk-returns-6 t)
+    (walk-returns-7 t)
+    (walk-returns-8 t))
     (λ t. walk-atom-lts.spec (walk-atom-claims t)
     (walk-atom-at t)
     walk-atom.Post
@@ -858,6 +1065,16 @@ pub +conditions+use-clause+walk+walk-atom+walk-lend+walk-tensor+walk-with-spec :
     (walk-lend-returns t)
     (walk-lend-without-requires t)
     (walk-lend-returns-2 t))
+    (λ t. walk-one-of-lts.spec (walk-one-of-claims t)
+    (walk-one-of-at t)
+    walk-one-of.Post
+    (walk-one-of-next-side-requires t)
+    (walk-one-of-enum-known-next t)
+    (walk-one-of-stepped-requires t)
+    (walk-one-of-walk-requires t)
+    (walk-one-of-enum-known-next-2 t)
+    (walk-one-of-returns t)
+    (walk-one-of-returns-2 t))
     (λ t. walk-tensor-lts.spec (walk-tensor-claims t)
     (walk-tensor-at t)
     walk-tensor.Post
