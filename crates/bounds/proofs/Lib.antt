@@ -8,3 +8,4 @@ pub mod DoomedHasNone
 pub mod WordCounted
 pub mod CellsKept
 pub mod CodesRowed
+pub mod WaysSmall

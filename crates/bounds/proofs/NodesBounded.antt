@@ -108,10 +108,10 @@ ClauseUnder bs names t c j D =
     (leastD K T D) (lowD K T D) (highD K T D)
 
 -- the bounds of a head take in less
-head-takes : (bs names t : List ℕ) (c : ℕ) {a b u v w u′ v′ w′ : ℕ} → b ≡ a → u ≤ u′ → v ≤ v′ → (w < 255 → w′ ≤ w)
-    → HeadFits bs names t b c u v w → TakesIn (classOf names c) (namesOf names t c) a u′ v′ w′
+head-takes : (names t : List ℕ) (c : ℕ) {a b u v w u′ v′ w′ : ℕ} → b ≡ a → u ≤ u′ → v ≤ v′ → (w < 255 → w′ ≤ w)
+    → HeadFits names t b c u v w → TakesIn (classOf names c) (namesOf names t c) a u′ v′ w′
 unfolding namesOf
-head-takes bs names t c {a} {b} e x y j f =
+head-takes names t c {a} {b} e x y j f =
     let lo : lowAt t (rowOf names b) c ≡ lowAt t (rowOf names a) c = ap (λ d. lowAt t (rowOf names d) c) e in
     let hi : highAt t (rowOf names b) c ≡ highAt t (rowOf names a) c = ap (λ d. highAt t (rowOf names d) c) e in
     let le : leastAt t (rowOf names b) ≡ leastAt t (rowOf names a) = ap (λ d. leastAt t (rowOf names d)) e in
@@ -326,7 +326,7 @@ module _ {bs names t masks : List ℕ} (s : Sound bs) (z : Settled bs names t ma
         → WaysFit bs names t (clauseOf bs k) k c u v w → Allows (classOf names c) (namesOf names t c) eqb a (clauseOf bs k) u′ v′ w′ =
         λ k g. ways-allow a n k (omega (arith, clause-lower bs i k g)) (clause-above bs i k N (omega (arith, low)) g) in
         ⊎-elim
-        (λ k. rw (reads-name bs i k .1) (λ f e. head-takes bs names t c (eqb-true (leftAt bs i) a e) x y j f))
+        (λ k. rw (reads-name bs i k .1) (λ f e. head-takes names t c (eqb-true (leftAt bs i) a e) x y j f))
         (⊎-elim
         (λ k. rw (reads-rest bs i k .1) (λ f. tt))
         (⊎-elim
@@ -452,7 +452,7 @@ module _ {bs names t masks : List ℕ} (s : Sound bs) (z : Settled bs names t ma
           let m : bit (b && takesIn (classAt names c) (headAt names i)) ≡ bit (b && takesIn (classAt names c) (headOf (clauseOf bs i))) =
           ap (λ d. bit (b && takesIn (classAt names c) d)) e in
           ways-allow c q a (suc i) i (omega arith) p 1 _ _ 1 _ _ (omega arith) (omega arith) (λ h. omega arith)
-          (x .menu (omega arith) c q)
+          (x .menu (omega arith) .class c q)
 
   -- THEOREM. The bounds of names allow every use of a clause of the card.
   pub closed : (c : ℕ) → c < classes names → Closed (OfCard bs) eqb (classOf names c) (namesOf names t c)

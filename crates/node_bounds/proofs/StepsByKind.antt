@@ -1,7 +1,8 @@
 -- What each kind makes of a node's bounds.
 use Prim.Native.Nat.{ℕ, zero, suc, _+_, _-_, _<_, _≤_, min, max}
 use native.Mathlib.Omega.{arith}
-use mathlib.Core.Path.{_≡_, refl}
+use native.Mathlib.Decide.{ℕ-discrete}
+use mathlib.Core.Path.{_≡_, refl, sym, _∙_}
 use mathlib.Core.Bool.{Bool, true, false, cond}
 use mathlib.Core.List.{List}
 use lib.Dec.{leb}
@@ -9,49 +10,70 @@ use borrow.Author.Tests.{leb-true, leb-false}
 use Rattle.card.specs.Format.{kindAt, leftAt, rightAt}
 use Rattle.bounds.specs.Inner.Count.{bit}
 use Rattle.bounds.specs.Inner.Bound.{off}
-use Rattle.bounds.specs.Inner.Table.{headAt, rowOf, lowAt, highAt, leastAt, byKind, ifRecipe, inClass, headStep, leastStep, lowStep}
-use Rattle.bounds.specs.Inner.Table.{highStep}
+use Rattle.bounds.specs.Inner.Table.{headAt, rowOf, lowAt, highAt, leastAt, byKind, ifRecipe, inClass, menuCode, headStep, leastStep}
+use Rattle.bounds.specs.Inner.Table.{lowStep, highStep}
 
 -- kinds with the same value
-done-of : (k v d a b c e : ℕ) → (k ≡ 1 → ⊥) → k < 4 → byKind k v d d a b c e ≡ d
+done-of : (k v d a b c e f n m : ℕ) → (k ≡ 1 → ⊥) → k < 4 → byKind k v d d a b c e f n m ≡ d
 unfolding byKind
-done-of zero v d a b c e p q = refl
-done-of (suc zero) v d a b c e p q = absurd (p refl)
-done-of (suc (suc zero)) v d a b c e p q = refl
-done-of (suc (suc (suc zero))) v d a b c e p q = refl
-done-of (suc (suc (suc (suc k)))) v d a b c e p q = absurd (omega arith)
+done-of zero v d a b c e f n m p q = refl
+done-of (suc zero) v d a b c e f n m p q = absurd (p refl)
+done-of (suc (suc zero)) v d a b c e f n m p q = refl
+done-of (suc (suc (suc zero))) v d a b c e f n m p q = refl
+done-of (suc (suc (suc (suc k)))) v d a b c e f n m p q = absurd (omega arith)
 
-done-of-high : (k v r d a b c e : ℕ) → (k ≡ 1 → ⊥) → (k ≡ 2 → ⊥) → k < 4 → byKind k v r d a b c e ≡ d
+done-of-high : (k v r d a b c e f n m : ℕ) → (k ≡ 1 → ⊥) → (k ≡ 2 → ⊥) → k < 4 → byKind k v r d a b c e f n m ≡ d
 unfolding byKind
-done-of-high zero v r d a b c e p s q = refl
-done-of-high (suc zero) v r d a b c e p s q = absurd (p refl)
-done-of-high (suc (suc zero)) v r d a b c e p s q = absurd (s refl)
-done-of-high (suc (suc (suc zero))) v r d a b c e p s q = refl
-done-of-high (suc (suc (suc (suc k)))) v r d a b c e p s q = absurd (omega arith)
+done-of-high zero v r d a b c e f n m p s q = refl
+done-of-high (suc zero) v r d a b c e f n m p s q = absurd (p refl)
+done-of-high (suc (suc zero)) v r d a b c e f n m p s q = absurd (s refl)
+done-of-high (suc (suc (suc zero))) v r d a b c e f n m p s q = refl
+done-of-high (suc (suc (suc (suc k)))) v r d a b c e f n m p s q = absurd (omega arith)
 
-both-of : (k v r d a b c e : ℕ) → (k < 4 → ⊥) → (k ≡ 5 → b ≡ a) → (k ≡ 6 → ⊥) → (k ≡ 7 → ⊥) → byKind k v r d a b c e ≡ a
+both-of : (k v r d a b c e f n m : ℕ) → (k < 4 → ⊥) → (8 < k → ⊥) → (k ≡ 5 → b ≡ a) → (k ≡ 6 → ⊥) → (k ≡ 7 → ⊥) → (k ≡ 8 → ⊥)
+    → byKind k v r d a b c e f n m ≡ a
 unfolding byKind
-both-of zero v r d a b c e p f g h = absurd (p (omega arith))
-both-of (suc zero) v r d a b c e p f g h = absurd (p (omega arith))
-both-of (suc (suc zero)) v r d a b c e p f g h = absurd (p (omega arith))
-both-of (suc (suc (suc zero))) v r d a b c e p f g h = absurd (p (omega arith))
-both-of (suc (suc (suc (suc zero)))) v r d a b c e p f g h = refl
-both-of (suc (suc (suc (suc (suc zero))))) v r d a b c e p f g h = f refl
-both-of (suc (suc (suc (suc (suc (suc zero)))))) v r d a b c e p f g h = absurd (g refl)
-both-of (suc (suc (suc (suc (suc (suc (suc zero))))))) v r d a b c e p f g h = absurd (h refl)
-both-of (suc (suc (suc (suc (suc (suc (suc (suc k)))))))) v r d a b c e p f g h = refl
+both-of zero v r d a b c e f n m p o g h i j = absurd (p (omega arith))
+both-of (suc zero) v r d a b c e f n m p o g h i j = absurd (p (omega arith))
+both-of (suc (suc zero)) v r d a b c e f n m p o g h i j = absurd (p (omega arith))
+both-of (suc (suc (suc zero))) v r d a b c e f n m p o g h i j = absurd (p (omega arith))
+both-of (suc (suc (suc (suc zero)))) v r d a b c e f n m p o g h i j = refl
+both-of (suc (suc (suc (suc (suc zero))))) v r d a b c e f n m p o g h i j = g refl
+both-of (suc (suc (suc (suc (suc (suc zero)))))) v r d a b c e f n m p o g h i j = absurd (h refl)
+both-of (suc (suc (suc (suc (suc (suc (suc zero))))))) v r d a b c e f n m p o g h i j = absurd (i refl)
+both-of (suc (suc (suc (suc (suc (suc (suc (suc zero)))))))) v r d a b c e f n m p o g h i j = absurd (j refl)
+both-of (suc (suc (suc (suc (suc (suc (suc (suc (suc k))))))))) v r d a b c e f n m p o g h i j = absurd (o (omega arith))
 
-no-head-of : (k v n w : ℕ) → (k ≡ 1 → ⊥) → (k ≡ 7 → ⊥) → byKind k v n n n n n w ≡ n
+menu-of : (k v r d a b c e f n m : ℕ) → 8 < k → (k ≡ 9 → n ≡ m) → byKind k v r d a b c e f n m ≡ m
 unfolding byKind
-no-head-of zero v n w p q = refl
-no-head-of (suc zero) v n w p q = absurd (p refl)
-no-head-of (suc (suc zero)) v n w p q = refl
-no-head-of (suc (suc (suc zero))) v n w p q = refl
-no-head-of (suc (suc (suc (suc zero)))) v n w p q = refl
-no-head-of (suc (suc (suc (suc (suc zero))))) v n w p q = refl
-no-head-of (suc (suc (suc (suc (suc (suc zero)))))) v n w p q = refl
-no-head-of (suc (suc (suc (suc (suc (suc (suc zero))))))) v n w p q = absurd (q refl)
-no-head-of (suc (suc (suc (suc (suc (suc (suc (suc k)))))))) v n w p q = refl
+menu-of zero v r d a b c e f n m p g = absurd (omega arith)
+menu-of (suc zero) v r d a b c e f n m p g = absurd (omega arith)
+menu-of (suc (suc zero)) v r d a b c e f n m p g = absurd (omega arith)
+menu-of (suc (suc (suc zero))) v r d a b c e f n m p g = absurd (omega arith)
+menu-of (suc (suc (suc (suc zero)))) v r d a b c e f n m p g = absurd (omega arith)
+menu-of (suc (suc (suc (suc (suc zero))))) v r d a b c e f n m p g = absurd (omega arith)
+menu-of (suc (suc (suc (suc (suc (suc zero)))))) v r d a b c e f n m p g = absurd (omega arith)
+menu-of (suc (suc (suc (suc (suc (suc (suc zero))))))) v r d a b c e f n m p g = absurd (omega arith)
+menu-of (suc (suc (suc (suc (suc (suc (suc (suc zero)))))))) v r d a b c e f n m p g = absurd (omega arith)
+menu-of (suc (suc (suc (suc (suc (suc (suc (suc (suc zero))))))))) v r d a b c e f n m p g = g refl
+menu-of (suc (suc (suc (suc (suc (suc (suc (suc (suc (suc k)))))))))) v r d a b c e f n m p g = refl
+
+no-head-of : (k v n w m : ℕ) → (k ≡ 1 → ⊥) → (k ≡ 7 → ⊥) → (9 < k → ⊥) → byKind k v n n n n n w n n m ≡ n
+unfolding byKind
+no-head-of zero v n w m p q o = refl
+no-head-of (suc zero) v n w m p q o = absurd (p refl)
+no-head-of (suc (suc zero)) v n w m p q o = refl
+no-head-of (suc (suc (suc zero))) v n w m p q o = refl
+no-head-of (suc (suc (suc (suc zero)))) v n w m p q o = refl
+no-head-of (suc (suc (suc (suc (suc zero))))) v n w m p q o = refl
+no-head-of (suc (suc (suc (suc (suc (suc zero)))))) v n w m p q o = refl
+no-head-of (suc (suc (suc (suc (suc (suc (suc zero))))))) v n w m p q o = absurd (q refl)
+no-head-of (suc (suc (suc (suc (suc (suc (suc (suc zero)))))))) v n w m p q o = refl
+no-head-of (suc (suc (suc (suc (suc (suc (suc (suc (suc zero))))))))) v n w m p q o = refl
+no-head-of (suc (suc (suc (suc (suc (suc (suc (suc (suc (suc k)))))))))) v n w m p q o = absurd (o (omega arith))
+
+one-more : (n : ℕ) → suc n ≡ 1 + n
+one-more n = omega arith
 
 module _ (bs names t : List ℕ) (i : ℕ) where
   pub head-name : kindAt bs i ≡ 1 → headStep bs names i ≡ leftAt bs i
@@ -62,9 +84,13 @@ module _ (bs names t : List ℕ) (i : ℕ) where
   unfolding headStep byKind
   head-recipe k = rw k refl
 
-  pub head-none : (kindAt bs i ≡ 1 → ⊥) → (kindAt bs i ≡ 7 → ⊥) → headStep bs names i ≡ 1000
+  pub head-menu : 9 < kindAt bs i → headStep bs names i ≡ menuCode (headAt names (leftAt bs i)) (headAt names (rightAt bs i))
   unfolding headStep
-  head-none p q = no-head-of (kindAt bs i) _ _ _ p q
+  head-menu p = menu-of (kindAt bs i) _ _ _ _ _ _ _ _ _ _ (omega arith) (λ q. absurd (omega arith))
+
+  pub head-none : (kindAt bs i ≡ 1 → ⊥) → (kindAt bs i ≡ 7 → ⊥) → (9 < kindAt bs i → ⊥) → headStep bs names i ≡ 1000
+  unfolding headStep
+  head-none p q r = no-head-of (kindAt bs i) _ _ _ _ p q r
 
   pub least-name : kindAt bs i ≡ 1 → leastStep bs names t i ≡ leastAt t (rowOf names (leftAt bs i))
   unfolding leastStep byKind
@@ -72,7 +98,7 @@ module _ (bs names t : List ℕ) (i : ℕ) where
 
   pub least-done : (kindAt bs i ≡ 1 → ⊥) → kindAt bs i < 4 → leastStep bs names t i ≡ 0
   unfolding leastStep
-  least-done p q = done-of (kindAt bs i) _ _ _ _ _ _ p q
+  least-done p q = done-of (kindAt bs i) _ _ _ _ _ _ _ _ _ p q
 
   pub least-lend : kindAt bs i ≡ 6 → leastStep bs names t i ≡ leastAt t (rightAt bs i)
   unfolding leastStep byKind
@@ -83,10 +109,24 @@ module _ (bs names t : List ℕ) (i : ℕ) where
   unfolding leastStep byKind
   least-recipe k = rw k refl
 
-  pub least-both : (kindAt bs i < 4 → ⊥) → (kindAt bs i ≡ 6 → ⊥) → (kindAt bs i ≡ 7 → ⊥)
-      → leastStep bs names t i ≡ leastAt t (leftAt bs i) + leastAt t (rightAt bs i)
+  pub least-one-of : kindAt bs i ≡ 8 → leastStep bs names t i ≡ 1 + min (leastAt t (leftAt bs i)) (leastAt t (rightAt bs i))
+  unfolding leastStep byKind
+  least-one-of k = rw k (one-more _)
+
+  -- r as for never or a menu
+  pub least-never : (r : ℕ) → 8 < kindAt bs i → (kindAt bs i ≡ 9 → r ≡ 255) → ((kindAt bs i ≡ 9 → ⊥) → r ≡ 0)
+      → r ≡ leastStep bs names t i
+  unfolding leastStep byKind
+  least-never r p q n = at (ℕ-discrete (kindAt bs i) 9)
+    where
+      at : Dec (kindAt bs i ≡ 9) → r ≡ leastStep bs names t i
+      at (yes k) = q k ∙ sym (rw k refl)
+      at (no k) = n k ∙ sym (menu-of (kindAt bs i) _ _ _ _ _ _ _ _ _ _ p (λ h. absurd (k h)))
+
+  pub least-both : (kindAt bs i < 4 → ⊥) → (8 < kindAt bs i → ⊥) → (kindAt bs i ≡ 6 → ⊥) → (kindAt bs i ≡ 7 → ⊥)
+      → (kindAt bs i ≡ 8 → ⊥) → leastStep bs names t i ≡ leastAt t (leftAt bs i) + leastAt t (rightAt bs i)
   unfolding leastStep
-  least-both p q r = both-of (kindAt bs i) _ _ _ _ _ _ _ p (λ h. refl) q r
+  least-both p o q r u = both-of (kindAt bs i) _ _ _ _ _ _ _ _ _ _ p o (λ h. refl) q r u
 
   module _ (c : ℕ) where
     pub low-name : kindAt bs i ≡ 1 → lowStep bs names t i c ≡ lowAt t (rowOf names (leftAt bs i)) c
@@ -95,7 +135,7 @@ module _ (bs names t : List ℕ) (i : ℕ) where
 
     pub low-done : (kindAt bs i ≡ 1 → ⊥) → kindAt bs i < 4 → lowStep bs names t i c ≡ 0
     unfolding lowStep
-    low-done p q = done-of (kindAt bs i) _ _ _ _ _ _ p q
+    low-done p q = done-of (kindAt bs i) _ _ _ _ _ _ _ _ _ p q
 
     pub low-lend : kindAt bs i ≡ 6 → lowStep bs names t i c ≡ lowAt t (rightAt bs i) c - bit (inClass names (leftAt bs i) c)
     unfolding lowStep byKind
@@ -110,10 +150,23 @@ module _ (bs names t : List ℕ) (i : ℕ) where
     unfolding lowStep byKind
     low-recipe k = rw k refl
 
-    pub low-both : (kindAt bs i < 4 → ⊥) → (kindAt bs i ≡ 5 → ⊥) → (kindAt bs i ≡ 6 → ⊥) → (kindAt bs i ≡ 7 → ⊥)
-        → lowStep bs names t i c ≡ lowAt t (leftAt bs i) c + lowAt t (rightAt bs i) c
+    pub low-one-of : kindAt bs i ≡ 8 → lowStep bs names t i c ≡ min (lowAt t (leftAt bs i) c) (lowAt t (rightAt bs i) c)
+    unfolding lowStep byKind
+    low-one-of k = rw k refl
+
+    pub low-never : (r : ℕ) → 8 < kindAt bs i → (kindAt bs i ≡ 9 → r ≡ 255) → ((kindAt bs i ≡ 9 → ⊥) → r ≡ 0)
+        → r ≡ lowStep bs names t i c
+    unfolding lowStep byKind
+    low-never r p q n = at (ℕ-discrete (kindAt bs i) 9)
+      where
+        at : Dec (kindAt bs i ≡ 9) → r ≡ lowStep bs names t i c
+        at (yes k) = q k ∙ sym (rw k refl)
+        at (no k) = n k ∙ sym (menu-of (kindAt bs i) _ _ _ _ _ _ _ _ _ _ p (λ h. absurd (k h)))
+
+    pub low-both : (kindAt bs i < 4 → ⊥) → (8 < kindAt bs i → ⊥) → (kindAt bs i ≡ 5 → ⊥) → (kindAt bs i ≡ 6 → ⊥)
+        → (kindAt bs i ≡ 7 → ⊥) → (kindAt bs i ≡ 8 → ⊥) → lowStep bs names t i c ≡ lowAt t (leftAt bs i) c + lowAt t (rightAt bs i) c
     unfolding lowStep
-    low-both p q r s = both-of (kindAt bs i) _ _ _ _ _ _ _ p (λ h. absurd (q h)) r s
+    low-both p o q r s u = both-of (kindAt bs i) _ _ _ _ _ _ _ _ _ _ p o (λ h. absurd (q h)) r s u
 
     pub high-name : kindAt bs i ≡ 1 → highStep bs names t i c ≡ highAt t (rowOf names (leftAt bs i)) c
     unfolding highStep byKind
@@ -125,7 +178,7 @@ module _ (bs names t : List ℕ) (i : ℕ) where
 
     pub high-done : (kindAt bs i ≡ 1 → ⊥) → (kindAt bs i ≡ 2 → ⊥) → kindAt bs i < 4 → highStep bs names t i c ≡ 0
     unfolding highStep
-    high-done p r q = done-of-high (kindAt bs i) _ _ _ _ _ _ _ p r q
+    high-done p r q = done-of-high (kindAt bs i) _ _ _ _ _ _ _ _ _ _ p r q
 
     pub high-lend : kindAt bs i ≡ 6 → highStep bs names t i c ≡ off (highAt t (rightAt bs i) c) (inClass names (leftAt bs i) c)
     unfolding highStep byKind
@@ -140,10 +193,18 @@ module _ (bs names t : List ℕ) (i : ℕ) where
     unfolding highStep byKind
     high-recipe k = rw k refl
 
-    pub high-both : (kindAt bs i < 4 → ⊥) → (kindAt bs i ≡ 5 → ⊥) → (kindAt bs i ≡ 6 → ⊥) → (kindAt bs i ≡ 7 → ⊥)
-        → highStep bs names t i c ≡ highAt t (leftAt bs i) c + highAt t (rightAt bs i) c
+    pub high-one-of : kindAt bs i ≡ 8 → highStep bs names t i c ≡ max (highAt t (leftAt bs i) c) (highAt t (rightAt bs i) c)
+    unfolding highStep byKind
+    high-one-of k = rw k refl
+
+    pub high-never : 8 < kindAt bs i → highStep bs names t i c ≡ 0
     unfolding highStep
-    high-both p q r s = both-of (kindAt bs i) _ _ _ _ _ _ _ p (λ h. absurd (q h)) r s
+    high-never p = menu-of (kindAt bs i) _ _ _ _ _ _ _ _ _ _ p (λ h. refl)
+
+    pub high-both : (kindAt bs i < 4 → ⊥) → (8 < kindAt bs i → ⊥) → (kindAt bs i ≡ 5 → ⊥) → (kindAt bs i ≡ 6 → ⊥)
+        → (kindAt bs i ≡ 7 → ⊥) → (kindAt bs i ≡ 8 → ⊥) → highStep bs names t i c ≡ highAt t (leftAt bs i) c + highAt t (rightAt bs i) c
+    unfolding highStep
+    high-both p o q r s u = both-of (kindAt bs i) _ _ _ _ _ _ _ _ _ _ p o (λ h. absurd (q h)) r s u
 
 -- a greatest number less an item
 pub off-less : (h r : ℕ) (b : Bool) → (h < 255 → r ≡ h - bit b) → (255 ≤ h → r ≡ h) → r ≡ off h b
@@ -173,6 +234,9 @@ part-small a b d h l m = omega arith
 pub min-small : (a b : ℕ) → a < 256 → min a b < 512
 min-small a b h = omega arith
 
+pub choice-small : (a b : ℕ) → a < 256 → 1 + min a b < 512
+choice-small a b h = omega arith
+
 pub max-small : (a b : ℕ) → a < 256 → b < 256 → max a b < 512
 max-small a b h l = omega arith
 
@@ -188,3 +252,9 @@ same-low a b n e h = omega arith
 
 pub same-high : (a b n : ℕ) → a ≡ b → n ≤ a → b < n → ⊥
 same-high a b n e h l = omega arith
+
+pub same-above : (a b n : ℕ) → a ≡ b → n < a → n < b
+same-above a b n e h = omega arith
+
+pub same-not-above : (a b n : ℕ) → a ≡ b → a ≤ n → n < b → ⊥
+same-not-above a b n e h l = omega arith

@@ -13,11 +13,12 @@ use bounds::table::row;
 ghost use mathlib.Core.Path.{_≡_};
 ghost use mathlib.Core.Bool.{true, _&&_};
 ghost use Prim.Native.Nat.{_-_, _<_, _≤_, min, max};
-ghost use Rattle.card.specs.Fault.{Sound};
+ghost use Rattle.card.specs.Format.{nodeCount};
+ghost use Rattle.card.specs.Fault.{Sound, clausePart};
+ghost use Rattle.card.specs.Decode.{clauseOf};
 ghost use Rattle.bounds.specs.Inner.Count.{bit};
 ghost use Rattle.bounds.specs.Inner.Table.{NameCells, Held, Node, ifRecipe, inClass, headStep, leastStep, lowStep, highStep};
-ghost use Rattle.bounds.specs.Inner.Table.{leastUse, lowUse};
-ghost use Rattle.bounds.specs.Inner.Table.{highUse, NodeFits};
+ghost use Rattle.bounds.specs.Inner.Table.{menuCode, leastUse, lowUse, highUse, NodeFits, TableCells, OnWay, HeadFits, WaysFit};
 
 fn greater(a: usize, b: usize) -> usize
     ensures { λ r. ⌜ r ≡ max a b ⌝ }
@@ -54,8 +55,15 @@ fn if_recipe(card: &[u8], i: usize, v: usize) -> usize
     if kind_at(card, i) == 7 { v } else { 0 }
 }
 
+// 255 for never, which has no list; 0 for a menu, which has no conditions of its own.
+fn never(k: usize) -> usize
+    ensures { λ r. ⌜ ((k ≡ 9 → r ≡ 255) × ((k ≡ 9 → ⊥) → r ≡ 0)) × (r < 256) ⌝ }
+{
+    if k == 9 { 255 } else { 0 }
+}
+
 // 1 where the clause at the node is an item of class c.
-fn weight(names: &[u16; 1577], i: usize, linear: bool, c: usize) -> usize
+pub fn weight(names: &[u16; 1577], i: usize, linear: bool, c: usize) -> usize
     requires { ⌜ (i < 512) × ((c < 64) × NameCells (now names)) ⌝ }
     ensures { λ r. ⌜ (r ≡ bit (linear && inClass (now (names .entry)) i c)) × (r ≤ 1) ⌝ }
 {
@@ -69,7 +77,15 @@ fn weight(names: &[u16; 1577], i: usize, linear: bool, c: usize) -> usize
     }
 }
 
-// The head of the clause at node i, from its right part; 1000 where there is none.
+// The code of the menus whose sides have these.
+fn menu_code(left: usize, right: usize) -> usize
+    requires { ⌜ (left < 65536) × (right < 65536) ⌝ }
+    ensures { λ r. ⌜ (r ≡ menuCode left right) × (r < 65536) ⌝ }
+{
+    1002 + (left * 31 + right) % 64000
+}
+
+// The head of the clause at node i, from its parts: 1000 where there is none, a code for a menu.
 pub fn head_step(card: &[u8], names: &[u16; 1577], i: usize) -> usize
     requires { ⌜ Sound (now card) ⌝ }
     requires { ⌜ (Node (now card) i) × NameCells (now names) ⌝ }
@@ -81,6 +97,10 @@ pub fn head_step(card: &[u8], names: &[u16; 1577], i: usize) -> usize
     }
     if k == 7 {
         return head(names, right_part(card, i));
+    }
+    if 9 < k {
+        let left = head(names, left_part(card, i));
+        return menu_code(left, head(names, right_part(card, i)));
     }
     1000
 }
@@ -98,6 +118,9 @@ pub fn least_step(card: &[u8], names: &[u16; 1577], table: &[u8; 66177], i: usiz
     if k < 4 {
         return 0;
     }
+    if 8 < k {
+        return never(k);
+    }
     let r = right_part(card, i);
     let right = least(table, r);
     if k == 6 {
@@ -106,6 +129,9 @@ pub fn least_step(card: &[u8], names: &[u16; 1577], table: &[u8; 66177], i: usiz
     let left = least(table, left_part(card, i));
     if k == 7 {
         return left + if_recipe(card, r, right);
+    }
+    if k == 8 {
+        return 1 + lesser(left, right);
     }
     left + right
 }
@@ -123,6 +149,9 @@ pub fn low_step(card: &[u8], names: &[u16; 1577], table: &[u8; 66177], i: usize,
     if k < 4 {
         return 0;
     }
+    if 8 < k {
+        return never(k);
+    }
     let l = left_part(card, i);
     let r = right_part(card, i);
     let right = low(table, r, c);
@@ -135,6 +164,9 @@ pub fn low_step(card: &[u8], names: &[u16; 1577], table: &[u8; 66177], i: usize,
     }
     if k == 7 {
         return left + if_recipe(card, r, right);
+    }
+    if k == 8 {
+        return lesser(left, right);
     }
     left + right
 }
@@ -155,6 +187,9 @@ pub fn high_step(card: &[u8], names: &[u16; 1577], table: &[u8; 66177], i: usize
     if k < 4 {
         return 0;
     }
+    if 8 < k {
+        return 0;
+    }
     let l = left_part(card, i);
     let r = right_part(card, i);
     let right = high(table, r, c);
@@ -167,6 +202,9 @@ pub fn high_step(card: &[u8], names: &[u16; 1577], table: &[u8; 66177], i: usize
     }
     if k == 7 {
         return left + if_recipe(card, r, right);
+    }
+    if k == 8 {
+        return greater(left, right);
     }
     left + right
 }
@@ -228,6 +266,74 @@ pub fn node_fits(card: &[u8], names: &[u16; 1577], table: &[u8; 66177], i: usize
     }
     if h < high_step(card, names, table, i, c) {
         return false;
+    }
+    true
+}
+
+// Whether the bounds of a name take in so many steps and items of class c.
+fn head_fits(
+    names: &[u16; 1577],
+    table: &[u8; 66177],
+    name: usize,
+    c: usize,
+    steps: usize,
+    lowest: usize,
+    highest: usize,
+) -> bool
+    requires { ⌜ (name < 1000) × (c < 64) ⌝ }
+    requires { ⌜ NameCells (now names) × TableCells (now table) ⌝ }
+    ensures { λ r. ⌜ (r ≡ true → HeadFits (now (names .entry)) (now (table .entry)) name c steps lowest highest) ⌝ }
+{
+    let r = row(names, name);
+    if steps < least(table, r) {
+        return false;
+    }
+    if lowest < low(table, r, c) {
+        return false;
+    }
+    let h = high(table, r, c);
+    if h == 255 {
+        return true;
+    }
+    highest <= h
+}
+
+// Whether the bounds of each head of the clause at node i take in the way to it: so many steps and items of class c before, its
+// conditions, and a step at each menu.
+pub fn ways_fit(
+    card: &[u8],
+    names: &[u16; 1577],
+    table: &[u8; 66177],
+    i: usize,
+    c: usize,
+    steps: usize,
+    lowest: usize,
+    highest: usize,
+) -> bool
+    requires { ⌜ Held (now card) (now names) (now table) ⌝ }
+    requires { ⌜ (clausePart (now card) (nodeCount (now card)) i ≡ true) × (c < 64) ⌝ }
+    requires { ⌜ OnWay i steps lowest highest ⌝ }
+    ensures { λ r. ⌜ (r ≡ true → (let bs = now (card .entry) in
+        WaysFit bs (now (names .entry)) (now (table .entry)) (clauseOf bs i) i c steps lowest highest)) ⌝ }
+{
+    let k = kind_at(card, i);
+    if k == 1 {
+        return head_fits(names, table, name_at(card, i), c, steps, lowest, highest);
+    }
+    if k == 7 {
+        let g = left_part(card, i);
+        let s = steps + least(table, g);
+        let l = lowest + low(table, g, c);
+        let h = highest + high(table, g, c);
+        return ways_fit(card, names, table, right_part(card, i), c, s, l, h);
+    }
+    if k == 10 {
+        let d = left_part(card, i);
+        if !ways_fit(card, names, table, d, c, steps + 1, lowest, highest) {
+            return false;
+        }
+        let e = right_part(card, i);
+        return ways_fit(card, names, table, e, c, steps + 1, lowest, highest);
     }
     true
 }

@@ -19,6 +19,8 @@ use node_bounds::least_step;
 use node_bounds::least_use;
 use node_bounds::low_use;
 use node_bounds::node_fits;
+use node_bounds::ways_fit;
+use node_bounds::weight;
 ghost use mathlib.Core.Path.{_≡_};
 ghost use mathlib.Core.Bool.{true, false, _&&_};
 ghost use Prim.Native.Nat.{ℕ, _<_, _≤_};
@@ -26,10 +28,9 @@ ghost use lib.ListN.{length};
 ghost use lib.Dec.{ltb};
 ghost use Rattle.card.specs.Format.{nodeCount, ruleCount, lineCount, kindAt, leftAt, ruleNode, lineNode};
 ghost use Rattle.lines.specs.Inner.Set.{bitAt};
-ghost use Rattle.card.specs.Fault.{Sound};
+ghost use Rattle.card.specs.Fault.{Sound, clausePart};
 ghost use Rattle.bounds.specs.Inner.Table.{NameCells, Held, Node, headAt, inClass, classes as classesOf, UseFits};
-ghost use Rattle.bounds.specs.Inner.Table.{NodeSettled, UseSettled, Masked};
-ghost use Rattle.bounds.specs.Inner.Table.{Settled};
+ghost use Rattle.bounds.specs.Inner.Table.{NodeSettled, MenuSettled, UseSettled, Masked, Settled};
 
 fn node_settled(card: &[u8], names: &[u16; 1577], table: &[u8; 66177], i: usize) -> bool
     requires { ⌜ Held (now card) (now names) (now table) ⌝ }
@@ -96,6 +97,30 @@ fn use_fits(
     true
 }
 
+// Each head of the clause with a menu at node i, for every class.
+fn menu_settled(
+    card: &[u8],
+    names: &[u16; 1577],
+    table: &[u8; 66177],
+    i: usize,
+    linear: bool,
+) -> bool
+    requires { ⌜ Held (now card) (now names) (now table) ⌝ }
+    requires { ⌜ clausePart (now card) (nodeCount (now card)) i ≡ true ⌝ }
+    ensures { λ r. ⌜ (r ≡ true → MenuSettled (now (card .entry)) (now (names .entry)) (now (table .entry)) i linear) ⌝ }
+{
+    let n = classes(names);
+    let mut c = 0;
+    while c < n {
+        let w = weight(names, i, linear, c);
+        if !ways_fit(card, names, table, i, c, 1, w, w) {
+            return false;
+        }
+        c += 1;
+    }
+    true
+}
+
 fn use_settled(
     card: &[u8],
     names: &[u16; 1577],
@@ -104,12 +129,15 @@ fn use_settled(
     linear: bool,
 ) -> bool
     requires { ⌜ Held (now card) (now names) (now table) ⌝ }
-    requires { ⌜ Node (now card) i ⌝ }
+    requires { ⌜ clausePart (now card) (nodeCount (now card)) i ≡ true ⌝ }
     ensures { λ r. ⌜ (r ≡ true → UseSettled (now (card .entry)) (now (names .entry)) (now (table .entry)) i linear) ⌝ }
 {
     let h = head(names, i);
     if 1000 <= h {
-        return true;
+        if h < 1002 {
+            return true;
+        }
+        return menu_settled(card, names, table, i, linear);
     }
     if least_use(card, names, table, i) < least(table, row(names, h)) {
         return false;

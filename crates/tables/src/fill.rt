@@ -4,6 +4,7 @@ use bounds::nodes::left_part;
 use bounds::nodes::line_at;
 use bounds::nodes::name_at;
 use bounds::nodes::node_count;
+use bounds::nodes::right_part;
 use bounds::nodes::rule_at;
 use bounds::table::class;
 use bounds::table::classes;
@@ -21,11 +22,12 @@ use node_bounds::least_step;
 use node_bounds::least_use;
 use node_bounds::low_step;
 use node_bounds::low_use;
+use node_bounds::weight;
 ghost use mathlib.Core.Path.{_≡_};
 ghost use Prim.Native.Nat.{_<_, _≤_};
 ghost use lib.ListN.{length};
 ghost use Rattle.card.specs.Fault.{Sound};
-ghost use Rattle.bounds.specs.Inner.Table.{NameCells, TableCells, Held, Node};
+ghost use Rattle.bounds.specs.Inner.Table.{NameCells, TableCells, Held, Node, OnWay};
 
 // A number as a byte.
 fn capped(v: usize) -> u8
@@ -318,7 +320,108 @@ fn widen_class(
     if fell { true } else { rose }
 }
 
-// The same for every class and the least steps.
+// The bounds of a name take in so many steps and items of class c; whether they changed.
+fn widen_head(
+    names: &[u16; 1577],
+    table: &mut [u8; 66177],
+    name: usize,
+    c: usize,
+    steps: usize,
+    lowest: usize,
+    highest: usize,
+    wide: bool,
+) -> bool
+    requires { ⌜ (name < 1000) × (c < 64) ⌝ }
+    requires { ⌜ NameCells (now names) × TableCells (now table) ⌝ }
+    ensures { λ _. ⌜ TableCells (now (table .exit)) ⌝ }
+{
+    let r = row(names, name);
+    let s = least(table, r);
+    let shorter = fall(table, 65664 + r, s, steps, wide);
+    let l = low(table, r, c);
+    let fell = fall(table, r * 64 + c, l, lowest, wide);
+    let h = high(table, r, c);
+    let rose = rise(table, 32832 + (r * 64 + c), h, highest, wide);
+    if shorter {
+        return true;
+    }
+    if fell { true } else { rose }
+}
+
+// The bounds of each head of the clause at node i take in the way to it; whether any changed.
+fn widen_ways(
+    card: &[u8],
+    names: &[u16; 1577],
+    table: &mut [u8; 66177],
+    i: usize,
+    c: usize,
+    steps: usize,
+    lowest: usize,
+    highest: usize,
+    wide: bool,
+) -> bool
+    requires { ⌜ Held (now card) (now names) (now table) ⌝ }
+    requires { ⌜ Node (now card) i × (c < 64) ⌝ }
+    requires { ⌜ OnWay i steps lowest highest ⌝ }
+    ensures { λ _. ⌜ TableCells (now (table .exit)) ⌝ }
+{
+    let k = kind_at(card, i);
+    if k == 1 {
+        return widen_head(
+            names,
+            table,
+            name_at(card, i),
+            c,
+            steps,
+            lowest,
+            highest,
+            wide,
+        );
+    }
+    if k == 7 {
+        let g = left_part(card, i);
+        let s = steps + least(table, g);
+        let l = lowest + low(table, g, c);
+        let h = highest + high(table, g, c);
+        return widen_ways(card, names, table, right_part(card, i), c, s, l, h, wide);
+    }
+    if k == 10 {
+        let d = left_part(card, i);
+        let first = widen_ways(card, names, table, d, c, steps + 1, lowest, highest, wide);
+        let e = right_part(card, i);
+        let second = widen_ways(card, names, table, e, c, steps + 1, lowest, highest, wide);
+        return if first { true } else { second };
+    }
+    false
+}
+
+// The same for every class.
+fn widen_menu(
+    card: &[u8],
+    names: &[u16; 1577],
+    table: &mut [u8; 66177],
+    i: usize,
+    linear: bool,
+    wide: bool,
+) -> bool
+    requires { ⌜ Held (now card) (now names) (now table) ⌝ }
+    requires { ⌜ Node (now card) i ⌝ }
+    ensures { λ _. ⌜ TableCells (now (table .exit)) ⌝ }
+{
+    let mut changed = false;
+    let n = classes(names);
+    let mut c = 0;
+    while c < n {
+        let w = weight(names, i, linear, c);
+        if widen_ways(card, names, table, i, c, 1, w, w, wide) {
+            changed = true;
+        }
+        c += 1;
+    }
+    changed
+}
+
+// The bounds of the heads of the clause at node i take in its use, for every class; whether they changed.
 fn widen(
     card: &[u8],
     names: &[u16; 1577],
@@ -333,7 +436,10 @@ fn widen(
 {
     let h = head(names, i);
     if 1000 <= h {
-        return false;
+        if h < 1002 {
+            return false;
+        }
+        return widen_menu(card, names, table, i, linear, wide);
     }
     let r = row(names, h);
     let old = least(table, r);

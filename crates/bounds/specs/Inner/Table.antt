@@ -95,6 +95,18 @@ headStep bs names i =
     byKind (kindAt bs i) (leftAt bs i) 1000 1000 1000 1000 1000 (headAt names (rightAt bs i)) 1000 1000
     (menuCode (headAt names (leftAt bs i)) (headAt names (rightAt bs i)))
 
+-- what is added up on the way to a head is small: a part of node i is lower, and adds less than 256
+pub record OnWay (i s l h : ℕ) : Type 0 where
+  pub steps : s + 256 * i ≤ 200000
+  pub low : l + 256 * i ≤ 200000
+  pub high : h + 256 * i ≤ 200000
+
+-- the bounds of the name a take in s steps and l to h items of class c
+pub record HeadFits (names t : List ℕ) (a c s l h : ℕ) : Type 0 where
+  pub least : leastAt t (rowOf names a) ≤ s
+  pub low : lowAt t (rowOf names a) c ≤ l
+  pub high : highAt t (rowOf names a) c < 255 → h ≤ highAt t (rowOf names a) c
+
 module _ (bs names t : List ℕ) where
   unfoldable pub leastStep : ℕ → ℕ
   leastStep i =
@@ -136,33 +148,31 @@ module _ (bs names t : List ℕ) where
     pub low : lowAt t (rowOf names (headAt names i)) c ≤ lowUse i b c
     pub high : highAt t (rowOf names (headAt names i)) c < 255 → highUse i b c ≤ highAt t (rowOf names (headAt names i)) c
 
-  -- the bounds of the name a take in s steps and l to h items of class c
-  pub record HeadFits (a c s l h : ℕ) : Type 0 where
-    pub least : leastAt t (rowOf names a) ≤ s
-    pub low : lowAt t (rowOf names a) c ≤ l
-    pub high : highAt t (rowOf names a) c < 255 → h ≤ highAt t (rowOf names a) c
-
   -- After s steps and l to h items, the bounds of each head of the clause D at node i take in the way to it: its conditions, and a step at
   -- each menu.
   unfoldable pub WaysFit : Clause → ℕ → ℕ → ℕ → ℕ → ℕ → Type 0
-  WaysFit (atomᴰ b) i c s l h = HeadFits b c s l h
+  WaysFit (atomᴰ b) i c s l h = HeadFits names t b c s l h
   WaysFit topᴰ i c s l h = Unit {0}
   WaysFit (lolliᴰ G D) i c s l h =
       let j = leftAt bs i in
       WaysFit D (rightAt bs i) c (s + leastAt t j) (l + lowAt t j c) (h + highAt t j c)
-  WaysFit (withᴰ D E) i c s l h = WaysFit D (leftAt bs i) c (suc s) l h × WaysFit E (rightAt bs i) c (suc s) l h
+  WaysFit (withᴰ D E) i c s l h = WaysFit D (leftAt bs i) c (s + 1) l h × WaysFit E (rightAt bs i) c (s + 1) l h
 
   pub record NodeSettled (i : ℕ) : Type 0 where
     pub head : headAt names i ≡ headStep bs names i
     pub least : leastAt t i ≤ leastStep i
     pub class : (c : ℕ) → c < classes names → NodeFits i c
 
+  -- a use of a clause with a menu: one step, and one item if it is linear and of the class
+  pub record MenuSettled (i : ℕ) (b : Bool) : Type 0 where
+    pub class : (c : ℕ) → c < classes names
+        → WaysFit (clauseOf bs i) i c 1 (bit (b && inClass names i c)) (bit (b && inClass names i c))
+
   -- a clause without a head is never used; one with a menu may have several
   pub record UseSettled (i : ℕ) (b : Bool) : Type 0 where
     pub least : headAt names i < 1000 → leastAt t (rowOf names (headAt names i)) ≤ leastUse i
     pub class : headAt names i < 1000 → (c : ℕ) → c < classes names → UseFits i b c
-    pub menu : 1002 ≤ headAt names i → (c : ℕ) → c < classes names
-        → WaysFit (clauseOf bs i) i c 1 (bit (b && inClass names i c)) (bit (b && inClass names i c))
+    pub menu : 1002 ≤ headAt names i → MenuSettled i b
 
 -- The clauses that may come into scope, by node, and whether they are linear: those of rules, of lines, and of lends.
 pub data Origin (bs : List ℕ) : ℕ → Bool → Type 0 where

@@ -1,10 +1,11 @@
 -- One case for each kind.
-use Prim.Native.Nat.{_+_, _-_, min}
+use Prim.Native.Nat.{_+_, _-_, min, max}
 use mathlib.Core.Path.{sym, _∙_, ap, ap₂}
 use borrow.Author.Needs.{needs}
-use Rattle.node_bounds.proofs.StepsByKind.{high-name, high-done, high-lend, high-either, high-recipe, high-both, high-rest, off-less}
-use Rattle.node_bounds.proofs.StepsByKind.{byte-small, under-small, sum-small, part-small, min-small, zero-small, top-small}
-use Rattle.node_bounds.proofs.StepsByKind.{same-low, same-high}
+use Rattle.node_bounds.proofs.StepsByKind.{high-name, high-done, high-lend, high-either, high-recipe, high-rest, off-less}
+use Rattle.node_bounds.proofs.StepsByKind.{high-one-of, high-never, high-both}
+use Rattle.node_bounds.proofs.StepsByKind.{byte-small, under-small, sum-small, part-small, min-small, max-small, zero-small, top-small}
+use Rattle.node_bounds.proofs.StepsByKind.{same-low, same-high, same-above, same-not-above}
 use Rattle.bounds.specs.Inner.Table.{highAt, rowOf, ifRecipe, inClass}
 use Rattle.bounds.specs.Inner.Count.{bit}
 use Rattle.bounds.specs.Inner.Bound.{off}
@@ -64,6 +65,18 @@ returns-3 c =
       zero-small,
     )
 
+returns-4 : tie.Need-returns-4
+returns-4 c =
+    let a = c .before .before .before .before in
+    let s = a .before .before in
+    let bs = s .args .card .now in
+    let ns = s .args .names .now in
+    let t = s .args .table .now in
+    let i = s .args .i in
+    let m = s .args .c in
+    let k = a .kind-at .ensures in
+    (sym (high-never bs ns t i m (same-above _ _ 8 k (c .if4 .taken))), zero-small)
+
 left-part-requires : tie.Need-left-part-requires
 left-part-requires c κs = search needs
 
@@ -79,26 +92,25 @@ weight-requires c κs = search needs
 taken-off-requires : tie.Need-taken-off-requires
 taken-off-requires c κs = search needs
 
-returns-4 : tie.Need-returns-4
-returns-4 c =
-    let s = c .before .before .before .before .before .before .before .before .before .before .before .before in
+returns-5 : tie.Need-returns-5
+returns-5 c =
+    let r = c .before .before .before in
+    let q = r .before .before in
+    let e = q .before .before in
+    let a = e .before .before .before .before in
+    let s = a .before .before in
     let bs = s .args .card .now in
     let ns = s .args .names .now in
     let t = s .args .table .now in
     let i = s .args .i in
     let m = s .args .c in
-    let k = c .before .before .before .before .before .before .before .before .before .before .kind-at .ensures in
-    let r =
-    c .before .before .before .high2 .ensures .0
-    ∙ ap (λ x. highAt t x m) (c .before .before .before .before .before .right-part .ensures .0) in
-    let w =
-    c .before .weight .ensures .0
-    ∙ ap (λ x. bit (inClass ns x m)) (c .before .before .before .before .before .before .left-part .ensures .0) in
+    let k = a .kind-at .ensures in
+    let right = r .high2 .ensures .0 ∙ ap (λ x. highAt t x m) (q .right-part .ensures .0) in
+    let one = c .before .weight .ensures .0 ∙ ap (λ x. bit (inClass ns x m)) (q .before .left-part .ensures .0) in
     let o = c .taken-off .ensures in
-    let e =
-    off-less _ _ (inClass ns (leftAt bs i) m) (λ h. o .1 .0 h ∙ ap (λ x. c .before .before .before .high2 .result - x) w) (o .1 .1) in (
-      e ∙ ap (λ x. off x (inClass ns (leftAt bs i) m)) r ∙ sym (high-lend bs ns t i m (sym k ∙ c .before .before .if4 .taken)),
-      under-small _ _ (o .0) (c .before .before .before .high2 .ensures .1),
+    let less = off-less _ _ (inClass ns (leftAt bs i) m) (λ h. o .1 .0 h ∙ ap (λ x. r .high2 .result - x) one) (o .1 .1) in (
+      less ∙ ap (λ x. off x (inClass ns (leftAt bs i) m)) right ∙ sym (high-lend bs ns t i m (sym k ∙ c .before .before .if5 .taken)),
+      under-small _ _ (o .0) (r .high2 .ensures .1),
     )
 
 high-requires-3 : tie.Need-high-requires-3
@@ -107,23 +119,24 @@ high-requires-3 c κs = search needs
 lesser-requires : tie.Need-lesser-requires
 lesser-requires c κs = search needs
 
-returns-5 : tie.Need-returns-5
-returns-5 c =
-    let s = c .before .before .before .before .before .before .before .before .before .before .before .before .before .before in
+returns-6 : tie.Need-returns-6
+returns-6 c =
+    let l = c .before .before in
+    let r = l .before .before .before in
+    let q = r .before .before in
+    let e = q .before .before in
+    let a = e .before .before .before .before in
+    let s = a .before .before in
     let bs = s .args .card .now in
     let ns = s .args .names .now in
     let t = s .args .table .now in
     let i = s .args .i in
     let m = s .args .c in
-    let k = c .before .before .before .before .before .before .before .before .before .before .before .before .kind-at .ensures in
-    let r =
-    c .before .before .before .before .before .high2 .ensures .0
-    ∙ ap (λ x. highAt t x m) (c .before .before .before .before .before .before .before .right-part .ensures .0) in
-    let l =
-    c .before .before .high3 .ensures .0
-    ∙ ap (λ x. highAt t x m) (c .before .before .before .before .before .before .before .before .left-part .ensures .0) in (
-      c .lesser .ensures ∙ ap₂ min l r ∙ sym (high-either bs ns t i m (sym k ∙ c .before .if5 .taken)),
-      rw (c .lesser .ensures) (min-small _ _ (c .before .before .high3 .ensures .1)),
+    let k = a .kind-at .ensures in
+    let left = l .high3 .ensures .0 ∙ ap (λ x. highAt t x m) (q .before .left-part .ensures .0) in
+    let right = r .high2 .ensures .0 ∙ ap (λ x. highAt t x m) (q .right-part .ensures .0) in (
+      c .lesser .ensures ∙ ap₂ min left right ∙ sym (high-either bs ns t i m (sym k ∙ c .before .if6 .taken)),
+      rw (c .lesser .ensures) (min-small _ _ (l .high3 .ensures .1)),
     )
 
 if-recipe-requires : tie.Need-if-recipe-requires
@@ -132,52 +145,75 @@ if-recipe-requires c κs = search needs
 add-result : tie.Need-add-result
 add-result c = search needs
 
-returns-6 : tie.Need-returns-6
-returns-6 c =
-    let s = c .before .before .before .before .before .before .before .before .before .before .before .before .before .before .before in
+returns-7 : tie.Need-returns-7
+returns-7 c =
+    let l = c .before .before .before in
+    let r = l .before .before .before in
+    let q = r .before .before in
+    let e = q .before .before in
+    let a = e .before .before .before .before in
+    let s = a .before .before in
     let bs = s .args .card .now in
     let ns = s .args .names .now in
     let t = s .args .table .now in
     let i = s .args .i in
     let m = s .args .c in
-    let k = c .before .before .before .before .before .before .before .before .before .before .before .before .before .kind-at .ensures in
-    let r =
-    c .before .before .before .before .before .before .high2 .ensures .0
-    ∙ ap (λ x. highAt t x m) (c .before .before .before .before .before .before .before .before .right-part .ensures .0) in
-    let l =
-    c .before .before .before .high3 .ensures .0
-    ∙ ap (λ x. highAt t x m) (c .before .before .before .before .before .before .before .before .before .left-part .ensures .0) in
-    let q =
-    c .if-recipe .ensures .0
-    ∙ ap₂ (ifRecipe bs) (c .before .before .before .before .before .before .before .before .right-part .ensures .0) r in (
-      ap₂ _+_ l q ∙ sym (high-recipe bs ns t i m (sym k ∙ c .before .if6 .taken)),
-      part-small _ _ _ (c .before .before .before .high3 .ensures .1) (c .if-recipe .ensures .1)
-          (c .before .before .before .before .before .before .high2 .ensures .1),
+    let k = a .kind-at .ensures in
+    let left = l .high3 .ensures .0 ∙ ap (λ x. highAt t x m) (q .before .left-part .ensures .0) in
+    let right = r .high2 .ensures .0 ∙ ap (λ x. highAt t x m) (q .right-part .ensures .0) in
+    let rest = c .if-recipe .ensures .0 ∙ ap₂ (ifRecipe bs) (q .right-part .ensures .0) right in (
+      ap₂ _+_ left rest ∙ sym (high-recipe bs ns t i m (sym k ∙ c .before .if7 .taken)),
+      part-small _ _ _ (l .high3 .ensures .1) (c .if-recipe .ensures .1) (r .high2 .ensures .1),
+    )
+
+greater-requires : tie.Need-greater-requires
+greater-requires c κs = search needs
+
+returns-8 : tie.Need-returns-8
+returns-8 c =
+    let l = c .before .before .before .before in
+    let r = l .before .before .before in
+    let q = r .before .before in
+    let e = q .before .before in
+    let a = e .before .before .before .before in
+    let s = a .before .before in
+    let bs = s .args .card .now in
+    let ns = s .args .names .now in
+    let t = s .args .table .now in
+    let i = s .args .i in
+    let m = s .args .c in
+    let k = a .kind-at .ensures in
+    let left = l .high3 .ensures .0 ∙ ap (λ x. highAt t x m) (q .before .left-part .ensures .0) in
+    let right = r .high2 .ensures .0 ∙ ap (λ x. highAt t x m) (q .right-part .ensures .0) in (
+      c .greater .ensures ∙ ap₂ max left right ∙ sym (high-one-of bs ns t i m (sym k ∙ c .before .if8 .taken)),
+      rw (c .greater .ensures) (max-small _ _ (l .high3 .ensures .1) (r .high2 .ensures .1)),
     )
 
 add-result-2 : tie.Need-add-result-2
 add-result-2 c = search needs
 
-returns-7 : tie.Need-returns-7
-returns-7 c =
-    let s = c .before .before .before .before .before .before .before .before .before .before .before .before .before .before in
+returns-9 : tie.Need-returns-9
+returns-9 c =
+    let l = c .before .before .before in
+    let r = l .before .before .before in
+    let q = r .before .before in
+    let e = q .before .before in
+    let a = e .before .before .before .before in
+    let s = a .before .before in
     let bs = s .args .card .now in
     let ns = s .args .names .now in
     let t = s .args .table .now in
     let i = s .args .i in
     let m = s .args .c in
-    let k = c .before .before .before .before .before .before .before .before .before .before .before .before .kind-at .ensures in
-    let r =
-    c .before .before .before .before .before .high2 .ensures .0
-    ∙ ap (λ x. highAt t x m) (c .before .before .before .before .before .before .before .right-part .ensures .0) in
-    let l =
-    c .before .before .high3 .ensures .0
-    ∙ ap (λ x. highAt t x m) (c .before .before .before .before .before .before .before .before .left-part .ensures .0) in (
-      ap₂ _+_ l r
+    let k = a .kind-at .ensures in
+    let left = l .high3 .ensures .0 ∙ ap (λ x. highAt t x m) (q .before .left-part .ensures .0) in
+    let right = r .high2 .ensures .0 ∙ ap (λ x. highAt t x m) (q .right-part .ensures .0) in (
+      ap₂ _+_ left right
           ∙ sym
-          (high-both bs ns t i m (same-high _ _ 4 k (c .before .before .before .before .before .before .before .before .before .if3 .left))
-          (λ p. c .before .if5 .left (k ∙ p)) (λ p. c .before .before .before .before .if4 .left (k ∙ p)) (λ p. c .if6 .left (k ∙ p))),
-      sum-small _ _ (c .before .before .high3 .ensures .1) (c .before .before .before .before .before .high2 .ensures .1),
+          (high-both bs ns t i m (same-high _ _ 4 k (e .before .if3 .left)) (same-not-above _ _ 8 k (e .if4 .left))
+          (λ p. c .before .before .if6 .left (k ∙ p)) (λ p. l .before .before .if5 .left (k ∙ p))
+          (λ p. c .before .if7 .left (k ∙ p)) (λ p. c .if8 .left (k ∙ p))),
+      sum-small _ _ (l .high3 .ensures .1) (r .high2 .ensures .1),
     )
 
 pub high-step-spec : {M : Type 1} → statement M
@@ -191,17 +227,20 @@ high-step-spec =
     returns
     returns-2
     returns-3
+    returns-4
     left-part-requires
     right-part-requires
     high-requires-2
     weight-requires
     taken-off-requires
-    returns-4
+    returns-5
     high-requires-3
     lesser-requires
-    returns-5
+    returns-6
     if-recipe-requires
     add-result
-    returns-6
+    returns-7
+    greater-requires
+    returns-8
     add-result-2
-    returns-7)
+    returns-9)

@@ -1,9 +1,10 @@
 -- One case for each kind.
-use Prim.Native.Nat.{_+_}
+use Prim.Native.Nat.{_+_, min}
 use mathlib.Core.Path.{sym, _∙_, ap, ap₂}
 use borrow.Author.Needs.{needs}
-use Rattle.node_bounds.proofs.StepsByKind.{least-name, least-done, least-lend, least-recipe, least-both}
-use Rattle.node_bounds.proofs.StepsByKind.{byte-small, sum-small, part-small, zero-small, same-low, same-high}
+use Rattle.node_bounds.proofs.StepsByKind.{least-name, least-done, least-lend, least-recipe, least-one-of}
+use Rattle.node_bounds.proofs.StepsByKind.{least-never, least-both}
+use Rattle.node_bounds.proofs.StepsByKind.{byte-small, sum-small, part-small, choice-small, zero-small, same-low, same-high, same-above, same-not-above}
 use Rattle.bounds.specs.Inner.Table.{leastAt, rowOf, ifRecipe}
 use Rattle.node_bounds.proofs.least_step.Statement.{statement}
 use Rattle.node_bounds.proofs.least_step.Tie as tie
@@ -43,23 +44,42 @@ returns-2 c =
     let k = c .before .before .kind-at .ensures in
     (sym (least-done bs ns t i (λ p. c .before .if1 .left (k ∙ p)) (same-low _ _ 4 k (c .if2 .taken))), zero-small)
 
+never-requires : tie.Need-never-requires
+never-requires c κs = search needs
+
+returns-3 : tie.Need-returns-3
+returns-3 c =
+    let a = c .before .before .before .before in
+    let s = a .before .before in
+    let bs = s .args .card .now in
+    let ns = s .args .names .now in
+    let t = s .args .table .now in
+    let i = s .args .i in
+    let k = a .kind-at .ensures in (
+      least-never bs ns t i _ (same-above _ _ 8 k (c .before .if3 .taken)) (λ p. c .never .ensures .0 .0 (k ∙ p))
+          (λ p. c .never .ensures .0 .1 (λ q. p (sym k ∙ q))),
+      byte-small _ (c .never .ensures .1),
+    )
+
 right-part-requires : tie.Need-right-part-requires
 right-part-requires c κs = search needs
 
 least-requires-2 : tie.Need-least-requires-2
 least-requires-2 c κs = search needs
 
-returns-3 : tie.Need-returns-3
-returns-3 c =
-    let s = c .before .before .before .before .before .before .before .before in
+returns-4 : tie.Need-returns-4
+returns-4 c =
+    let r = c .before in
+    let q = r .before .before in
+    let a = q .before .before .before .before in
+    let s = a .before .before in
     let bs = s .args .card .now in
     let ns = s .args .names .now in
     let t = s .args .table .now in
     let i = s .args .i in
-    let k = c .before .before .before .before .before .before .kind-at .ensures in (
-      c .before .least2 .ensures .0 ∙ ap (leastAt t) (c .before .before .before .right-part .ensures .0)
-          ∙ sym (least-lend bs ns t i (sym k ∙ c .if3 .taken)),
-      byte-small _ (c .before .least2 .ensures .1),
+    let k = a .kind-at .ensures in (
+      r .least2 .ensures .0 ∙ ap (leastAt t) (q .right-part .ensures .0) ∙ sym (least-lend bs ns t i (sym k ∙ c .if4 .taken)),
+      byte-small _ (r .least2 .ensures .1),
     )
 
 left-part-requires : tie.Need-left-part-requires
@@ -74,46 +94,75 @@ if-recipe-requires c κs = search needs
 add-result : tie.Need-add-result
 add-result c = search needs
 
-returns-4 : tie.Need-returns-4
-returns-4 c =
-    let s = c .before .before .before .before .before .before .before .before .before .before .before .before .before in
+returns-5 : tie.Need-returns-5
+returns-5 c =
+    let l = c .before .before in
+    let r = l .before .before .before .before in
+    let q = r .before .before in
+    let e = q .before in
+    let a = e .before .before .before in
+    let s = a .before .before in
     let bs = s .args .card .now in
     let ns = s .args .names .now in
     let t = s .args .table .now in
     let i = s .args .i in
-    let k = c .before .before .before .before .before .before .before .before .before .before .before .kind-at .ensures in
-    let r =
-    c .before .before .before .before .before .before .least2 .ensures .0
-    ∙ ap (leastAt t) (c .before .before .before .before .before .before .before .before .right-part .ensures .0) in
-    let l = c .before .before .least3 .ensures .0 ∙ ap (leastAt t) (c .before .before .before .left-part .ensures .0) in
-    let q =
-    c .if-recipe .ensures .0
-    ∙ ap₂ (ifRecipe bs) (c .before .before .before .before .before .before .before .before .right-part .ensures .0) r in (
-      ap₂ _+_ l q ∙ sym (least-recipe bs ns t i (sym k ∙ c .before .if4 .taken)),
-      part-small _ _ _ (c .before .before .least3 .ensures .1) (c .if-recipe .ensures .1)
-          (c .before .before .before .before .before .before .least2 .ensures .1),
+    let k = a .kind-at .ensures in
+    let left = l .least3 .ensures .0 ∙ ap (leastAt t) (l .before .left-part .ensures .0) in
+    let right = r .least2 .ensures .0 ∙ ap (leastAt t) (q .right-part .ensures .0) in
+    let rest = c .if-recipe .ensures .0 ∙ ap₂ (ifRecipe bs) (q .right-part .ensures .0) right in (
+      ap₂ _+_ left rest ∙ sym (least-recipe bs ns t i (sym k ∙ c .before .if5 .taken)),
+      part-small _ _ _ (l .least3 .ensures .1) (c .if-recipe .ensures .1) (r .least2 .ensures .1),
     )
+
+lesser-requires : tie.Need-lesser-requires
+lesser-requires c κs = search needs
 
 add-result-2 : tie.Need-add-result-2
 add-result-2 c = search needs
 
-returns-5 : tie.Need-returns-5
-returns-5 c =
-    let s = c .before .before .before .before .before .before .before .before .before .before .before .before in
+returns-6 : tie.Need-returns-6
+returns-6 c =
+    let l = c .before .before .before in
+    let r = l .before .before .before .before in
+    let q = r .before .before in
+    let e = q .before in
+    let a = e .before .before .before in
+    let s = a .before .before in
     let bs = s .args .card .now in
     let ns = s .args .names .now in
     let t = s .args .table .now in
     let i = s .args .i in
-    let k = c .before .before .before .before .before .before .before .before .before .before .kind-at .ensures in
-    let r =
-    c .before .before .before .before .before .least2 .ensures .0
-    ∙ ap (leastAt t) (c .before .before .before .before .before .before .before .right-part .ensures .0) in
-    let l = c .before .least3 .ensures .0 ∙ ap (leastAt t) (c .before .before .left-part .ensures .0) in (
-      ap₂ _+_ l r
+    let k = a .kind-at .ensures in
+    let left = l .least3 .ensures .0 ∙ ap (leastAt t) (l .before .left-part .ensures .0) in
+    let right = r .least2 .ensures .0 ∙ ap (leastAt t) (q .right-part .ensures .0) in
+    let least = c .lesser .ensures ∙ ap₂ min left right in (
+      ap (λ x. 1 + x) least ∙ sym (least-one-of bs ns t i (sym k ∙ c .before .if6 .taken)),
+      rw (c .lesser .ensures) (choice-small _ _ (l .least3 .ensures .1)),
+    )
+
+add-result-3 : tie.Need-add-result-3
+add-result-3 c = search needs
+
+returns-7 : tie.Need-returns-7
+returns-7 c =
+    let l = c .before .before in
+    let r = l .before .before .before .before in
+    let q = r .before .before in
+    let e = q .before in
+    let a = e .before .before .before in
+    let s = a .before .before in
+    let bs = s .args .card .now in
+    let ns = s .args .names .now in
+    let t = s .args .table .now in
+    let i = s .args .i in
+    let k = a .kind-at .ensures in
+    let left = l .least3 .ensures .0 ∙ ap (leastAt t) (l .before .left-part .ensures .0) in
+    let right = r .least2 .ensures .0 ∙ ap (leastAt t) (q .right-part .ensures .0) in (
+      ap₂ _+_ left right
           ∙ sym
-          (least-both bs ns t i (same-high _ _ 4 k (c .before .before .before .before .before .before .before .before .if2 .left))
-          (λ p. c .before .before .before .before .if3 .left (k ∙ p)) (λ p. c .if4 .left (k ∙ p))),
-      sum-small _ _ (c .before .least3 .ensures .1) (c .before .before .before .before .before .least2 .ensures .1),
+          (least-both bs ns t i (same-high _ _ 4 k (e .before .if2 .left)) (same-not-above _ _ 8 k (e .if3 .left))
+          (λ p. l .before .before .before .if4 .left (k ∙ p)) (λ p. c .before .if5 .left (k ∙ p)) (λ p. c .if6 .left (k ∙ p))),
+      sum-small _ _ (l .least3 .ensures .1) (r .least2 .ensures .1),
     )
 
 pub least-step-spec : {M : Type 1} → statement M
@@ -126,13 +175,18 @@ least-step-spec =
     least-requires
     returns
     returns-2
+    never-requires
+    returns-3
     right-part-requires
     least-requires-2
-    returns-3
+    returns-4
     left-part-requires
     least-requires-3
     if-recipe-requires
     add-result
-    returns-4
+    returns-5
+    lesser-requires
     add-result-2
-    returns-5)
+    returns-6
+    add-result-3
+    returns-7)

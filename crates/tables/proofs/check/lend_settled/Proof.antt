@@ -1,6 +1,8 @@
-use mathlib.Core.Path.{_∙_}
+use native.Mathlib.Omega.{arith}
+use mathlib.Core.Path.{sym, _∙_}
 use mathlib.Core.Bool.{true}
 use borrow.Author.Needs.{needs}
+use Rattle.card.proofs.SoundNodes.{lend-parts, clause-above}
 use Rattle.bounds.specs.Inner.Table.{UseSettled}
 use mathlib.Core.Path.{subst}
 use Rattle.tables.proofs.check.lend_settled.Statement.{statement}
@@ -13,7 +15,14 @@ left-part-requires : tie.Need-left-part-requires
 left-part-requires c κs = search needs
 
 use-settled-requires : tie.Need-use-settled-requires
-use-settled-requires c κs = search needs
+use-settled-requires c κs =
+    let e = c .before in
+    let a = e .before in
+    let s = a .before .before in
+    let z = s .pre .0 .sound in
+    let n = s .pre .1 .here in
+    let g = lend-parts z (s .args .i) n (sym (a .kind-at .ensures) ∙ e .if1 .taken) .0 in
+    (s .pre .0, rw (c .left-part .ensures .0) (clause-above _ _ _ _ (omega (arith, n)) g))
 
 returns : tie.Need-returns
 returns c =

@@ -5,6 +5,7 @@ use native.Mathlib.Omega.{arith}
 use mathlib.Core.Bool.{true, false≢true}
 use Rattle.bounds.specs.Inner.Table.{UseSettled}
 use Rattle.card.proofs.CardChecked.{sound-front}
+use Rattle.card.proofs.SoundNodes.{sound-line-node}
 use Rattle.card.specs.Format.{lineNode}
 use borrow.Author.Count.{below-more}
 use borrow.Author.Tests.{not-false}
@@ -28,7 +29,13 @@ line-at-requires : tie.Need-line-at-requires Inv-loop μ-loop
 line-at-requires c κs = search needs
 
 use-settled-requires : tie.Need-use-settled-requires Inv-loop μ-loop
-use-settled-requires c κs = search needs
+use-settled-requires c κs =
+    let a = c .before .before .before in
+    let s = a .before .before in (
+      s .pre,
+      rw (c .line-at .ensures .0)
+          (sound-line-node (s .pre .sound) (c .before .before .loop .i) (omega (arith, c .before .loop-test, a .byte .ensures .0))),
+    )
 
 returns : tie.Need-returns Inv-loop μ-loop
 returns c = λ q. absurd (false≢true q)

@@ -5,6 +5,7 @@ use native.Mathlib.Omega.{arith}
 use mathlib.Core.Path.{_≡_, sym, _∙_, ap}
 use mathlib.Core.Bool.{false≢true}
 use Rattle.bounds.specs.Inner.Table.{UseFits, headAt, rowOf, leastAt}
+use Rattle.bounds.proofs.WaysSmall.{clause-node}
 use borrow.Author.Count.{below-more}
 use borrow.Author.Tests.{not-false}
 use Rattle.tables.proofs.check.use_settled.Statement.{statement}
@@ -17,18 +18,38 @@ abbrev μ-loop : tie.MeasureT-loop
 μ-loop card names table i linear h n c₀ c = n - c
 
 head-requires : tie.Need-head-requires Inv-loop μ-loop
-head-requires c κs = search needs
+head-requires c κs =
+    let s = c .before .before in
+    (clause-node (s .pre .0 .sound) (s .pre .1) .few, s .pre .0 .names-held)
 
 returns : tie.Need-returns Inv-loop μ-loop
 returns c =
+    let e = c .before .before .head .ensures .0 in
     λ q.
     record {
-      least = λ h. absurd (omega (arith, c .if1 .taken, c .before .head .ensures .0));
-      class = λ h. absurd (omega (arith, c .if1 .taken, c .before .head .ensures .0));
+      least = λ h. absurd (omega (arith, c .before .if1 .taken, e));
+      class = λ h. absurd (omega (arith, c .before .if1 .taken, e));
+      menu = λ h. absurd (omega (arith, c .if2 .taken, e));
+    }
+
+menu-settled-requires : tie.Need-menu-settled-requires Inv-loop μ-loop
+menu-settled-requires c κs = search needs
+
+returns-2 : tie.Need-returns-2 Inv-loop μ-loop
+returns-2 c =
+    let a = c .before .before in
+    let e = a .before .head .ensures .0 in
+    λ q.
+    record {
+      least = λ h. absurd (omega (arith, a .if1 .taken, e));
+      class = λ h. absurd (omega (arith, a .if1 .taken, e));
+      menu = λ h. c .menu-settled .ensures q;
     }
 
 least-use-requires : tie.Need-least-use-requires Inv-loop μ-loop
-least-use-requires c κs = search needs
+least-use-requires c κs =
+    let s = c .before .before .before .before in
+    (s .pre .0, clause-node (s .pre .0 .sound) (s .pre .1))
 
 row-requires : tie.Need-row-requires Inv-loop μ-loop
 row-requires c κs = search needs
@@ -36,8 +57,8 @@ row-requires c κs = search needs
 least-requires : tie.Need-least-requires Inv-loop μ-loop
 least-requires c κs = search needs
 
-returns-2 : tie.Need-returns-2 Inv-loop μ-loop
-returns-2 c = λ q. absurd (false≢true q)
+returns-3 : tie.Need-returns-3 Inv-loop μ-loop
+returns-3 c = λ q. absurd (false≢true q)
 
 classes-requires : tie.Need-classes-requires Inv-loop μ-loop
 classes-requires c κs = search needs
@@ -46,10 +67,20 @@ loop-holds : tie.Need-loop-holds Inv-loop μ-loop
 loop-holds c = (omega arith, λ k h. absurd (omega arith))
 
 use-fits-requires : tie.Need-use-fits-requires Inv-loop μ-loop
-use-fits-requires c κs = search needs
+use-fits-requires c κs =
+    let a = c .before .before in
+    let e = a .before .before .before .before .before .before .before .before in
+    let h = e .before in
+    let s = h .before .before .before in (
+      s .pre .0,
+      (
+        (clause-node (s .pre .0 .sound) (s .pre .1), omega (arith, c .loop-test, a .classes .ensures .1)),
+        omega (arith, e .if1 .left, h .head .ensures .0),
+      ),
+    )
 
-returns-3 : tie.Need-returns-3 Inv-loop μ-loop
-returns-3 c = λ q. absurd (false≢true q)
+returns-4 : tie.Need-returns-4 Inv-loop μ-loop
+returns-4 c = λ q. absurd (false≢true q)
 
 add-c : tie.Need-add-c Inv-loop μ-loop
 add-c c = search needs
@@ -59,32 +90,27 @@ loop-less c = search needs
 
 loop-again : tie.Need-loop-again Inv-loop μ-loop
 loop-again c =
-    (omega arith, below-more _ _ (c .before .before .before .loop .inv .1) (c .before .use-fits .ensures (not-false _ (c .if3 .left))))
+    (omega arith, below-more _ _ (c .before .before .before .loop .inv .1) (c .before .use-fits .ensures (not-false _ (c .if4 .left))))
 
-returns-4 : tie.Need-returns-4 Inv-loop μ-loop
-returns-4 c =
-    let s = c .before .before .before .before .before .before .before .before .before .before .before .before .before .before in
+returns-5 : tie.Need-returns-5 Inv-loop μ-loop
+returns-5 c =
+    let a = c .before .before in
+    let g = a .before .before in
+    let l = g .before in
+    let r = l .before in
+    let u = r .before .before .before in
+    let e = u .before in
+    let h = e .before in
+    let s = h .before .before .before in
     let ns = s .args .names .now in
     let t = s .args .table .now in
-    let le : leastAt t (rowOf ns (headAt ns (s .args .i))) ≡ c .before .before .before .before .before .least .result =
-    sym
-    (c .before .before .before .before .before .least .ensures .0
-    ∙ ap (leastAt t)
-    (c .before .before .before .before .before .before .row .ensures .0
-    ∙ ap (rowOf ns) (c .before .before .before .before .before .before .before .before .before .before .before .head .ensures .0))) in
+    let le : leastAt t (rowOf ns (headAt ns (s .args .i))) ≡ l .least .result =
+    sym (l .least .ensures .0 ∙ ap (leastAt t) (r .row .ensures .0 ∙ ap (rowOf ns) (h .head .ensures .0))) in
     λ q.
     record {
-      least =
-          λ h.
-          omega (
-            arith,
-            c .before .before .before .before .if2 .left,
-            le,
-            c .before .before .before .before .before .before .before .before .before .least-use .ensures .0,
-          );
-      class =
-          λ h c′ l.
-          c .before .loop .inv .1 c′ (omega (arith, c .before .before .classes .ensures .0, c .loop-test, c .before .loop .inv .0));
+      least = λ k. omega (arith, g .if3 .left, le, u .least-use .ensures .0);
+      class = λ k m j. c .before .loop .inv .1 m (omega (arith, a .classes .ensures .0, c .loop-test, c .before .loop .inv .0));
+      menu = λ k. absurd (omega (arith, e .if1 .left, h .head .ensures .0));
     }
 
 pub use-settled-spec : {M : Type 1} → statement M
@@ -95,15 +121,17 @@ use-settled-spec =
     μ-loop
     head-requires
     returns
+    menu-settled-requires
+    returns-2
     least-use-requires
     row-requires
     least-requires
-    returns-2
+    returns-3
     classes-requires
     loop-holds
     use-fits-requires
-    returns-3
+    returns-4
     add-c
     loop-less
     loop-again
-    returns-4)
+    returns-5)

@@ -18,6 +18,12 @@ head-requires c κs = search needs
 returns : tie.Need-returns Inv-loop μ-loop
 returns c = search needs
 
+widen-menu-requires : tie.Need-widen-menu-requires Inv-loop μ-loop
+widen-menu-requires c κs = search needs
+
+returns-2 : tie.Need-returns-2 Inv-loop μ-loop
+returns-2 c = search needs
+
 row-requires : tie.Need-row-requires Inv-loop μ-loop
 row-requires c κs = search needs
 
@@ -62,8 +68,8 @@ loop-less c = search needs
 loop-again : tie.Need-loop-again Inv-loop μ-loop
 loop-again c = search needs
 
-returns-2 : tie.Need-returns-2 Inv-loop μ-loop
-returns-2 c = search needs
+returns-3 : tie.Need-returns-3 Inv-loop μ-loop
+returns-3 c = search needs
 
 pub widen-spec : {M : Type 1} → statement M
 widen-spec =
@@ -73,6 +79,8 @@ widen-spec =
     μ-loop
     head-requires
     returns
+    widen-menu-requires
+    returns-2
     row-requires
     least-requires
     least-use-requires
@@ -84,4 +92,4 @@ widen-spec =
     add-c
     loop-less
     loop-again
-    returns-2)
+    returns-3)
