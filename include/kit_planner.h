@@ -35,7 +35,7 @@
 #include <stddef.h>
 #include <stdint.h>
 
-#define KIT_VERSION "0.2.0"
+#define KIT_VERSION "0.3.0"
 
 /* The lengths of the longest card and the longest sheet: room for any that a call writes. */
 #define KIT_CARD_MAX 2891

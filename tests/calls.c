@@ -370,7 +370,7 @@ static void constants(void) {
     check(KIT_CARD_MAX == 11 + 5 * 512 + 2 * 64 + 3 * 64, "the longest card");
     check(KIT_SHEET_MAX == 5 + 255 + 64, "the longest sheet");
     check(KIT_LEFT == 254 && KIT_RIGHT == 255, "the two choices");
-    check(strcmp(KIT_VERSION, "0.2.0") == 0, "the version");
+    check(strcmp(KIT_VERSION, "0.3.0") == 0, "the version");
 }
 
 int main(void) {

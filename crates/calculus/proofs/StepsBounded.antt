@@ -1,8 +1,8 @@
 -- How far up the entry numbers of a derivation's steps go: clauses of height 8 at most lend six clauses a use, one inside the other.
 use Prim.Native.Nat.{ℕ, _+_, _*_, _≤_, _<_}
 use native.Mathlib.Omega.{arith}
-use mathlib.Core.Path.{_≡_, refl, sym, ap, ap₂, _∙_, subst}
-use mathlib.Core.Logic.{_⊎_, inl, inr}
+use mathlib.Core.Path.{_≡_, refl, sym, ap, ap₂, _∙_}
+use mathlib.Core.Logic.{_⊎_, inl, inr, ⊎-map}
 use mathlib.Core.Bool.{Bool, true, false, _||_, false≢true}
 use mathlib.Core.List.{List, [], _∷_, _++_}
 use lib.Dec.{eqb}
@@ -12,9 +12,10 @@ use Rattle.calculus.specs.Formula.{withᴰ, Fits, matched, residual}
 use Rattle.calculus.specs.Items.{Items}
 use Rattle.calculus.specs.Derivation.{Scope, Entry, size, clauseAt, residualAt, lend, Derives, res-1, res-⊤, res-⊗, res-&, res-⊸}
 use Rattle.calculus.specs.Derivation.{res-⊕₁, res-⊕₂, res-atm-int, res-atm-lin}
-use Rattle.calculus.specs.Steps.{steps, nesting, stands, leftChoice, rightChoice}
+use Rattle.calculus.specs.Steps.{steps, entriesUsed, nesting, stands, leftChoice, rightChoice}
 use Rattle.calculus.specs.Inner.Height.{heightᴳ, heightᴰ, lends, Low, Below}
 use Rattle.calculus.specs.Inner.Renaming.{over}
+use Rattle.calculus.proofs.SetLaws.{or-right}
 use Rattle.calculus.proofs.RenamingKeeps.{in-scope, lent-cases, entry-before, entry-lent}
 use Rattle.calculus.proofs.SummaryExact.{lend-size}
 
@@ -74,17 +75,10 @@ or-cases : (a b : Bool) (P : Type 0) → (a || b) ≡ true → (a ≡ true → P
 or-cases true b P h f g = f refl
 or-cases false b P h f g = g h
 
--- a step is an entry below m or a choice
-abbrev BelowOrChoice : ℕ → ℕ → Type 0
-BelowOrChoice m e = (e < m) ⊎ ((e ≡ leftChoice) ⊎ (e ≡ rightChoice))
-
-below-cons : {m x : ℕ} {l : List ℕ} → BelowOrChoice m x → Below m l → Below m (x ∷ l)
+below-cons : {m x : ℕ} {l : List ℕ} → x < m → Below m l → Below m (x ∷ l)
 unfolding stands
 below-cons {m} {x} {l} h b =
-    record {
-      below = λ e s. or-cases (eqb e x) (stands e l) (BelowOrChoice m e) s
-          (λ q. subst (BelowOrChoice m) (sym (eqb-true e x q)) h) (b .below e);
-    }
+    record { below = λ e s. or-cases (eqb e x) (stands e l) (e < m) s (λ q. omega (arith, eqb-true e x q)) (b .below e) }
 
 stands-parts : (e : ℕ) (l k : List ℕ) → stands e (l ++ k) ≡ (stands e l || stands e k)
 unfolding stands
@@ -98,35 +92,66 @@ stands-parts e (x ∷ l) k = ap (λ (b : Bool). eqb e x || b) (stands-parts e l 
 below-parts : {m : ℕ} {l k : List ℕ} → Below m l → Below m k → Below m (l ++ k)
 below-parts {m} {l} {k} b c =
     record {
-      below = λ e s. or-cases (stands e l) (stands e k) (BelowOrChoice m e) (sym (stands-parts e l k) ∙ s) (b .below e) (c .below e);
+      below = λ e s. or-cases (stands e l) (stands e k) (e < m) (sym (stands-parts e l k) ∙ s) (b .below e) (c .below e);
     }
 
 -- THEOREM. With clauses at most 8 high, the entries of a derivation are below what stands in scope, the lends of its goal, and six for each
 -- nesting.
-pub steps-below : (m : ℕ) {es : Scope} {I : Items} {G : Goal} → Low es → heightᴳ G ≤ 8 → (d : Derives es I G)
-    → size es + lends G + 6 * nesting d ≤ m → Below m (steps d)
-unfolding steps nesting heightᴳ lends residualAt
-steps-below m l h (res-1 n) b = below-none
-steps-below m l h res-⊤ b = below-none
-steps-below m l h (res-⊗ s c d) b =
-    below-parts (steps-below m l (omega arith) c (omega arith)) (steps-below m l (omega arith) d (omega arith))
-steps-below m l h (res-& c d) b =
-    below-parts (steps-below m l (omega arith) c (omega arith)) (steps-below m l (omega arith) d (omega arith))
-steps-below m l h (res-⊕₁ d) b = below-cons (inr (inl refl)) (steps-below m l (omega arith) d (omega arith))
-steps-below m l h (res-⊕₂ d) b = below-cons (inr (inr refl)) (steps-below m l (omega arith) d (omega arith))
-steps-below m l h (res-⊸ {es} {D} f d) b = steps-below m (low-lend D l (omega arith)) (omega arith) d (omega (arith, lend-size es D))
-steps-below m {es} l h (res-atm-int {a} e n d) b =
+pub entries-below : (m : ℕ) {es : Scope} {I : Items} {G : Goal} → Low es → heightᴳ G ≤ 8 → (d : Derives es I G)
+    → size es + lends G + 6 * nesting d ≤ m → Below m (entriesUsed d)
+unfolding entriesUsed nesting heightᴳ lends residualAt
+entries-below m l h (res-1 n) b = below-none
+entries-below m l h res-⊤ b = below-none
+entries-below m l h (res-⊗ s c d) b =
+    below-parts (entries-below m l (omega arith) c (omega arith)) (entries-below m l (omega arith) d (omega arith))
+entries-below m l h (res-& c d) b =
+    below-parts (entries-below m l (omega arith) c (omega arith)) (entries-below m l (omega arith) d (omega arith))
+entries-below m l h (res-⊕₁ d) b = entries-below m l (omega arith) d (omega arith)
+entries-below m l h (res-⊕₂ d) b = entries-below m l (omega arith) d (omega arith)
+entries-below m l h (res-⊸ {es} {D} f d) b = entries-below m (low-lend D l (omega arith)) (omega arith) d (omega (arith, lend-size es D))
+entries-below m {es} l h (res-atm-int {a} e n d) b =
     let in-it = in-scope a e d in
     let low = l .low e in-it in
-    below-cons (inl (omega arith))
-    (steps-below m l (omega (arith, residual-height (es .fits) a (clauseAt es e))) d
+    below-cons (omega arith)
+    (entries-below m l (omega (arith, residual-height (es .fits) a (clauseAt es e))) d
     (omega (arith, residual-lends (es .fits) a (clauseAt es e) low)))
-steps-below m {es} l h (res-atm-lin {a} e n i d) b =
+entries-below m {es} l h (res-atm-lin {a} e n i d) b =
     let in-it = in-scope a e d in
     let low = l .low e in-it in
-    below-cons (inl (omega arith))
-    (steps-below m l (omega (arith, residual-height (es .fits) a (clauseAt es e))) d
+    below-cons (omega arith)
+    (entries-below m l (omega (arith, residual-height (es .fits) a (clauseAt es e))) d
     (omega (arith, residual-lends (es .fits) a (clauseAt es e) low)))
+
+-- in one of two parts, and behind a use
+in-parts : (e : ℕ) (l r k m : List ℕ) {C : Type 0} → (stands e l ≡ true → (stands e k ≡ true) ⊎ C)
+    → (stands e r ≡ true → (stands e m ≡ true) ⊎ C) → stands e (l ++ r) ≡ true → (stands e (k ++ m) ≡ true) ⊎ C
+in-parts e l r k m {C} f g h =
+    or-cases (stands e l) (stands e r) ((stands e (k ++ m) ≡ true) ⊎ C) (sym (stands-parts e l r) ∙ h)
+    (λ q. ⊎-map (λ x. stands-parts e k m ∙ ap (λ (b : Bool). b || stands e m) x) (λ c. c) (f q))
+    (λ q. ⊎-map (λ x. stands-parts e k m ∙ or-right (stands e k) (stands e m) x) (λ c. c) (g q))
+
+behind-use : (e x : ℕ) (l k : List ℕ) {C : Type 0} → (stands e l ≡ true → (stands e k ≡ true) ⊎ C) → stands e (x ∷ l) ≡ true
+    → (stands e (x ∷ k) ≡ true) ⊎ C
+unfolding stands
+behind-use e x l k {C} f h =
+    or-cases (eqb e x) (stands e l) ((stands e (x ∷ k) ≡ true) ⊎ C) h (λ q. inl (ap (λ (b : Bool). b || stands e k) q))
+    (λ q. ⊎-map (λ y. or-right (eqb e x) (stands e k) y) (λ c. c) (f q))
+
+-- THEOREM. A step of a derivation is an entry that it uses, or a choice.
+pub entry-or-choice : {es : Scope} {I : Items} {G : Goal} (d : Derives es I G) (e : ℕ) → stands e (steps d) ≡ true
+    → (stands e (entriesUsed d) ≡ true) ⊎ ((e ≡ leftChoice) ⊎ (e ≡ rightChoice))
+unfolding steps entriesUsed stands
+entry-or-choice (res-1 n) e h = inl h
+entry-or-choice res-⊤ e h = inl h
+entry-or-choice (res-⊗ s l r) e h = in-parts e (steps l) (steps r) (entriesUsed l) (entriesUsed r) (entry-or-choice l e) (entry-or-choice r e) h
+entry-or-choice (res-& l r) e h = in-parts e (steps l) (steps r) (entriesUsed l) (entriesUsed r) (entry-or-choice l e) (entry-or-choice r e) h
+entry-or-choice (res-⊕₁ d) e h =
+    or-cases (eqb e leftChoice) (stands e (steps d)) _ h (λ q. inr (inl (eqb-true e leftChoice q))) (entry-or-choice d e)
+entry-or-choice (res-⊕₂ d) e h =
+    or-cases (eqb e rightChoice) (stands e (steps d)) _ h (λ q. inr (inr (eqb-true e rightChoice q))) (entry-or-choice d e)
+entry-or-choice (res-⊸ f d) e h = entry-or-choice d e h
+entry-or-choice (res-atm-int x n d) e h = behind-use e x (steps d) (entriesUsed d) (entry-or-choice d e) h
+entry-or-choice (res-atm-lin x n i d) e h = behind-use e x (steps d) (entriesUsed d) (entry-or-choice d e) h
 
 -- THEOREM. Two maps that agree on all those numbers rename its entries alike.
 pub over-same : (f g : ℕ → ℕ) (m : ℕ) → ((e : ℕ) → e < m → f e ≡ g e) → {es : Scope} {I : Items} {G : Goal} → Low es → heightᴳ G ≤ 8

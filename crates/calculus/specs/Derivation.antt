@@ -1,5 +1,5 @@
--- Derivations: source document 000, Figure 1, cut to the kinds of 01 and of 02, #103. A scope has one list of entries, so that an entry's number is its
--- place in it.
+-- Derivations: source document 000, Figure 1, cut to the kinds of 01 and of 02, #103. A scope has one list of entries, so that an entry's
+-- number is its place in it.
 use Prim.Native.Nat.{ℕ}
 use mathlib.Core.Path.{_≡_}
 use mathlib.Core.Bool.{Bool, true, false}

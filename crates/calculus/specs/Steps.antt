@@ -34,6 +34,18 @@ steps (res-atm-lin e n h d) = e ∷ steps d
 unfoldable pub renumber : (ℕ → ℕ) → ℕ → ℕ
 renumber f e = cond (ltb e leftChoice) (f e) e
 
+-- its entries alone, without its choices
+unfoldable pub entriesUsed : {es : Scope} {I : Items} {G : Goal} → Derives es I G → List ℕ
+entriesUsed (res-1 n) = []
+entriesUsed res-⊤ = []
+entriesUsed (res-⊗ s l r) = entriesUsed l ++ entriesUsed r
+entriesUsed (res-& l r) = entriesUsed l ++ entriesUsed r
+entriesUsed (res-⊕₁ d) = entriesUsed d
+entriesUsed (res-⊕₂ d) = entriesUsed d
+entriesUsed (res-⊸ f d) = entriesUsed d
+entriesUsed (res-atm-int e n d) = e ∷ entriesUsed d
+entriesUsed (res-atm-lin e n h d) = e ∷ entriesUsed d
+
 -- the entry stands in the list
 unfoldable pub stands : ℕ → List ℕ → Bool
 stands e [] = false

@@ -5,18 +5,18 @@ use native.Mathlib.Omega.{arith}
 use native.Mathlib.Nat.{eq-or-lt-of-le}
 use native.Mathlib.Decide.{decLt}
 use mathlib.Core.Path.{_≡_, refl, sym, ap, _∙_}
-use mathlib.Core.Logic.{_⊎_, ⊎-elim}
+use mathlib.Core.Logic.{⊎-elim}
 use mathlib.Core.Bool.{true, cond}
 use mathlib.Core.List.{List, [], _∷_, map}
 use lib.ListN.{getD}
 use borrow.Author.Tests.{lt-ltb}
 use Rattle.calculus.specs.Derivation.{Entry, size, entryAt, clauseAt}
-use Rattle.calculus.specs.Steps.{steps, nesting, renumber, stands, leftChoice, rightChoice}
+use Rattle.calculus.specs.Steps.{steps, entriesUsed, nesting, renumber, stands, leftChoice}
 use Rattle.calculus.specs.Job.{Derivable}
 use Rattle.calculus.specs.Inner.Height.{heightᴳ, heightᴰ, lends, Low}
 use Rattle.calculus.specs.Inner.Renaming.{over}
 use Rattle.calculus.proofs.RenamingKeeps.{over-steps}
-use Rattle.calculus.proofs.StepsBounded.{lends-fewer, steps-below, over-same}
+use Rattle.calculus.proofs.StepsBounded.{lends-fewer, entries-below, over-same}
 use Rattle.card.specs.Format.{nodeCount, ruleCount, lineCount, goalNode, kindAt, leftAt, rightAt, ruleNode, lineNode}
 use Rattle.card.specs.Format.{grow}
 use Rattle.card.specs.declared.kinds.Field.{Field}
@@ -164,11 +164,12 @@ entries-low {bs} s d =
 pub entries-no-choice : {bs : List ℕ} → Sound bs → ruleCount bs + lineCount bs + 103 ≤ 231
 entries-no-choice {bs} s = let f = sound-front bs s in omega (arith, f .rules, f .lines)
 
--- THEOREM. Every step of a derivation of a sound card within limits is an entry below P + T + 103 or a choice.
-pub steps-fit : {bs : List ℕ} → Sound bs → (d : Derivable (jobOf bs)) (e : ℕ) → stands e (steps (d .derivation .tree)) ≡ true
-    → (e < ruleCount bs + lineCount bs + 103) ⊎ ((e ≡ leftChoice) ⊎ (e ≡ rightChoice))
-steps-fit {bs} s d e h =
-    steps-below (ruleCount bs + lineCount bs + 103) (scope-low s) (goal-high s) (d .derivation .tree) (entries-low s d) .below e h
+-- THEOREM. Every entry that a derivation of a sound card within limits uses is below P + T + 103, so at most 230.
+pub entries-fit : {bs : List ℕ} → Sound bs → (d : Derivable (jobOf bs)) (e : ℕ) → stands e (entriesUsed (d .derivation .tree)) ≡ true
+    → (e < ruleCount bs + lineCount bs + 103) × (e ≤ 230)
+entries-fit {bs} s d e h =
+    let low = entries-below (ruleCount bs + lineCount bs + 103) (scope-low s) (goal-high s) (d .derivation .tree) (entries-low s d) .below e h in
+    (low, omega (arith, low, entries-no-choice s))
 
 -- THEOREM. Entries renumbered along a derivation of a sound card are its list's, and choices stay.
 pub over-listed : {bs : List ℕ} → Sound bs → (f : ℕ → ℕ) (d : Derivable (jobOf bs))

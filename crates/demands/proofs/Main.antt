@@ -9,24 +9,25 @@ use mathlib.Core.Logic.{_↔_, _⊎_}
 use mathlib.Core.Bool.{true}
 use mathlib.Core.List.{List, []}
 use lib.ListN.{length, take}
-use Rattle.calculus.specs.Steps.{steps, stands}
+use Rattle.calculus.specs.Steps.{steps, entriesUsed, stands, leftChoice, rightChoice}
 use Rattle.calculus.specs.Job.{Derivable, Listed}
 use Rattle.calculus.specs.Walk.{ItemsDivide}
 use Rattle.calculus.specs.Ways.{ListsNameWays}
 use Rattle.calculus.proofs.ListsNameWays.{job-lists-name-ways}
+use Rattle.calculus.proofs.StepsBounded.{entry-or-choice}
 use Rattle.card.specs.Format.{Bytes, ruleCount, lineCount, stepLimit}
 use Rattle.card.specs.Verdict.{Where, sound, fault, sheet, step, steps as whole-steps}
 use Rattle.card.specs.Fault.{firstFault, Sound}
 use Rattle.card.specs.Decode.{jobOf}
-use Rattle.card.proofs.StepsFitAByte.{steps-fit}
+use Rattle.card.proofs.StepsFitAByte.{entries-fit}
 use Rattle.planning.specs.Plan.{PlanVerdict, planned, refused as not-planned, roomOf, Planning, PlanDecided, Carries}
 use Rattle.planner.proofs.PlannedExactly.{plan-decided, plan-determined, planned-exactly, planned-sheet}
 use Rattle.sheet_front.specs.Front.{stepsOf, sheetFault}
-use Rattle.trace.specs.Steps.{stepsFault, WrongStep, ExtraStep}
+use Rattle.trace.specs.Steps.{stepsFault, WrongStep, ExtraStep, NeverPassed}
 use Rattle.trace.proofs.StepsMean.{none-found}
 use Rattle.reader.specs.Read.{ReadVerdict, accepted, refused, Reading, ReadDecided, Holds, AcceptsExactly}
 use Rattle.reader.proofs.AcceptedExactly.{read-decided, read-determined, accepts-exactly, holds-accepted}
-use Rattle.reader.proofs.StepsRefused.{thirteen-told, seventeen-told, eighteen-told, nineteen-told}
+use Rattle.reader.proofs.StepsRefused.{thirteen-told, seventeen-told, eighteen-told, nineteen-told, never-told}
 use Rattle.bench.specs.Bench.{JoinVerdict, joined, Joining, JoinDecided, sourceOf, SourceDecided}
 use Rattle.bench.proofs.BenchDecided.{join-decided, join-determined, source-decided}
 use Rattle.demands.proofs.CheckedByRoom as CheckedByRoom
@@ -88,14 +89,19 @@ pub written-is-read : {bs old new : List ℕ} {k : ℕ} → Planning bs old (pla
     (accepted k)
 written-is-read = WrittenIsRead.written-is-read
 
--- "At most 103 stand in scope, so a number fits a byte": every step of a sound card's list.
-pub steps-fit-a-byte : {bs : List ℕ} → Sound bs → (d : Derivable (jobOf bs)) (e : ℕ) → stands e (steps (d .derivation .tree)) ≡ true
-    → e < ruleCount bs + lineCount bs + 103
-steps-fit-a-byte = steps-fit
+-- "At most 103 stand in scope, so a number fits a byte": every entry of a sound card's list. The list's other steps are choices, 254 and 255
+-- (02, #103), which no entry meets.
+pub entries-fit-a-byte : {bs : List ℕ} → Sound bs → (d : Derivable (jobOf bs)) (e : ℕ)
+    → stands e (entriesUsed (d .derivation .tree)) ≡ true → (e < ruleCount bs + lineCount bs + 103) × (e ≤ 230)
+entries-fit-a-byte = entries-fit
 
--- "Say what is wrong in the steps" (02, #102), of a sound card and a sheet that fits it. 13: step i names no entry in scope whose head is
--- the name wanted. 17: step i is nested above d. 18: step i is the first missing or extra one. In each case the steps before it are the
--- beginning of a walk, or, where step i is an extra one, all of it.
+pub entries-or-choices : (bs : List ℕ) (d : Derivable (jobOf bs)) (e : ℕ) → stands e (steps (d .derivation .tree)) ≡ true
+    → (stands e (entriesUsed (d .derivation .tree)) ≡ true) ⊎ ((e ≡ leftChoice) ⊎ (e ≡ rightChoice))
+entries-or-choices bs d = entry-or-choice (d .derivation .tree)
+
+-- "Say what is wrong in the steps" (02, #102 and #103), of a sound card and a sheet that fits it. 13: step i names no entry in scope with a
+-- head that is the name wanted, or takes no side that there is. 17: step i is nested above d. 18: step i is the first missing or extra one.
+-- In each case the steps before it are the beginning of a walk, or, where step i is an extra one, all of it.
 module _ {bs sh : List ℕ} (s : Sound bs) (f : sheetFault bs sh ≡ sound) (i : ℕ) where
   pub thirteen-means : Reading bs sh (refused 13 (step i)) ↔ WrongStep bs (stepsOf sh) 13 i
   thirteen-means = thirteen-told s f i
@@ -110,6 +116,11 @@ module _ {bs sh : List ℕ} (s : Sound bs) (f : sheetFault bs sh ≡ sound) (i :
 pub nineteen-means : {bs sh : List ℕ} → Sound bs → sheetFault bs sh ≡ sound
     → Reading bs sh (refused 19 whole-steps) ↔ ((stepsFault bs (stepsOf sh) ≡ sound) × (ItemsDivide (jobOf bs) (stepsOf sh) → ⊥))
 nineteen-means = nineteen-told
+
+-- "19 also where the walk passes 'never'."
+pub never-means : {bs sh : List ℕ} → Sound bs → sheetFault bs sh ≡ sound → NeverPassed bs (stepsOf sh)
+    → Reading bs sh (refused 19 whole-steps)
+never-means = never-told
 
 -- So steps, no more than s, that have none of the four are the list of a derivation within limits, and the other way round.
 pub listed-if-none : (bs l : List ℕ) → length l ≤ stepLimit bs

@@ -1,12 +1,11 @@
 -- Heights of formulas (01, "The card"), and how many lends stand one inside the other in a goal.
 use Prim.Native.Nat.{ℕ, suc, max, _≤_, _<_}
 use mathlib.Core.Path.{_≡_}
-use mathlib.Core.Logic.{_⊎_}
 use mathlib.Core.Bool.{true}
 use mathlib.Core.List.{List}
 use Rattle.calculus.specs.Formula.{Goal, Clause, atomᴳ, topᴳ, oneᴳ, zeroᴳ, tensor, with, oplus, lolliᴳ, atomᴰ, topᴰ, lolliᴰ, withᴰ}
 use Rattle.calculus.specs.Derivation.{Scope, size, clauseAt}
-use Rattle.calculus.specs.Steps.{stands, leftChoice, rightChoice}
+use Rattle.calculus.specs.Steps.{stands}
 
 unfoldable mutual
   pub heightᴳ : Goal → ℕ
@@ -39,6 +38,6 @@ lends (lolliᴳ D G) = suc (lends G)
 pub record Low (es : Scope) : Type 0 where
   pub low : (e : ℕ) → e < size es → heightᴰ (clauseAt es e) ≤ 8
 
--- every step of the list is an entry below m or a choice
+-- every entry of the list is below m
 pub record Below (m : ℕ) (l : List ℕ) : Type 0 where
-  pub below : (e : ℕ) → stands e l ≡ true → (e < m) ⊎ ((e ≡ leftChoice) ⊎ (e ≡ rightChoice))
+  pub below : (e : ℕ) → stands e l ≡ true → e < m
