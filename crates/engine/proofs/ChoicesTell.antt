@@ -10,7 +10,7 @@ use mathlib.Core.List.{List, [], _∷_, _++_}
 use lib.ListN.{length, take, set, length-set}
 use lib.Seq.{slice, set-getD, take-suc-set}
 use lib.Dec.{ltb, eqb}
-use borrow.Author.Tests.{lt-ltb, le-ltb, eq-eqb, ne-eqb, not-true, not-false}
+use borrow.Author.Tests.{lt-ltb, le-ltb, eq-eqb, ne-eqb, not-false}
 use Rattle.calculus.specs.Formula.{Goal, oplus, residual, usable}
 use Rattle.calculus.specs.Items.{Items}
 use Rattle.calculus.specs.Derivation.{Scope}
@@ -28,19 +28,17 @@ use Rattle.entries.specs.Inner.Entries.{scopeIn}
 use Rattle.entries.specs.Inner.Twins.{eligible}
 use Rattle.entries.specs.Inner.Masks.{Seen}
 use Rattle.entries.proofs.MasksAreTwins.{seen-lent}
-use Rattle.entries.proofs.TablesAreScopes.{scope-kept}
 use Rattle.entries.proofs.TwinsLoseNothing.{eligible-lent}
 use Rattle.agenda.specs.Inner.Agenda.{Agenda, task}
 use Rattle.agenda.specs.Inner.Order.{Next, next-here, next-same, next-above, next-open}
 use Rattle.agenda.specs.Inner.Sought.{Place, pastChoice, None, Least, Shut}
-use Rattle.agenda.proofs.AgendasRead.{reads-usable}
 use Rattle.agenda.proofs.ListsOrdered.{next-two}
 use Rattle.agenda.proofs.SearchTells.{choice-roomless, shut-given, shut-open, shut-left, shut-right, choice-none, choice-left, choice-right}
 use Rattle.branch.specs.declared.Branch.{Branch}
 use Rattle.branch.specs.declared.Way.{Way}
 use Rattle.branch.specs.declared.Floor.{Floor}
 use Rattle.branch.specs.Inner.Values.{Answer, Solved, Stuck, Tired, choseB, pastF, followed, followingW}
-use Rattle.segment.specs.Inner.Tasks.{agendaOf, Laid}
+use Rattle.segment.specs.Inner.Tasks.{agendaOf}
 use Rattle.choice.specs.Inner.Choice.{givenAt, fromAt, firstAt, FirstEntry, keepsBy}
 use Rattle.moves.specs.Inner.Moves.{sideAt, shutBy}
 use Rattle.engine.specs.Inner.Engine.{placeOf, Ready, partGoal, PartGood, PartReady, choiceKind, ChoiceReady, Choosing, Siding}

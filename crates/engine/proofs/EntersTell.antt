@@ -1,21 +1,20 @@
 -- What a search says where a part is entered: a goal put on the agenda, or a clause in use whose conditions are; and where ⊕ or 0 comes next.
 use Prim.Native.Nat.{ℕ, _+_, _-_, _*_, _≤_, _<_}
 use native.Mathlib.Omega.{arith}
-use mathlib.Core.Path.{_≡_, refl, sym, _∙_, ap, ap₂, subst}
+use mathlib.Core.Path.{_≡_, refl, sym, _∙_, ap, subst}
 use mathlib.Core.Logic.{⊎-elim}
-use mathlib.Core.Bool.{Bool, true, false, not, cond, true≢false, false≢true}
+use mathlib.Core.Bool.{Bool, true, false, true≢false, false≢true}
 use mathlib.Core.List.{List, _∷_}
 use lib.ListN.{length, getD, set}
 use borrow.Author.Tests.{not-true}
-use Rattle.calculus.specs.Formula.{Goal, Clause, Fits, zeroᴳ, atomᴰ, residual, usable}
+use Rattle.calculus.specs.Formula.{zeroᴳ, residual, usable}
 use Rattle.calculus.specs.Derivation.{Scope}
 use Rattle.card.specs.Format.{ruleCount, nodeCount, kindAt, leftAt}
-use Rattle.card.specs.Fault.{Sound, clausePart, heightAt}
+use Rattle.card.specs.Fault.{clausePart, heightAt}
 use Rattle.card.specs.Decode.{goalAt, clauseOf, scopeOf}
 use Rattle.card.proofs.CardChecked.{sound-front}
 use Rattle.card.proofs.NodesDecoded.{reads-name, reads-never}
 use Rattle.card.proofs.SoundNodes.{goal-lower, goal-kind, clause-lower, clause-kind, node-here, height-pos, usable-name, usable-rest}
-use Rattle.scope.specs.Inner.Tables.{Kept}
 use Rattle.scope.proofs.TablesAreScopes.{kept-self}
 use Rattle.entries.specs.Inner.Entries.{scopeIn}
 use Rattle.entries.specs.Inner.Twins.{eligible}
@@ -24,12 +23,11 @@ use Rattle.agenda.specs.Inner.Sought.{None}
 use Rattle.agenda.proofs.AgendasRead.{reads-core, core-usable, reads-head, reads-0, reads-usable}
 use Rattle.agenda.proofs.SearchTells.{alike-none, alike-least}
 use Rattle.branch.specs.declared.Branch.{Branch}
-use Rattle.branch.specs.declared.Way.{Way}
 use Rattle.branch.specs.declared.Floor.{Floor}
-use Rattle.branch.specs.Inner.Values.{Answer, Solved, Stuck, Tired, sizedB, longerB, droppedB, choseB}
+use Rattle.branch.specs.Inner.Values.{Answer, Solved, Stuck, Tired, sizedB, longerB, droppedB}
 use Rattle.segment.specs.declared.tasks.Pushed.{Pushed}
-use Rattle.segment.specs.Inner.Tasks.{taskOf, nodeOf, nestOf, agendaOf, Laid, Pushing}
-use Rattle.segment.proofs.TasksAreAgendas.{agenda-next, agenda-put, task-code, fit-code, laid-put, laid-less, laid-short, nest-low}
+use Rattle.segment.specs.Inner.Tasks.{taskOf, agendaOf, Laid, Pushing}
+use Rattle.segment.proofs.TasksAreAgendas.{agenda-next, agenda-put, task-code, fit-code, laid-put, laid-less, nest-low}
 use Rattle.segment.proofs.TurnsTell.{total-pos}
 use Rattle.moves.specs.Inner.Moves.{shutBy}
 use Rattle.engine.specs.Inner.Engine.{placeOf, Ready, OneOfNext, topNode, topNest, partGoal, PartGood, PartReady, choiceKind, ChoiceReady}

@@ -6,6 +6,7 @@ pub mod WaysSaid
 pub mod NamesTell
 pub mod EntersTell
 pub mod ChoicesTell
+pub mod UsesTell
 pub mod RaisesEnd
 pub mod TurnsRaise
 pub mod PartsTell

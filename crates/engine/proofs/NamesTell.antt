@@ -13,7 +13,6 @@ use borrow.Author.Tests.{lt-ltb, le-ltb, eq-eqb, ne-eqb, eqb-true, ltb-true, ltb
 use Rattle.calculus.specs.Formula.{Clause, Fits, atomᴳ, residual, usable}
 use Rattle.calculus.specs.Items.{Items, _∪_, _∖_, only, Within}
 use Rattle.calculus.specs.Derivation.{Scope, size, clauseAt, linearAt, residualAt}
-use Rattle.calculus.specs.Inner.Summary.{Bounded}
 use Rattle.calculus.proofs.SetLaws.{∪-cases, ∪-joins, join-left, join-right, ∖-within}
 use Rattle.card.specs.Format.{ruleCount, lineCount, nodeCount, leftAt, byteAt}
 use Rattle.card.specs.Fault.{Sound, clausePart, heightAt}
@@ -28,7 +27,7 @@ use Rattle.scope.proofs.TablesAreScopes.{kept-self, kept-trans, kept-again, kep
 use Rattle.entries.specs.Inner.Entries.{scopeIn, codeFits}
 use Rattle.entries.specs.Inner.Twins.{eligible}
 use Rattle.entries.specs.Inner.Masks.{Seen, readyBy}
-use Rattle.entries.proofs.TablesAreScopes.{scope-len, scope-fits, scope-clause, scope-linear, scope-usable, scope-past, scope-kept, entered-kept}
+use Rattle.entries.proofs.TablesAreScopes.{scope-len, scope-fits, scope-clause, scope-linear, scope-usable, scope-past, scope-kept}
 use Rattle.entries.proofs.MasksAreTwins.{ready-eligible, seen-rule, seen-item, seen-lent}
 use Rattle.entries.proofs.TestLaws.{and-true}
 use Rattle.agenda.specs.Inner.Agenda.{Agenda, task, Reads}
@@ -44,7 +43,7 @@ use Rattle.branch.specs.declared.Way.{Way}
 use Rattle.branch.specs.declared.Floor.{Floor}
 use Rattle.branch.specs.Inner.Values.{Answer, Solved, Stuck, Tired}
 use Rattle.branch.specs.Inner.Values.{usingB, pastF, followingW, answerIn}
-use Rattle.segment.specs.Inner.Tasks.{taskOf, agendaOf, Laid}
+use Rattle.segment.specs.Inner.Tasks.{taskOf, agendaOf}
 use Rattle.segment.proofs.TasksAreAgendas.{agenda-next, nest-low, laid-less, laid-short}
 use Rattle.choice.specs.declared.Sought.{Sought as Found}
 use Rattle.choice.specs.declared.Sought.the-variants.{At, Nothing}

@@ -347,8 +347,31 @@ fn use_clause(
     let clause = nodes[e] as usize;
     let n = inner(agenda, top);
     let mut rest = *agenda;
-    let c = b.using(byte(card, 3), byte(card, 4), e, top);
-    enter(
+    let p = push(card, &mut rest, top, clause, n);
+    let c = b.using(byte(card, 3), byte(card, 4), e, p.len);
+    if kind(card, p.core) == 10 {
+        return choose(
+            card,
+            waits,
+            tape,
+            nodes,
+            heads,
+            way,
+            names,
+            table,
+            masks,
+            codes,
+            words,
+            &rest,
+            true,
+            p.core,
+            name,
+            n,
+            f,
+            c,
+        );
+    }
+    solve(
         card,
         waits,
         tape,
@@ -361,10 +384,6 @@ fn use_clause(
         codes,
         words,
         &mut rest,
-        true,
-        clause,
-        name,
-        n,
         f,
         c,
     )

@@ -22,7 +22,7 @@ use Rattle.engine.proofs.WaysSaid.{solved-said, stuck-said, unsolved, e
 use Rattle.engine.proofs.WaysSaid.{AsLarge, large-self, large-on, stays-stuck, stays-from, stays-back, stays-dead, weary-solved, weary-stuck}
 use Rattle.engine.proofs.WaysSaid.{using-count, tensor-count, with-count, awake-stays, stays-tired}
 use Rattle.engine.proofs.NamesTell.{name-of, card-front, name-open, testing, name-here, top-inside, unnested}
-use Rattle.engine.proofs.NamesTell.{roomless, entry-byte, at-inside, entry-clause, use-call, use-told}
+use Rattle.engine.proofs.NamesTell.{roomless, entry-byte, at-inside, entry-clause}
 use Rattle.engine.proofs.NamesTell.{Round, round-start, round-kept, round-ready, round-ends, seek-at, round-onward, round-use}
 use Rattle.engine.proofs.NamesTell.{round-call, round-next, round-found, round-tired, asks, doomed-told, dead-barren, dead-told, solved-using, stuck-using}
 use Rattle.engine.proofs.RaisesEnd.{leftOver}
@@ -37,8 +37,6 @@ use Rattle.engine.proofs.EitherTells.{Either, either-unsolved, either-n
 use Rattle.engine.proofs.EitherTells.{either-tired, either-nosteps, either-raise-asks, either-falls, either-again}
 use Rattle.engine.proofs.EitherTells.{nodes-on as either-nodes-on}
 use mathlib.Core.Logic.{inl, inr}
-use Rattle.branch.specs.Inner.Values.{followingW}
-use Rattle.engine.specs.Inner.Engine.{PartReady}
 use Rattle.engine.proofs.NumbersFall.{most, fewest}
 use Rattle.engine.proofs.AgendasUnwind.{one-of-next}
 use Rattle.engine.proofs.WaysSaid.{unstuck}
@@ -47,6 +45,7 @@ use Rattle.engine.proofs.EntersTell.{never-told, one-of-call, one-of-to
 use Rattle.engine.proofs.ChoicesTell.{choice-here, side-clause, choice-room, left-told, right-told, choice-byte, choice-tape}
 use Rattle.engine.proofs.ChoicesTell.{side-under, side-shut, side-call, side-unsolved, side-solved}
 use Rattle.engine.proofs.NamesTell.{ready-kept}
+use Rattle.engine.proofs.UsesTell.{use-room, use-core, use-menu-call, use-menu-told, use-head-call, use-head-told}
 use Prim.Native.Nat.{ℕ, _<_}
 use borrow.Fn.Kinds.{In}
 use borrow.Fn.PlainCycle.{Measures, is, falls, and}
@@ -478,12 +477,18 @@ abbrev use-clause-claims : ℕ → use-clause-lts.Claims
 use-clause-claims t = (
   inner-reads.Asked,
   inner-reads.Learnt,
+  push-reads.Asked,
+  push-reads.Learnt,
   byte-reads.Asked,
   byte-reads.Learnt,
   using-reads.Asked,
   using-reads.Learnt,
-  enter-below t,
-  enter.Post,
+  kind-reads.Asked,
+  kind-reads.Learnt,
+  choose-below t,
+  choose.Post,
+  solve-below t,
+  solve.Post,
 )
 
 abbrev behind-Inv-loop : behind-lts.InvT-loop
@@ -2760,62 +2765,133 @@ use-clause-inner-requires t c κs =
     let can = at-start .pre .1 .1 .0 .0 in
     (top-inside rd (can .step .next), can .step .deep)
 
+use-clause-push-requires : (t : ℕ) → use-clause-lts.Need-push-requires (use-clause-claims t) (use-clause-at t) use-clause.Post
+use-clause-push-requires t c κs =
+    let at-start = c .before .before .before .before .before .before .before .before .before .before .before in
+    let at-inner = c .before .before in
+    let rd = at-start .pre .1 .0 in
+    let can = at-start .pre .1 .1 .0 .0 in
+    (rd .sound, use-room rd (can .step .next) can _ _ _ _ _ _ refl (at-inner .inner .ensures) (at-start .pre .1 .1 .0 .1) refl refl refl)
+
 use-clause-byte-requires : (t : ℕ) → use-clause-lts.Need-byte-requires (use-clause-claims t) (use-clause-at t) use-clause.Post
 use-clause-byte-requires t c κs =
-    let at-start = c .before .before .before .before .before .before .before .before .before .before in
+    let at-start = c .before .before .before .before .before .before .before .before .before .before .before .before in
     let rd = at-start .pre .1 .0 in
     card-front (rd .sound) 3 (omega arith)
 
 use-clause-byte-requires-2 : (t : ℕ) → use-clause-lts.Need-byte-requires-2 (use-clause-claims t) (use-clause-at t) use-clause.Post
 use-clause-byte-requires-2 t c κs =
-    let at-start = c .before .before .before .before .before .before .before .before .before .before .before in
+    let at-start = c .before .before .before .before .before .before .before .before .before .before .before .before .before in
     let rd = at-start .pre .1 .0 in
     card-front (rd .sound) 4 (omega arith)
 
 use-clause-using-requires : (t : ℕ) → use-clause-lts.Need-using-requires (use-clause-claims t) (use-clause-at t) use-clause.Post
 use-clause-using-requires t c κs =
-    let at-start = c .before .before .before .before .before .before .before .before .before .before .before .before in
+    let at-start = c .before .before .before .before .before .before .before .before .before .before .before .before .before .before in
     let rd = at-start .pre .1 .0 in
     let can = at-start .pre .1 .1 .0 .0 in
     at-inside rd (can .step .next) can
 
-use-clause-enter-requires : (t : ℕ) → use-clause-lts.Need-enter-requires (use-clause-claims t) (use-clause-at t) use-clause.Post
-use-clause-enter-requires t c κs =
-    let at-start = c .before .before .before .before .before .before .before .before .before .before .before .before .before .before .before .before .before .before .before .before in
-    let at-inner = c .before .before .before .before .before .before .before .before .before .before .before in
-    let at-byte = c .before .before .before .before .before .before .before .before .before in
-    let at-byte2 = c .before .before .before .before .before .before .before .before in
-    let at-using = c .before .before .before .before .before .before .before in
+use-clause-kind-requires : (t : ℕ) → use-clause-lts.Need-kind-requires (use-clause-claims t) (use-clause-at t) use-clause.Post
+use-clause-kind-requires t c κs =
+    let at-start = c .before .before .before .before .before .before .before .before .before .before .before .before .before .before .before in
+    let at-inner = c .before .before .before .before .before .before in
+    let at-push = c .before .before .before in
     let rd = at-start .pre .1 .0 in
-    let eq = at-start .pre .1 .1 .1 in
     let can = at-start .pre .1 .1 .0 .0 in
-    let asked = use-call rd (can .step .next) can _ _ _ _ _ _ refl (at-inner .inner .ensures) (at-start .pre .1 .1 .0 .1) refl
-    (at-byte .byte .ensures .0) (at-byte2 .byte2 .ensures .0) _ (at-using .«using» .ensures) t (at-start .pre .0) in
-    (asked .0, (asked .1 .0, (asked .1 .1, equipped-at (using-count _ _ _ _ _ _ (at-using .«using» .ensures)) eq)))
+    use-core rd (can .step .next) can _ _ _ _ _ _ refl (at-inner .inner .ensures) (at-start .pre .1 .1 .0 .1) refl refl refl
+    (at-push .push .ensures)
+
+use-clause-choose-requires : (t : ℕ) → use-clause-lts.Need-choose-requires (use-clause-claims t) (use-clause-at t) use-clause.Post
+use-clause-choose-requires t c κs =
+    let at-start = c .before .before .before .before .before .before .before .before .before .before .before .before .before .before .before .before .before .before .before .before .before .before .before .before in
+    let at-inner = c .before .before .before .before .before .before .before .before .before .before .before .before .before .before .before in
+    let at-byte = c .before .before .before .before .before .before .before .before .before .before .before in
+    let at-byte2 = c .before .before .before .before .before .before .before .before .before .before in
+    let at-push = c .before .before .before .before .before .before .before .before .before .before .before .before in
+    let at-using = c .before .before .before .before .before .before .before .before .before in
+    let at-kind = c .before .before .before .before .before .before .before .before in
+    let at-if1 = c .before .before .before .before .before .before .before in
+    let rd = at-start .pre .1 .0 in
+    let can = at-start .pre .1 .1 .0 .0 in
+    let asked = use-menu-call rd (can .step .next) can _ _ _ _ _ _ refl (at-inner .inner .ensures) (at-start .pre .1 .1 .0 .1) refl
+    (at-byte .byte .ensures .0) (at-byte2 .byte2 .ensures .0) (at-push .push .ensures) _ (at-using .«using» .ensures)
+    (sym (at-kind .kind .ensures .0) ∙ at-if1 .if1 .taken) t (at-start .pre .0) in
+    (asked .0, (asked .1 .0, (asked .1 .1, equipped-at (using-count _ _ _ _ _ _ (at-using .«using» .ensures)) (at-start .pre .1 .1 .1))))
 
 use-clause-same-length : (t : ℕ) → use-clause-lts.Need-same-length (use-clause-claims t) (use-clause-at t) use-clause.Post
 use-clause-same-length t c =
-    let at-enter = c .before .before .before .before in
-    at-enter .enter .ensures .1 .code-same
+    let at-choose = c .before .before .before .before in
+    at-choose .choose .ensures .1 .code-same
 
 use-clause-same-length-2 : (t : ℕ) → use-clause-lts.Need-same-length-2 (use-clause-claims t) (use-clause-at t) use-clause.Post
 use-clause-same-length-2 t c =
-    let at-enter = c .before .before .before .before in
-    at-enter .enter .ensures .1 .same
+    let at-choose = c .before .before .before .before in
+    at-choose .choose .ensures .1 .same
 
 use-clause-returns : (t : ℕ) → use-clause-lts.Need-returns (use-clause-claims t) (use-clause-at t) use-clause.Post
 use-clause-returns t c =
-    let at-start = c .before .before .before .before .before .before .before .before .before .before .before .before .before .before .before .before .before .before .before .before .before .before .before .before .before in
-    let at-inner = c .before .before .before .before .before .before .before .before .before .before .before .before .before .before .before .before in
-    let at-byte = c .before .before .before .before .before .before .before .before .before .before .before .before .before .before in
-    let at-byte2 = c .before .before .before .before .before .before .before .before .before .before .before .before .before in
-    let at-using = c .before .before .before .before .before .before .before .before .before .before .before .before in
-    let at-enter = c .before .before .before .before in
+    let at-start = c .before .before .before .before .before .before .before .before .before .before .before .before .before .before .before .before .before .before .before .before .before .before .before .before .before .before .before .before .before in
+    let at-inner = c .before .before .before .before .before .before .before .before .before .before .before .before .before .before .before .before .before .before .before .before in
+    let at-byte = c .before .before .before .before .before .before .before .before .before .before .before .before .before .before .before .before in
+    let at-byte2 = c .before .before .before .before .before .before .before .before .before .before .before .before .before .before .before in
+    let at-push = c .before .before .before .before .before .before .before .before .before .before .before .before .before .before .before .before .before in
+    let at-using = c .before .before .before .before .before .before .before .before .before .before .before .before .before .before in
+    let at-kind = c .before .before .before .before .before .before .before .before .before .before .before .before .before in
+    let at-if1 = c .before .before .before .before .before .before .before .before .before .before .before .before in
+    let at-choose = c .before .before .before .before in
     let rd = at-start .pre .1 .0 in
     let can = at-start .pre .1 .1 .0 .0 in (
-      use-told rd (can .step .next) can _ _ _ _ _ _ refl (at-inner .inner .ensures) (at-start .pre .1 .1 .0 .1) refl
-          (at-byte .byte .ensures .0) (at-byte2 .byte2 .ensures .0) _ (at-using .«using» .ensures) (at-enter .enter .ensures .0),
-      at-enter .enter .ensures .1,
+      use-menu-told rd (can .step .next) can _ _ _ _ _ _ refl (at-inner .inner .ensures) (at-start .pre .1 .1 .0 .1) refl
+          (at-byte .byte .ensures .0) (at-byte2 .byte2 .ensures .0) (at-push .push .ensures) _ (at-using .«using» .ensures)
+          (sym (at-kind .kind .ensures .0) ∙ at-if1 .if1 .taken) (at-choose .choose .ensures .0),
+      at-choose .choose .ensures .1,
+    )
+
+use-clause-solve-requires : (t : ℕ) → use-clause-lts.Need-solve-requires (use-clause-claims t) (use-clause-at t) use-clause.Post
+use-clause-solve-requires t c κs =
+    let at-start = c .before .before .before .before .before .before .before .before .before .before .before .before .before .before .before .before .before .before .before .before .before .before .before .before in
+    let at-inner = c .before .before .before .before .before .before .before .before .before .before .before .before .before .before .before in
+    let at-byte = c .before .before .before .before .before .before .before .before .before .before .before in
+    let at-byte2 = c .before .before .before .before .before .before .before .before .before .before in
+    let at-push = c .before .before .before .before .before .before .before .before .before .before .before .before in
+    let at-using = c .before .before .before .before .before .before .before .before .before in
+    let at-if1 = c .before .before .before .before .before .before .before in
+    let at-kind = c .before .before .before .before .before .before .before .before in
+    let rd = at-start .pre .1 .0 in
+    let can = at-start .pre .1 .1 .0 .0 in
+    let asked = use-head-call rd (can .step .next) can _ _ _ _ _ _ refl (at-inner .inner .ensures) (at-start .pre .1 .1 .0 .1) refl
+    (at-byte .byte .ensures .0) (at-byte2 .byte2 .ensures .0) (at-push .push .ensures) _ (at-using .«using» .ensures)
+    (λ k. at-if1 .if1 .left (at-kind .kind .ensures .0 ∙ k)) t (at-start .pre .0) in
+    (asked .0, (asked .1 .0, (asked .1 .1, equipped-at (using-count _ _ _ _ _ _ (at-using .«using» .ensures)) (at-start .pre .1 .1 .1))))
+
+use-clause-same-length-3 : (t : ℕ) → use-clause-lts.Need-same-length-3 (use-clause-claims t) (use-clause-at t) use-clause.Post
+use-clause-same-length-3 t c =
+    let at-solve = c .before .before .before .before in
+    at-solve .solve .ensures .1 .code-same
+
+use-clause-same-length-4 : (t : ℕ) → use-clause-lts.Need-same-length-4 (use-clause-claims t) (use-clause-at t) use-clause.Post
+use-clause-same-length-4 t c =
+    let at-solve = c .before .before .before .before in
+    at-solve .solve .ensures .1 .same
+
+use-clause-returns-2 : (t : ℕ) → use-clause-lts.Need-returns-2 (use-clause-claims t) (use-clause-at t) use-clause.Post
+use-clause-returns-2 t c =
+    let at-start = c .before .before .before .before .before .before .before .before .before .before .before .before .before .before .before .before .before .before .before .before .before .before .before .before .before .before .before .before .before in
+    let at-inner = c .before .before .before .before .before .before .before .before .before .before .before .before .before .before .before .before .before .before .before .before in
+    let at-byte = c .before .before .before .before .before .before .before .before .before .before .before .before .before .before .before .before in
+    let at-byte2 = c .before .before .before .before .before .before .before .before .before .before .before .before .before .before .before in
+    let at-push = c .before .before .before .before .before .before .before .before .before .before .before .before .before .before .before .before .before in
+    let at-using = c .before .before .before .before .before .before .before .before .before .before .before .before .before .before in
+    let at-if1 = c .before .before .before .before .before .before .before .before .before .before .before .before in
+    let at-kind = c .before .before .before .before .before .before .before .before .before .before .before .before .before in
+    let at-solve = c .before .before .before .before in
+    let rd = at-start .pre .1 .0 in
+    let can = at-start .pre .1 .1 .0 .0 in (
+      use-head-told rd (can .step .next) can _ _ _ _ _ _ refl (at-inner .inner .ensures) (at-start .pre .1 .1 .0 .1) refl
+          (at-byte .byte .ensures .0) (at-byte2 .byte2 .ensures .0) (at-push .push .ensures) _ (at-using .«using» .ensures)
+          (λ k. at-if1 .if1 .left (at-kind .kind .ensures .0 ∙ k)) (at-solve .solve .ensures .0),
+      at-solve .solve .ensures .1,
     )
 
 pub +behind+both-ways+choose+enter+last+lent+need+one-of+others+part+side+solve+use-clause-spec :
@@ -3094,10 +3170,16 @@ pub +behind+both-ways+choose+enter+last+lent+need+one-of+others+part+side+solve+
     (use-clause-element-copy-out-clause t)
     (use-clause-cast-clause t)
     (use-clause-inner-requires t)
+    (use-clause-push-requires t)
     (use-clause-byte-requires t)
     (use-clause-byte-requires-2 t)
     (use-clause-using-requires t)
-    (use-clause-enter-requires t)
+    (use-clause-kind-requires t)
+    (use-clause-choose-requires t)
     (use-clause-same-length t)
     (use-clause-same-length-2 t)
     (use-clause-returns t)
+    (use-clause-solve-requires t)
+    (use-clause-same-length-3 t)
+    (use-clause-same-length-4 t)
+    (use-clause-returns-2 t)
