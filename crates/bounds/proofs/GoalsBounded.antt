@@ -18,7 +18,7 @@ use Rattle.calculus.specs.Inner.Summary.{Covers, spare}
 use Rattle.calculus.proofs.SetLaws.{join-left, join-right, join-within, covers}
 use Rattle.calculus.proofs.RenamingKeeps.{entry-past, entry-before, entry-lent, fits-lend, lent-cases}
 use Rattle.bounds.specs.Inner.Count.{bit, Class, count}
-use Rattle.bounds.specs.Inner.Bound.{Names, off, leastG, lowG, highG, TakesIn, Allows, Settles, Kin, LendsG, LendsD, Scoped}
+use Rattle.bounds.specs.Inner.Bound.{Names, off, leastG, lowG, highG, Admits, Allows, Settles, Kin, LendsG, LendsD, Scoped}
 use Rattle.bounds.specs.Inner.Bound.{Closed, Keeps}
 use Rattle.bounds.proofs.CountLaws.{count-none, count-within, count-split, count-plus, count-lend}
 
@@ -28,7 +28,7 @@ no-zero : {n : ℕ} {es : Scope} {l : List ℕ} {U : Items} {v : Bool} → Sum n
 no-zero {n = zero} s = elim s [ ]
 no-zero {n = suc n} s = elim s [ ]
 
-pub sum-in : {n : ℕ} {es : Scope} {l : List ℕ} {U : Items} {v : Bool} (a e : ℕ) → Sum n es (residualAt es a e) l U v → e < size es
+sum-in : {n : ℕ} {es : Scope} {l : List ℕ} {U : Items} {v : Bool} (a e : ℕ) → Sum n es (residualAt es a e) l U v → e < size es
 unfolding residualAt clauseAt residual
 sum-in {n} {es} {l} {U} {v} a e s = go (decLt e (size es))
   where
@@ -163,13 +163,13 @@ keeps-⊕ K p q r g k =
     }
 
 -- A list of what is left of a clause for the name a keeps to the name's bounds, after s steps and l to h items.
-record Within-bounds (K : Class) (t : Names) (es : Scope) (a s l h : ℕ) (m : List ℕ) (U : Items) (v : Bool) : Type 0 where
+record WayKeeps (K : Class) (t : Names) (es : Scope) (a s l h : ℕ) (m : List ℕ) (U : Items) (v : Bool) : Type 0 where
   long : t .least a ≤ s + length m
   some : t .low a ≤ l + count es K U
   few : t .high a < 255 → (v ≡ false) × (h + count es K U ≤ t .high a)
 
 module _ (K : Class) (t : Names) {es : Scope} {a s l h : ℕ} where
-  way-head : {U : Items} → Empty U → TakesIn K t a s l h → Within-bounds K t es a s l h [] U false
+  way-head : {U : Items} → Empty U → Admits K t a s l h → WayKeeps K t es a s l h [] U false
   way-head e k =
       let z = count-none es K e in
       let kl = k .least in let ks = k .low in
@@ -177,7 +177,7 @@ module _ (K : Class) (t : Names) {es : Scope} {a s l h : ℕ} where
 
   way-⊗ : {x y z : ℕ} {m m₁ m₂ : List ℕ} {U U₁ U₂ : Items} {v v₁ v₂ : Bool}
       → m ≡ m₁ ++ m₂ → Splits U U₁ U₂ → v ≡ (v₁ || v₂)
-      → Within-bounds K t es a (s + x) (l + y) (h + z) m₁ U₁ v₁ → Keeps K es x y z m₂ U₂ v₂ → Within-bounds K t es a s l h m U v
+      → WayKeeps K t es a (s + x) (l + y) (h + z) m₁ U₁ v₁ → Keeps K es x y z m₂ U₂ v₂ → WayKeeps K t es a s l h m U v
   way-⊗ {m₁} {m₂} {v₁} {v₂} p d q w k =
       let n = count-split es K d in
       let o = ap length p ∙ length-append m₁ m₂ in
@@ -192,7 +192,7 @@ module _ (K : Class) (t : Names) {es : Scope} {a s l h : ℕ} where
       }
 
   way-⊕ : {x : ℕ} {m n : List ℕ} {U : Items} {v : Bool}
-      → m ≡ x ∷ n → Within-bounds K t es a (suc s) l h n U v → Within-bounds K t es a s l h m U v
+      → m ≡ x ∷ n → WayKeeps K t es a (suc s) l h n U v → WayKeeps K t es a s l h m U v
   way-⊕ p w =
       let o = ap length p in
       let wl = w .long in
@@ -200,13 +200,13 @@ module _ (K : Class) (t : Names) {es : Scope} {a s l h : ℕ} where
 
 -- a rule stays; an item is one more
 keeps-rule : (K : Class) (t : Names) {es : Scope} {a e : ℕ} {l : List ℕ} {U : Items} {v : Bool}
-    → Within-bounds K t es a 1 0 0 l U v → Keeps K es (t .least a) (t .low a) (t .high a) (e ∷ l) U v
+    → WayKeeps K t es a 1 0 0 l U v → Keeps K es (t .least a) (t .low a) (t .high a) (e ∷ l) U v
 keeps-rule K t w =
     let wl = w .long in let ws = w .some in
     record { long = omega arith; some = omega arith; few = λ h. let f = w .few h in (f .0, omega (arith, f .1)) }
 
 keeps-item : (K : Class) (t : Names) {es : Scope} {a e b : ℕ} {l : List ℕ} {U W : Items} {v : Bool}
-    → e < size es → W e ≡ false → Plus U W e → b ≡ bit (K (clauseAt es e)) → Within-bounds K t es a 1 b b l W v
+    → e < size es → W e ≡ false → Plus U W e → b ≡ bit (K (clauseAt es e)) → WayKeeps K t es a 1 b b l W v
     → Keeps K es (t .least a) (t .low a) (t .high a) (e ∷ l) U v
 keeps-item K t {es} i n u p w =
     let c = count-plus es K i n u in
@@ -264,7 +264,7 @@ module _ (P : Kin) (fits : Fits) where
 
       keeps-left : {n : ℕ} {es : Scope} {a : ℕ} {D : Clause} {G : Goal} {l : List ℕ} {U : Items} {v : Bool} {i j k : ℕ}
           → Scoped P fits es → LendsD P D → Allows K t (es .fits) a D i j k → Sum n es G l U v → Left (es .fits) a D G
-          → Within-bounds K t es a i j k l U v
+          → WayKeeps K t es a i j k l U v
       keeps-left s h w (sum-1 e) (left-head f) = way-head K t e (w f)
       keeps-left s h w (sum-⊗ p d q x y) (left-recipe z) = way-⊗ K t p d q (keeps-left s (h .0) w x z) (keeps s (h .1) y)
       keeps-left s h w (sum-⊕₁ p x) (left-menu y z) = way-⊕ K t p (keeps-left s (h .0) (w .0) x y)

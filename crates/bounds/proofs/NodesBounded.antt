@@ -18,7 +18,8 @@ use Rattle.card.proofs.SoundNodes.{goal-lower, goal-kind, clause-lower, clause-
 use Rattle.card.proofs.SoundNodes.{either-parts, one-of-parts, lend-parts, recipe-parts, menu-parts, sound-both, sound-either}
 use Rattle.card.proofs.SoundNodes.{sound-one-of, sound-lend, sound-recipe, sound-menu, usable-name, usable-rest, usable-recipe, usable-menu}
 use Rattle.bounds.specs.Inner.Count.{bit, Class}
-use Rattle.bounds.specs.Inner.Bound.{Names, off, leastG, lowG, highG, leastD, lowD, highD, TakesIn, Allows, Settles, LendsG, LendsD, Closed}
+use Rattle.bounds.specs.Inner.Bound.{Names, off, leastG, lowG, highG, leastD, lowD, highD, Admits, Allows, Settles}
+use Rattle.bounds.specs.Inner.Bound.{LendsG, LendsD, Closed}
 use Rattle.bounds.specs.Inner.Table.{headOf, menuCode, takesIn, headAt, rowOf, classAt, classes, lowAt, highAt, leastAt, byKind}
 use Rattle.bounds.specs.Inner.Table.{ifRecipe, inClass, headStep, leastStep, lowStep, highStep, leastUse, lowUse, highUse}
 use Rattle.bounds.specs.Inner.Table.{NodeFits, HeadFits, WaysFit, NodeSettled, UseSettled, lent, OfCard, Settled, namesOf, classOf}
@@ -75,7 +76,7 @@ usable-head a (withᴰ D E) m h = absurd (omega arith)
 
 -- of a clause without a menu, the conditions up to its head
 one-head : (K : Class) (T : Names) (a : ℕ) (D : Clause) (u v w : ℕ) → headOf D < 1002
-    → (usable eqb a D ≡ true → TakesIn K T a (u + leastD K T D) (v + lowD K T D) (w + highD K T D)) → Allows K T eqb a D u v w
+    → (usable eqb a D ≡ true → Admits K T a (u + leastD K T D) (v + lowD K T D) (w + highD K T D)) → Allows K T eqb a D u v w
 unfolding Allows usable headOf menuCode leastD lowD highD
 one-head K T a (atomᴰ b) u v w m g =
     λ e.
@@ -109,7 +110,7 @@ ClauseUnder bs names t c j D =
 
 -- the bounds of a head take in less
 head-takes : (names t : List ℕ) (c : ℕ) {a b u v w u′ v′ w′ : ℕ} → b ≡ a → u ≤ u′ → v ≤ v′ → (w < 255 → w′ ≤ w)
-    → HeadFits names t b c u v w → TakesIn (classOf names c) (namesOf names t c) a u′ v′ w′
+    → HeadFits names t b c u v w → Admits (classOf names c) (namesOf names t c) a u′ v′ w′
 unfolding namesOf
 head-takes names t c {a} {b} e x y j f =
     let lo : lowAt t (rowOf names b) c ≡ lowAt t (rowOf names a) c = ap (λ d. lowAt t (rowOf names d) c) e in
@@ -421,7 +422,7 @@ module _ {bs names t masks : List ℕ} (s : Sound bs) (z : Settled bs names t ma
   one-settles : (c : ℕ) → c < classes names → (i : ℕ) (b : Bool) → clausePart bs N i ≡ true → UseSettled bs names t i b → (a : ℕ)
       → headOf (clauseOf bs i) < 1002 → usable eqb a (clauseOf bs i) ≡ true
       → (let K = classOf names c in let T = namesOf names t c in let D = clauseOf bs i in
-      TakesIn K T a (1 + leastD K T D) (bit (b && K D) + lowD K T D) (bit (b && K D) + highD K T D))
+      Admits K T a (1 + leastD K T D) (bit (b && K D) + lowD K T D) (bit (b && K D) + highD K T D))
   unfolding namesOf classOf leastUse lowUse highUse inClass
   one-settles c q i b p x a j u =
       let e : headAt names i ≡ a = head-is i p ∙ usable-head a (clauseOf bs i) j u in

@@ -4,13 +4,12 @@ use branch::Floor;
 use branch::Outcome;
 use card::format::byte;
 ghost use mathlib.Core.Path.{_≡_};
-ghost use Prim.Native.Nat.{_≤_};
+ghost use Prim.Native.Nat.{_-_, _≤_};
 ghost use lib.ListN.{length};
-ghost use mathlib.Core.Bool.{true, _&&_};
-ghost use Rattle.calculus.specs.Formula.{usable as usableM};
+ghost use mathlib.Core.Bool.{true};
 ghost use Rattle.card.specs.Format.{nodeCount};
 ghost use Rattle.card.specs.Fault.{Sound, clausePart};
-ghost use Rattle.card.specs.Decode.{clauseOf, scopeOf};
+ghost use Rattle.entries.specs.Inner.Entries.{codeFits};
 ghost use Rattle.choice.specs.Inner.Choice.{atHandBy, openTo, takableBy, Testing, Seeks, FirstEntry, keepsBy, openBy, gives};
 
 // The least usable entry.
@@ -34,7 +33,19 @@ pub fn at_hand(rules: usize, e: usize, b: Branch) -> bool
     lax.has(e - rules)
 }
 
-// It is so, and the lines that it waits for are seen.
+// Some head of the code is the name.
+fn fits(card: &[u8], code: usize, name: usize) -> bool
+    requires { ⌜ Sound (now card) ⌝ }
+    requires { ⌜ (1001 ≤ code → clausePart (now card) (nodeCount (now card)) (code - 1001) ≡ true) ⌝ }
+    ensures { λ r. ⌜ r ≡ codeFits (now (card .entry)) code name ⌝ }
+{
+    if code < 1001 {
+        return code == name;
+    }
+    scope::usable(card, code - 1001, name)
+}
+
+// The entry is at hand, and the lines that it waits for are seen.
 fn open(card: &[u8], waits: &[u64; 64], b: Branch, e: usize) -> bool
     requires { ⌜ Sound (now card) × (length (now waits) ≡ 64) ⌝ }
     ensures { λ r. ⌜ r ≡ openTo (now (card .entry)) (now (waits .entry)) b e ⌝ }
@@ -62,25 +73,9 @@ pub fn usable(
     if b.count <= e {
         return false;
     }
-    let head = heads[e] as usize;
-    if 1000 < head {
-        return on_menu(card, waits, b, name, head - 1001, e);
-    }
-    if head != name {
-        return false;
-    }
-    open(card, waits, b, e)
-}
-
-// The same where the heads of the entry are those of a menu.
-fn on_menu(card: &[u8], waits: &[u64; 64], b: Branch, name: usize, menu: usize, e: usize) -> bool
-    requires { ⌜ Sound (now card) × (length (now waits) ≡ 64) ⌝ }
-    requires { ⌜ clausePart (now card) (nodeCount (now card)) menu ≡ true ⌝ }
-    ensures { λ r. ⌜ (let bs = now (card .entry) in
-        r ≡ (usableM (scopeOf bs .fits) name (clauseOf bs menu) && openTo bs (now (waits .entry)) b e)) ⌝ }
-{
-    let fits = scope::usable(card, menu, name);
-    if !fits {
+    let code = heads[e] as usize;
+    let good = fits(card, code, name);
+    if !good {
         return false;
     }
     open(card, waits, b, e)

@@ -1,7 +1,7 @@
 -- What each kind makes of a node's bounds.
 use Prim.Native.Nat.{ℕ, zero, suc, _+_, _-_, _<_, _≤_, min, max}
 use native.Mathlib.Omega.{arith}
-use native.Mathlib.Decide.{ℕ-discrete}
+use native.Mathlib.Decide.{decLt}
 use mathlib.Core.Path.{_≡_, refl, sym, _∙_}
 use mathlib.Core.Bool.{Bool, true, false, cond}
 use mathlib.Core.List.{List}
@@ -30,19 +30,15 @@ done-of-high (suc (suc zero)) v r d a b c e f n m p s q = absurd (s refl)
 done-of-high (suc (suc (suc zero))) v r d a b c e f n m p s q = refl
 done-of-high (suc (suc (suc (suc k)))) v r d a b c e f n m p s q = absurd (omega arith)
 
-both-of : (k v r d a b c e f n m : ℕ) → (k < 4 → ⊥) → (8 < k → ⊥) → (k ≡ 5 → b ≡ a) → (k ≡ 6 → ⊥) → (k ≡ 7 → ⊥) → (k ≡ 8 → ⊥)
-    → byKind k v r d a b c e f n m ≡ a
+pair-of : (k v r d a c e f n m : ℕ) → 4 ≤ k → k < 6 → byKind k v r d a a c e f n m ≡ a
 unfolding byKind
-both-of zero v r d a b c e f n m p o g h i j = absurd (p (omega arith))
-both-of (suc zero) v r d a b c e f n m p o g h i j = absurd (p (omega arith))
-both-of (suc (suc zero)) v r d a b c e f n m p o g h i j = absurd (p (omega arith))
-both-of (suc (suc (suc zero))) v r d a b c e f n m p o g h i j = absurd (p (omega arith))
-both-of (suc (suc (suc (suc zero)))) v r d a b c e f n m p o g h i j = refl
-both-of (suc (suc (suc (suc (suc zero))))) v r d a b c e f n m p o g h i j = g refl
-both-of (suc (suc (suc (suc (suc (suc zero)))))) v r d a b c e f n m p o g h i j = absurd (h refl)
-both-of (suc (suc (suc (suc (suc (suc (suc zero))))))) v r d a b c e f n m p o g h i j = absurd (i refl)
-both-of (suc (suc (suc (suc (suc (suc (suc (suc zero)))))))) v r d a b c e f n m p o g h i j = absurd (j refl)
-both-of (suc (suc (suc (suc (suc (suc (suc (suc (suc k))))))))) v r d a b c e f n m p o g h i j = absurd (o (omega arith))
+pair-of zero v r d a c e f n m p q = absurd (omega arith)
+pair-of (suc zero) v r d a c e f n m p q = absurd (omega arith)
+pair-of (suc (suc zero)) v r d a c e f n m p q = absurd (omega arith)
+pair-of (suc (suc (suc zero))) v r d a c e f n m p q = absurd (omega arith)
+pair-of (suc (suc (suc (suc zero)))) v r d a c e f n m p q = refl
+pair-of (suc (suc (suc (suc (suc zero))))) v r d a c e f n m p q = refl
+pair-of (suc (suc (suc (suc (suc (suc k)))))) v r d a c e f n m p q = absurd (omega arith)
 
 menu-of : (k v r d a b c e f n m : ℕ) → 8 < k → (k ≡ 9 → n ≡ m) → byKind k v r d a b c e f n m ≡ m
 unfolding byKind
@@ -113,20 +109,17 @@ module _ (bs names t : List ℕ) (i : ℕ) where
   unfolding leastStep byKind
   least-one-of k = rw k (one-more _)
 
-  -- r as for never or a menu
-  pub least-never : (r : ℕ) → 8 < kindAt bs i → (kindAt bs i ≡ 9 → r ≡ 255) → ((kindAt bs i ≡ 9 → ⊥) → r ≡ 0)
-      → r ≡ leastStep bs names t i
+  pub least-never : kindAt bs i ≡ 9 → leastStep bs names t i ≡ 255
   unfolding leastStep byKind
-  least-never r p q n = at (ℕ-discrete (kindAt bs i) 9)
-    where
-      at : Dec (kindAt bs i ≡ 9) → r ≡ leastStep bs names t i
-      at (yes k) = q k ∙ sym (rw k refl)
-      at (no k) = n k ∙ sym (menu-of (kindAt bs i) _ _ _ _ _ _ _ _ _ _ p (λ h. absurd (k h)))
+  least-never k = rw k refl
 
-  pub least-both : (kindAt bs i < 4 → ⊥) → (8 < kindAt bs i → ⊥) → (kindAt bs i ≡ 6 → ⊥) → (kindAt bs i ≡ 7 → ⊥)
-      → (kindAt bs i ≡ 8 → ⊥) → leastStep bs names t i ≡ leastAt t (leftAt bs i) + leastAt t (rightAt bs i)
+  pub least-menu : 9 < kindAt bs i → leastStep bs names t i ≡ 0
   unfolding leastStep
-  least-both p o q r u = both-of (kindAt bs i) _ _ _ _ _ _ _ _ _ _ p o (λ h. refl) q r u
+  least-menu p = menu-of (kindAt bs i) _ _ _ _ _ _ _ _ _ _ (omega arith) (λ q. absurd (omega arith))
+
+  pub least-both : 4 ≤ kindAt bs i → kindAt bs i < 6 → leastStep bs names t i ≡ leastAt t (leftAt bs i) + leastAt t (rightAt bs i)
+  unfolding leastStep
+  least-both p q = pair-of (kindAt bs i) _ _ _ _ _ _ _ _ _ p q
 
   module _ (c : ℕ) where
     pub low-name : kindAt bs i ≡ 1 → lowStep bs names t i c ≡ lowAt t (rowOf names (leftAt bs i)) c
@@ -154,19 +147,17 @@ module _ (bs names t : List ℕ) (i : ℕ) where
     unfolding lowStep byKind
     low-one-of k = rw k refl
 
-    pub low-never : (r : ℕ) → 8 < kindAt bs i → (kindAt bs i ≡ 9 → r ≡ 255) → ((kindAt bs i ≡ 9 → ⊥) → r ≡ 0)
-        → r ≡ lowStep bs names t i c
+    pub low-never : kindAt bs i ≡ 9 → lowStep bs names t i c ≡ 255
     unfolding lowStep byKind
-    low-never r p q n = at (ℕ-discrete (kindAt bs i) 9)
-      where
-        at : Dec (kindAt bs i ≡ 9) → r ≡ lowStep bs names t i c
-        at (yes k) = q k ∙ sym (rw k refl)
-        at (no k) = n k ∙ sym (menu-of (kindAt bs i) _ _ _ _ _ _ _ _ _ _ p (λ h. absurd (k h)))
+    low-never k = rw k refl
 
-    pub low-both : (kindAt bs i < 4 → ⊥) → (8 < kindAt bs i → ⊥) → (kindAt bs i ≡ 5 → ⊥) → (kindAt bs i ≡ 6 → ⊥)
-        → (kindAt bs i ≡ 7 → ⊥) → (kindAt bs i ≡ 8 → ⊥) → lowStep bs names t i c ≡ lowAt t (leftAt bs i) c + lowAt t (rightAt bs i) c
+    pub low-menu : 9 < kindAt bs i → lowStep bs names t i c ≡ 0
     unfolding lowStep
-    low-both p o q r s u = both-of (kindAt bs i) _ _ _ _ _ _ _ _ _ _ p o (λ h. absurd (q h)) r s u
+    low-menu p = menu-of (kindAt bs i) _ _ _ _ _ _ _ _ _ _ (omega arith) (λ q. absurd (omega arith))
+
+    pub low-both : kindAt bs i ≡ 4 → lowStep bs names t i c ≡ lowAt t (leftAt bs i) c + lowAt t (rightAt bs i) c
+    unfolding lowStep byKind
+    low-both k = rw k refl
 
     pub high-name : kindAt bs i ≡ 1 → highStep bs names t i c ≡ highAt t (rowOf names (leftAt bs i)) c
     unfolding highStep byKind
@@ -201,10 +192,9 @@ module _ (bs names t : List ℕ) (i : ℕ) where
     unfolding highStep
     high-never p = menu-of (kindAt bs i) _ _ _ _ _ _ _ _ _ _ p (λ h. refl)
 
-    pub high-both : (kindAt bs i < 4 → ⊥) → (8 < kindAt bs i → ⊥) → (kindAt bs i ≡ 5 → ⊥) → (kindAt bs i ≡ 6 → ⊥)
-        → (kindAt bs i ≡ 7 → ⊥) → (kindAt bs i ≡ 8 → ⊥) → highStep bs names t i c ≡ highAt t (leftAt bs i) c + highAt t (rightAt bs i) c
-    unfolding highStep
-    high-both p o q r s u = both-of (kindAt bs i) _ _ _ _ _ _ _ _ _ _ p o (λ h. absurd (q h)) r s u
+    pub high-both : kindAt bs i ≡ 4 → highStep bs names t i c ≡ highAt t (leftAt bs i) c + highAt t (rightAt bs i) c
+    unfolding highStep byKind
+    high-both k = rw k refl
 
 -- a greatest number less an item
 pub off-less : (h r : ℕ) (b : Bool) → (h < 255 → r ≡ h - bit b) → (255 ≤ h → r ≡ h) → r ≡ off h b
@@ -246,15 +236,49 @@ zero-small = omega arith
 pub top-small : 255 < 512
 top-small = omega arith
 
--- equal numbers are below the same numbers
+-- equal numbers are below and above the same numbers
 pub same-low : (a b n : ℕ) → a ≡ b → a < n → b < n
 same-low a b n e h = omega arith
-
-pub same-high : (a b n : ℕ) → a ≡ b → n ≤ a → b < n → ⊥
-same-high a b n e h l = omega arith
 
 pub same-above : (a b n : ℕ) → a ≡ b → n < a → n < b
 same-above a b n e h = omega arith
 
 pub same-not-above : (a b n : ℕ) → a ≡ b → a ≤ n → n < b → ⊥
 same-not-above a b n e h l = omega arith
+
+-- the kind that is left
+pub left-both : (a b : ℕ) → a ≡ b → 4 ≤ a → a ≤ 7 → (a ≡ 5 → ⊥) → (a ≡ 6 → ⊥) → (a ≡ 7 → ⊥) → b ≡ 4
+left-both a b e l h p q r = sym e ∙ at a l h p q r
+  where
+    at : (a : ℕ) → 4 ≤ a → a ≤ 7 → (a ≡ 5 → ⊥) → (a ≡ 6 → ⊥) → (a ≡ 7 → ⊥) → a ≡ 4
+    at zero l h p q r = absurd (omega arith)
+    at (suc zero) l h p q r = absurd (omega arith)
+    at (suc (suc zero)) l h p q r = absurd (omega arith)
+    at (suc (suc (suc zero))) l h p q r = absurd (omega arith)
+    at (suc (suc (suc (suc zero)))) l h p q r = refl
+    at (suc (suc (suc (suc (suc zero))))) l h p q r = absurd (p refl)
+    at (suc (suc (suc (suc (suc (suc zero)))))) l h p q r = absurd (q refl)
+    at (suc (suc (suc (suc (suc (suc (suc zero))))))) l h p q r = absurd (r refl)
+    at (suc (suc (suc (suc (suc (suc (suc (suc k)))))))) l h p q r = absurd (omega arith)
+
+pub left-pair : (a b : ℕ) → a ≡ b → 4 ≤ a → a ≤ 7 → (a ≡ 6 → ⊥) → (a ≡ 7 → ⊥) → (4 ≤ b) × (b < 6)
+left-pair a b e l h p q = go (decLt a 6) (decLt a 7)
+  where
+    go : Dec (a < 6) → Dec (a < 7) → (4 ≤ b) × (b < 6)
+    go (yes k) m = (omega arith, omega arith)
+    go (no k) (yes m) = absurd (p (omega arith))
+    go (no k) (no m) = absurd (q (omega arith))
+
+pub left-never : (a b : ℕ) → a ≡ b → 7 < a → (a ≡ 8 → ⊥) → 8 < b
+left-never a b e l p = go (decLt 8 a)
+  where
+    go : Dec (8 < a) → 8 < b
+    go (yes h) = omega arith
+    go (no h) = absurd (p (omega arith))
+
+pub left-menu : (a b : ℕ) → a ≡ b → 7 < a → (a ≡ 8 → ⊥) → (a ≡ 9 → ⊥) → 9 < b
+left-menu a b e l p q = go (decLt 9 a) (left-never a b e l p)
+  where
+    go : Dec (9 < a) → 8 < b → 9 < b
+    go (yes h) k = omega arith
+    go (no h) k = absurd (q (omega arith))

@@ -13,7 +13,7 @@ use bounds::table::row;
 ghost use mathlib.Core.Path.{_≡_};
 ghost use mathlib.Core.Bool.{true, _&&_};
 ghost use Prim.Native.Nat.{_-_, _<_, _≤_, min, max};
-ghost use Rattle.card.specs.Format.{nodeCount};
+ghost use Rattle.card.specs.Format.{nodeCount, kindAt};
 ghost use Rattle.card.specs.Fault.{Sound, clausePart};
 ghost use Rattle.card.specs.Decode.{clauseOf};
 ghost use Rattle.bounds.specs.Inner.Count.{bit};
@@ -53,13 +53,6 @@ fn if_recipe(card: &[u8], i: usize, v: usize) -> usize
     ensures { λ r. ⌜ (r ≡ ifRecipe (now (card .entry)) i v) × (r ≤ v) ⌝ }
 {
     if kind_at(card, i) == 7 { v } else { 0 }
-}
-
-// 255 for never, which has no list; 0 for a menu, which has no conditions of its own.
-fn never(k: usize) -> usize
-    ensures { λ r. ⌜ ((k ≡ 9 → r ≡ 255) × ((k ≡ 9 → ⊥) → r ≡ 0)) × (r < 256) ⌝ }
-{
-    if k == 9 { 255 } else { 0 }
 }
 
 // 1 where the clause at the node is an item of class c.
@@ -105,6 +98,20 @@ pub fn head_step(card: &[u8], names: &[u16; 1577], i: usize) -> usize
     1000
 }
 
+// The least steps at node i, if it is one of, never or a menu. Never has no list; a menu has no conditions of its own.
+fn least_choice(card: &[u8], names: &[u16; 1577], table: &[u8; 66177], i: usize, k: usize) -> usize
+    requires { ⌜ Held (now card) (now names) (now table) ⌝ }
+    requires { ⌜ Node (now card) i × ((k ≡ kindAt (now card) i) × (7 < k)) ⌝ }
+    ensures { λ r. ⌜ (r ≡ leastStep (now (card .entry)) (now (names .entry)) (now (table .entry)) i) × (r < 512) ⌝ }
+{
+    if k == 8 {
+        let left = least(table, left_part(card, i));
+        let right = least(table, right_part(card, i));
+        return 1 + lesser(left, right);
+    }
+    if k == 9 { 255 } else { 0 }
+}
+
 // The least steps at node i.
 pub fn least_step(card: &[u8], names: &[u16; 1577], table: &[u8; 66177], i: usize) -> usize
     requires { ⌜ Held (now card) (now names) (now table) ⌝ }
@@ -118,8 +125,8 @@ pub fn least_step(card: &[u8], names: &[u16; 1577], table: &[u8; 66177], i: usiz
     if k < 4 {
         return 0;
     }
-    if 8 < k {
-        return never(k);
+    if 7 < k {
+        return least_choice(card, names, table, i, k);
     }
     let r = right_part(card, i);
     let right = least(table, r);
@@ -130,10 +137,28 @@ pub fn least_step(card: &[u8], names: &[u16; 1577], table: &[u8; 66177], i: usiz
     if k == 7 {
         return left + if_recipe(card, r, right);
     }
-    if k == 8 {
-        return 1 + lesser(left, right);
-    }
     left + right
+}
+
+// The least number of items of class c at node i, if it is one of, never or a menu.
+fn low_choice(
+    card: &[u8],
+    names: &[u16; 1577],
+    table: &[u8; 66177],
+    i: usize,
+    k: usize,
+    c: usize,
+) -> usize
+    requires { ⌜ Held (now card) (now names) (now table) ⌝ }
+    requires { ⌜ (Node (now card) i × (c < 64)) × ((k ≡ kindAt (now card) i) × (7 < k)) ⌝ }
+    ensures { λ r. ⌜ (r ≡ lowStep (now (card .entry)) (now (names .entry)) (now (table .entry)) i c) × (r < 512) ⌝ }
+{
+    if k == 8 {
+        let left = low(table, left_part(card, i), c);
+        let right = low(table, right_part(card, i), c);
+        return lesser(left, right);
+    }
+    if k == 9 { 255 } else { 0 }
 }
 
 // The least number of items of class c at node i.
@@ -149,8 +174,8 @@ pub fn low_step(card: &[u8], names: &[u16; 1577], table: &[u8; 66177], i: usize,
     if k < 4 {
         return 0;
     }
-    if 8 < k {
-        return never(k);
+    if 7 < k {
+        return low_choice(card, names, table, i, k, c);
     }
     let l = left_part(card, i);
     let r = right_part(card, i);
@@ -165,10 +190,28 @@ pub fn low_step(card: &[u8], names: &[u16; 1577], table: &[u8; 66177], i: usize,
     if k == 7 {
         return left + if_recipe(card, r, right);
     }
-    if k == 8 {
-        return lesser(left, right);
-    }
     left + right
+}
+
+// The greatest number of items of class c at node i, if it is one of, never or a menu.
+fn high_choice(
+    card: &[u8],
+    names: &[u16; 1577],
+    table: &[u8; 66177],
+    i: usize,
+    k: usize,
+    c: usize,
+) -> usize
+    requires { ⌜ Held (now card) (now names) (now table) ⌝ }
+    requires { ⌜ (Node (now card) i × (c < 64)) × ((k ≡ kindAt (now card) i) × (7 < k)) ⌝ }
+    ensures { λ r. ⌜ (r ≡ highStep (now (card .entry)) (now (names .entry)) (now (table .entry)) i c) × (r < 512) ⌝ }
+{
+    if k == 8 {
+        let left = high(table, left_part(card, i), c);
+        let right = high(table, right_part(card, i), c);
+        return greater(left, right);
+    }
+    0
 }
 
 // The greatest number of items of class c at node i.
@@ -187,8 +230,8 @@ pub fn high_step(card: &[u8], names: &[u16; 1577], table: &[u8; 66177], i: usize
     if k < 4 {
         return 0;
     }
-    if 8 < k {
-        return 0;
+    if 7 < k {
+        return high_choice(card, names, table, i, k, c);
     }
     let l = left_part(card, i);
     let r = right_part(card, i);
@@ -202,9 +245,6 @@ pub fn high_step(card: &[u8], names: &[u16; 1577], table: &[u8; 66177], i: usize
     }
     if k == 7 {
         return left + if_recipe(card, r, right);
-    }
-    if k == 8 {
-        return greater(left, right);
     }
     left + right
 }

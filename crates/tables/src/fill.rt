@@ -241,12 +241,26 @@ fn fill_class(card: &[u8], names: &[u16; 1577], table: &mut [u8; 66177], i: usiz
     put(table, 32832 + (i * 64 + c), h);
 }
 
-// The least steps at node i, and every class.
+// Whether node i is the row of its name: its bounds are the name's own.
+fn own_row(card: &[u8], names: &[u16; 1577], i: usize) -> bool
+    requires { ⌜ Sound (now card) ⌝ }
+    requires { ⌜ Node (now card) i × NameCells (now names) ⌝ }
+{
+    if kind_at(card, i) == 1 {
+        return row(names, name_at(card, i)) == i;
+    }
+    false
+}
+
+// The least steps at node i, and every class, unless it is the row of a name.
 fn fill_node(card: &[u8], names: &[u16; 1577], table: &mut [u8; 66177], i: usize)
     requires { ⌜ Held (now card) (now names) (now table) ⌝ }
     requires { ⌜ Node (now card) i ⌝ }
     ensures { λ _. ⌜ TableCells (now (table .exit)) ⌝ }
 {
+    if own_row(card, names, i) {
+        return;
+    }
     let s = least_step(card, names, table, i);
     put(table, 65664 + i, s);
     let n = classes(names);

@@ -1,5 +1,5 @@
 -- Bounds of goals, for one class of items: least steps, least and greatest number of items. They are given by name; those of a goal are
--- folded from its names. A greatest number of 255 or more is none. 0 has no list, so any bounds are right; 255 are more than a list has.
+-- folded from its names. A greatest number of 255 or more is none. Of 0, which has no list, any bounds are right: least ones of 255.
 use Prim.Native.Nat.{ℕ, suc, max, min, _+_, _-_, _≤_, _<_}
 use mathlib.Core.Path.{_≡_}
 use mathlib.Core.Bool.{Bool, true, false, cond, _&&_}
@@ -85,8 +85,8 @@ module _ (K : Class) (t : Names) where
   highA [] = 0
   highA (x ∷ A) = highG (x .goal) + highA A
 
-  -- The bounds of the name a take in s steps and l to h items of the class.
-  pub record TakesIn (a s l h : ℕ) : Type 0 where
+  -- The bounds of the name a admit s steps and l to h items of the class.
+  pub record Admits (a s l h : ℕ) : Type 0 where
     pub least : t .least a ≤ s
     pub low : t .low a ≤ l
     pub high : t .high a < 255 → h ≤ t .high a
@@ -94,7 +94,7 @@ module _ (K : Class) (t : Names) where
   -- They allow what is left of a clause for it, after s steps and l to h items: the way to each head that fits, with its conditions, and a
   -- step at each menu.
   unfoldable pub Allows : Fits → ℕ → Clause → ℕ → ℕ → ℕ → Type 0
-  Allows fits a (atomᴰ b) s l h = fits b a ≡ true → TakesIn a s l h
+  Allows fits a (atomᴰ b) s l h = fits b a ≡ true → Admits a s l h
   Allows fits a topᴰ s l h = Unit {0}
   Allows fits a (lolliᴰ G D) s l h = Allows fits a D (s + leastG G) (l + lowG G) (h + highG G)
   Allows fits a (withᴰ D E) s l h = Allows fits a D (suc s) l h × Allows fits a E (suc s) l h

@@ -1,9 +1,9 @@
--- The table of a card. A class holds the clauses with one head, the menus alike, or all clauses; there are at most 64 of them. For each node
--- and class the table has a least and a greatest number of items, and for each node least steps; a node of a recipe has those of its
+-- The table of a card. A class holds the clauses with one head, the menus alike, or all clauses; there are at most 64 of them. For each
+-- node and class the table has a least and a greatest number of items, and for each node least steps; a node of a recipe has those of its
 -- conditions together, up to a menu. The bounds of a name stand at a row of the table: that of one node of the name, or 512 for a name of
 -- no node. How the table is filled in does not matter: it is settled if each node's bounds follow from its parts, and each name's from
--- every clause of a rule, a line or a lend that has it for a head. 255 is the greatest number that stands for none; least numbers and steps
--- stop there.
+-- every clause of a rule, a line or a lend that has it for a head. 255 is the greatest number that stands for none; least numbers and
+-- steps stop there.
 use Prim.Native.Nat.{ℕ, suc, max, min, _+_, _-_, _*_, _%_, _≤_, _<_}
 use mathlib.Core.Path.{_≡_}
 use mathlib.Core.Bool.{Bool, true, false, cond, _&&_, _||_}

@@ -277,7 +277,8 @@ ways-fit-returns-4 t c =
     let s = a .before .before in
     λ q.
     menu-ways (s .pre .1 .0) (s .args .i) (s .pre .1 .1 .0 .0) _ _ _ _ (sym (a .kind-at .ensures) ∙ e .if3 .taken)
-    (l .left-part2 .ensures .0) (r .right-part2 .ensures .0) (d .ways-fit2 .ensures (not-false _ (r .before .if4 .left))) (c .ways-fit3 .ensures q)
+    (l .left-part2 .ensures .0) (r .right-part2 .ensures .0) (d .ways-fit2 .ensures (not-false _ (r .before .if4 .left)))
+    (c .ways-fit3 .ensures q)
 
 ways-fit-returns-5 : (t : ℕ) → ways-fit-lts.Need-returns-5 (callees t) (ways-fit-at t) ways-fit.Post
 ways-fit-returns-5 t c =

@@ -74,9 +74,11 @@ returns-4 : tie.Need-returns-4
 returns-4 c =
     let a = c .before .before .before in
     let s = a .before .before in
+    let bs = s .args .card .now in
+    let ns = s .args .names .now in
     let k = a .kind-at .ensures in (
-      sym (head-none (s .args .card .now) (s .args .names .now) (s .args .names .now) (s .args .i) (λ p. c .before .before .if1 .left (k ∙ p))
-          (λ p. c .before .if2 .left (k ∙ p)) (same-not-above _ _ 9 k (c .if3 .left))),
+      sym (head-none bs ns ns (s .args .i) (λ p. c .before .before .if1 .left (k ∙ p)) (λ p. c .before .if2 .left (k ∙ p))
+          (same-not-above _ _ 9 k (c .if3 .left))),
       omega arith,
     )
 

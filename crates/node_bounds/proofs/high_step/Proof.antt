@@ -1,11 +1,10 @@
 -- One case for each kind.
-use Prim.Native.Nat.{_+_, _-_, min, max}
+use Prim.Native.Nat.{_+_, _-_, min}
 use mathlib.Core.Path.{sym, _∙_, ap, ap₂}
 use borrow.Author.Needs.{needs}
-use Rattle.node_bounds.proofs.StepsByKind.{high-name, high-done, high-lend, high-either, high-recipe, high-rest, off-less}
-use Rattle.node_bounds.proofs.StepsByKind.{high-one-of, high-never, high-both}
-use Rattle.node_bounds.proofs.StepsByKind.{byte-small, under-small, sum-small, part-small, min-small, max-small, zero-small, top-small}
-use Rattle.node_bounds.proofs.StepsByKind.{same-low, same-high, same-above, same-not-above}
+use Rattle.node_bounds.proofs.StepsByKind.{high-name, high-rest, high-done, high-lend, high-either, high-recipe, high-both, off-less}
+use Rattle.node_bounds.proofs.StepsByKind.{byte-small, under-small, sum-small, part-small, min-small, zero-small, top-small}
+use Rattle.node_bounds.proofs.StepsByKind.{same-low, left-both}
 use Rattle.bounds.specs.Inner.Table.{highAt, rowOf, ifRecipe, inClass}
 use Rattle.bounds.specs.Inner.Count.{bit}
 use Rattle.bounds.specs.Inner.Bound.{off}
@@ -65,17 +64,11 @@ returns-3 c =
       zero-small,
     )
 
+high-choice-requires : tie.Need-high-choice-requires
+high-choice-requires c κs = search needs
+
 returns-4 : tie.Need-returns-4
-returns-4 c =
-    let a = c .before .before .before .before in
-    let s = a .before .before in
-    let bs = s .args .card .now in
-    let ns = s .args .names .now in
-    let t = s .args .table .now in
-    let i = s .args .i in
-    let m = s .args .c in
-    let k = a .kind-at .ensures in
-    (sym (high-never bs ns t i m (same-above _ _ 8 k (c .if4 .taken))), zero-small)
+returns-4 c = search needs
 
 left-part-requires : tie.Need-left-part-requires
 left-part-requires c κs = search needs
@@ -133,8 +126,8 @@ returns-6 c =
     let i = s .args .i in
     let m = s .args .c in
     let k = a .kind-at .ensures in
-    let left = l .high3 .ensures .0 ∙ ap (λ x. highAt t x m) (q .before .left-part .ensures .0) in
-    let right = r .high2 .ensures .0 ∙ ap (λ x. highAt t x m) (q .right-part .ensures .0) in (
+    let right = r .high2 .ensures .0 ∙ ap (λ x. highAt t x m) (q .right-part .ensures .0) in
+    let left = l .high3 .ensures .0 ∙ ap (λ x. highAt t x m) (q .before .left-part .ensures .0) in (
       c .lesser .ensures ∙ ap₂ min left right ∙ sym (high-either bs ns t i m (sym k ∙ c .before .if6 .taken)),
       rw (c .lesser .ensures) (min-small _ _ (l .high3 .ensures .1)),
     )
@@ -159,42 +152,20 @@ returns-7 c =
     let i = s .args .i in
     let m = s .args .c in
     let k = a .kind-at .ensures in
-    let left = l .high3 .ensures .0 ∙ ap (λ x. highAt t x m) (q .before .left-part .ensures .0) in
     let right = r .high2 .ensures .0 ∙ ap (λ x. highAt t x m) (q .right-part .ensures .0) in
+    let left = l .high3 .ensures .0 ∙ ap (λ x. highAt t x m) (q .before .left-part .ensures .0) in
     let rest = c .if-recipe .ensures .0 ∙ ap₂ (ifRecipe bs) (q .right-part .ensures .0) right in (
       ap₂ _+_ left rest ∙ sym (high-recipe bs ns t i m (sym k ∙ c .before .if7 .taken)),
       part-small _ _ _ (l .high3 .ensures .1) (c .if-recipe .ensures .1) (r .high2 .ensures .1),
     )
 
-greater-requires : tie.Need-greater-requires
-greater-requires c κs = search needs
-
-returns-8 : tie.Need-returns-8
-returns-8 c =
-    let l = c .before .before .before .before in
-    let r = l .before .before .before in
-    let q = r .before .before in
-    let e = q .before .before in
-    let a = e .before .before .before .before in
-    let s = a .before .before in
-    let bs = s .args .card .now in
-    let ns = s .args .names .now in
-    let t = s .args .table .now in
-    let i = s .args .i in
-    let m = s .args .c in
-    let k = a .kind-at .ensures in
-    let left = l .high3 .ensures .0 ∙ ap (λ x. highAt t x m) (q .before .left-part .ensures .0) in
-    let right = r .high2 .ensures .0 ∙ ap (λ x. highAt t x m) (q .right-part .ensures .0) in (
-      c .greater .ensures ∙ ap₂ max left right ∙ sym (high-one-of bs ns t i m (sym k ∙ c .before .if8 .taken)),
-      rw (c .greater .ensures) (max-small _ _ (l .high3 .ensures .1) (r .high2 .ensures .1)),
-    )
-
 add-result-2 : tie.Need-add-result-2
 add-result-2 c = search needs
 
-returns-9 : tie.Need-returns-9
-returns-9 c =
-    let l = c .before .before .before in
+returns-8 : tie.Need-returns-8
+returns-8 c =
+    let d = c .before in
+    let l = d .before in
     let r = l .before .before .before in
     let q = r .before .before in
     let e = q .before .before in
@@ -206,15 +177,10 @@ returns-9 c =
     let i = s .args .i in
     let m = s .args .c in
     let k = a .kind-at .ensures in
+    let right = r .high2 .ensures .0 ∙ ap (λ x. highAt t x m) (q .right-part .ensures .0) in
     let left = l .high3 .ensures .0 ∙ ap (λ x. highAt t x m) (q .before .left-part .ensures .0) in
-    let right = r .high2 .ensures .0 ∙ ap (λ x. highAt t x m) (q .right-part .ensures .0) in (
-      ap₂ _+_ left right
-          ∙ sym
-          (high-both bs ns t i m (same-high _ _ 4 k (e .before .if3 .left)) (same-not-above _ _ 8 k (e .if4 .left))
-          (λ p. c .before .before .if6 .left (k ∙ p)) (λ p. l .before .before .if5 .left (k ∙ p))
-          (λ p. c .before .if7 .left (k ∙ p)) (λ p. c .if8 .left (k ∙ p))),
-      sum-small _ _ (l .high3 .ensures .1) (r .high2 .ensures .1),
-    )
+    let four = left-both _ _ k (e .before .if3 .left) (e .if4 .left) (d .if6 .left) (l .before .before .if5 .left) (c .if7 .left) in
+    (ap₂ _+_ left right ∙ sym (high-both bs ns t i m four), sum-small _ _ (l .high3 .ensures .1) (r .high2 .ensures .1))
 
 pub high-step-spec : {M : Type 1} → statement M
 high-step-spec =
@@ -227,6 +193,7 @@ high-step-spec =
     returns
     returns-2
     returns-3
+    high-choice-requires
     returns-4
     left-part-requires
     right-part-requires
@@ -240,7 +207,5 @@ high-step-spec =
     if-recipe-requires
     add-result
     returns-7
-    greater-requires
-    returns-8
     add-result-2
-    returns-9)
+    returns-8)

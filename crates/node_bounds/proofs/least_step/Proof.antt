@@ -1,10 +1,9 @@
 -- One case for each kind.
-use Prim.Native.Nat.{_+_, min}
+use Prim.Native.Nat.{_+_}
 use mathlib.Core.Path.{sym, _∙_, ap, ap₂}
 use borrow.Author.Needs.{needs}
-use Rattle.node_bounds.proofs.StepsByKind.{least-name, least-done, least-lend, least-recipe, least-one-of}
-use Rattle.node_bounds.proofs.StepsByKind.{least-never, least-both}
-use Rattle.node_bounds.proofs.StepsByKind.{byte-small, sum-small, part-small, choice-small, zero-small, same-low, same-high, same-above, same-not-above}
+use Rattle.node_bounds.proofs.StepsByKind.{least-name, least-done, least-lend, least-recipe, least-both, left-pair}
+use Rattle.node_bounds.proofs.StepsByKind.{byte-small, sum-small, part-small, zero-small, same-low}
 use Rattle.bounds.specs.Inner.Table.{leastAt, rowOf, ifRecipe}
 use Rattle.node_bounds.proofs.least_step.Statement.{statement}
 use Rattle.node_bounds.proofs.least_step.Tie as tie
@@ -44,22 +43,11 @@ returns-2 c =
     let k = c .before .before .kind-at .ensures in
     (sym (least-done bs ns t i (λ p. c .before .if1 .left (k ∙ p)) (same-low _ _ 4 k (c .if2 .taken))), zero-small)
 
-never-requires : tie.Need-never-requires
-never-requires c κs = search needs
+least-choice-requires : tie.Need-least-choice-requires
+least-choice-requires c κs = search needs
 
 returns-3 : tie.Need-returns-3
-returns-3 c =
-    let a = c .before .before .before .before in
-    let s = a .before .before in
-    let bs = s .args .card .now in
-    let ns = s .args .names .now in
-    let t = s .args .table .now in
-    let i = s .args .i in
-    let k = a .kind-at .ensures in (
-      least-never bs ns t i _ (same-above _ _ 8 k (c .before .if3 .taken)) (λ p. c .never .ensures .0 .0 (k ∙ p))
-          (λ p. c .never .ensures .0 .1 (λ q. p (sym k ∙ q))),
-      byte-small _ (c .never .ensures .1),
-    )
+returns-3 c = search needs
 
 right-part-requires : tie.Need-right-part-requires
 right-part-requires c κs = search needs
@@ -114,15 +102,12 @@ returns-5 c =
       part-small _ _ _ (l .least3 .ensures .1) (c .if-recipe .ensures .1) (r .least2 .ensures .1),
     )
 
-lesser-requires : tie.Need-lesser-requires
-lesser-requires c κs = search needs
-
 add-result-2 : tie.Need-add-result-2
 add-result-2 c = search needs
 
 returns-6 : tie.Need-returns-6
 returns-6 c =
-    let l = c .before .before .before in
+    let l = c .before in
     let r = l .before .before .before .before in
     let q = r .before .before in
     let e = q .before in
@@ -135,33 +120,8 @@ returns-6 c =
     let k = a .kind-at .ensures in
     let left = l .least3 .ensures .0 ∙ ap (leastAt t) (l .before .left-part .ensures .0) in
     let right = r .least2 .ensures .0 ∙ ap (leastAt t) (q .right-part .ensures .0) in
-    let least = c .lesser .ensures ∙ ap₂ min left right in (
-      ap (λ x. 1 + x) least ∙ sym (least-one-of bs ns t i (sym k ∙ c .before .if6 .taken)),
-      rw (c .lesser .ensures) (choice-small _ _ (l .least3 .ensures .1)),
-    )
-
-add-result-3 : tie.Need-add-result-3
-add-result-3 c = search needs
-
-returns-7 : tie.Need-returns-7
-returns-7 c =
-    let l = c .before .before in
-    let r = l .before .before .before .before in
-    let q = r .before .before in
-    let e = q .before in
-    let a = e .before .before .before in
-    let s = a .before .before in
-    let bs = s .args .card .now in
-    let ns = s .args .names .now in
-    let t = s .args .table .now in
-    let i = s .args .i in
-    let k = a .kind-at .ensures in
-    let left = l .least3 .ensures .0 ∙ ap (leastAt t) (l .before .left-part .ensures .0) in
-    let right = r .least2 .ensures .0 ∙ ap (leastAt t) (q .right-part .ensures .0) in (
-      ap₂ _+_ left right
-          ∙ sym
-          (least-both bs ns t i (same-high _ _ 4 k (e .before .if2 .left)) (same-not-above _ _ 8 k (e .if3 .left))
-          (λ p. l .before .before .before .if4 .left (k ∙ p)) (λ p. c .before .if5 .left (k ∙ p)) (λ p. c .if6 .left (k ∙ p))),
+    let pair = left-pair _ _ k (e .before .if2 .left) (e .if3 .left) (l .before .before .before .if4 .left) (c .if5 .left) in (
+      ap₂ _+_ left right ∙ sym (least-both bs ns t i (pair .0) (pair .1)),
       sum-small _ _ (l .least3 .ensures .1) (r .least2 .ensures .1),
     )
 
@@ -175,7 +135,7 @@ least-step-spec =
     least-requires
     returns
     returns-2
-    never-requires
+    least-choice-requires
     returns-3
     right-part-requires
     least-requires-2
@@ -185,8 +145,5 @@ least-step-spec =
     if-recipe-requires
     add-result
     returns-5
-    lesser-requires
     add-result-2
-    returns-6
-    add-result-3
-    returns-7)
+    returns-6)

@@ -1,11 +1,9 @@
 -- One case for each kind.
-use Prim.Native.Nat.{_+_, _-_, min, max}
+use Prim.Native.Nat.{_+_, _-_, max}
 use mathlib.Core.Path.{sym, _∙_, ap, ap₂}
 use borrow.Author.Needs.{needs}
-use Rattle.node_bounds.proofs.StepsByKind.{low-name, low-done, low-lend, low-either, low-recipe, low-one-of}
-use Rattle.node_bounds.proofs.StepsByKind.{low-never, low-both}
-use Rattle.node_bounds.proofs.StepsByKind.{byte-small, less-small, sum-small, part-small, min-small, max-small, zero-small}
-use Rattle.node_bounds.proofs.StepsByKind.{same-low, same-high, same-above, same-not-above}
+use Rattle.node_bounds.proofs.StepsByKind.{low-name, low-done, low-lend, low-either, low-recipe, low-both, left-both}
+use Rattle.node_bounds.proofs.StepsByKind.{byte-small, less-small, sum-small, part-small, max-small, zero-small, same-low}
 use Rattle.bounds.specs.Inner.Table.{lowAt, rowOf, ifRecipe, inClass}
 use Rattle.bounds.specs.Inner.Count.{bit}
 use Rattle.node_bounds.proofs.low_step.Statement.{statement}
@@ -48,23 +46,11 @@ returns-2 c =
     let k = c .before .before .kind-at .ensures in
     (sym (low-done bs ns t i m (λ p. c .before .if1 .left (k ∙ p)) (same-low _ _ 4 k (c .if2 .taken))), zero-small)
 
-never-requires : tie.Need-never-requires
-never-requires c κs = search needs
+low-choice-requires : tie.Need-low-choice-requires
+low-choice-requires c κs = search needs
 
 returns-3 : tie.Need-returns-3
-returns-3 c =
-    let a = c .before .before .before .before in
-    let s = a .before .before in
-    let bs = s .args .card .now in
-    let ns = s .args .names .now in
-    let t = s .args .table .now in
-    let i = s .args .i in
-    let m = s .args .c in
-    let k = a .kind-at .ensures in (
-      low-never bs ns t i m _ (same-above _ _ 8 k (c .before .if3 .taken)) (λ p. c .never .ensures .0 .0 (k ∙ p))
-          (λ p. c .never .ensures .0 .1 (λ q. p (sym k ∙ q))),
-      byte-small _ (c .never .ensures .1),
-    )
+returns-3 c = search needs
 
 left-part-requires : tie.Need-left-part-requires
 left-part-requires c κs = search needs
@@ -120,8 +106,8 @@ returns-5 c =
     let i = s .args .i in
     let m = s .args .c in
     let k = a .kind-at .ensures in
-    let left = l .low3 .ensures .0 ∙ ap (λ x. lowAt t x m) (q .before .left-part .ensures .0) in
-    let right = r .low2 .ensures .0 ∙ ap (λ x. lowAt t x m) (q .right-part .ensures .0) in (
+    let right = r .low2 .ensures .0 ∙ ap (λ x. lowAt t x m) (q .right-part .ensures .0) in
+    let left = l .low3 .ensures .0 ∙ ap (λ x. lowAt t x m) (q .before .left-part .ensures .0) in (
       c .greater .ensures ∙ ap₂ max left right ∙ sym (low-either bs ns t i m (sym k ∙ c .before .if5 .taken)),
       rw (c .greater .ensures) (max-small _ _ (l .low3 .ensures .1) (r .low2 .ensures .1)),
     )
@@ -146,42 +132,20 @@ returns-6 c =
     let i = s .args .i in
     let m = s .args .c in
     let k = a .kind-at .ensures in
-    let left = l .low3 .ensures .0 ∙ ap (λ x. lowAt t x m) (q .before .left-part .ensures .0) in
     let right = r .low2 .ensures .0 ∙ ap (λ x. lowAt t x m) (q .right-part .ensures .0) in
+    let left = l .low3 .ensures .0 ∙ ap (λ x. lowAt t x m) (q .before .left-part .ensures .0) in
     let rest = c .if-recipe .ensures .0 ∙ ap₂ (ifRecipe bs) (q .right-part .ensures .0) right in (
       ap₂ _+_ left rest ∙ sym (low-recipe bs ns t i m (sym k ∙ c .before .if6 .taken)),
       part-small _ _ _ (l .low3 .ensures .1) (c .if-recipe .ensures .1) (r .low2 .ensures .1),
     )
 
-lesser-requires : tie.Need-lesser-requires
-lesser-requires c κs = search needs
-
-returns-7 : tie.Need-returns-7
-returns-7 c =
-    let l = c .before .before .before .before in
-    let r = l .before .before .before in
-    let q = r .before .before in
-    let e = q .before .before in
-    let a = e .before .before .before in
-    let s = a .before .before in
-    let bs = s .args .card .now in
-    let ns = s .args .names .now in
-    let t = s .args .table .now in
-    let i = s .args .i in
-    let m = s .args .c in
-    let k = a .kind-at .ensures in
-    let left = l .low3 .ensures .0 ∙ ap (λ x. lowAt t x m) (q .before .left-part .ensures .0) in
-    let right = r .low2 .ensures .0 ∙ ap (λ x. lowAt t x m) (q .right-part .ensures .0) in (
-      c .lesser .ensures ∙ ap₂ min left right ∙ sym (low-one-of bs ns t i m (sym k ∙ c .before .if7 .taken)),
-      rw (c .lesser .ensures) (min-small _ _ (l .low3 .ensures .1)),
-    )
-
 add-result-2 : tie.Need-add-result-2
 add-result-2 c = search needs
 
-returns-8 : tie.Need-returns-8
-returns-8 c =
-    let l = c .before .before .before in
+returns-7 : tie.Need-returns-7
+returns-7 c =
+    let d = c .before in
+    let l = d .before in
     let r = l .before .before .before in
     let q = r .before .before in
     let e = q .before .before in
@@ -193,15 +157,10 @@ returns-8 c =
     let i = s .args .i in
     let m = s .args .c in
     let k = a .kind-at .ensures in
+    let right = r .low2 .ensures .0 ∙ ap (λ x. lowAt t x m) (q .right-part .ensures .0) in
     let left = l .low3 .ensures .0 ∙ ap (λ x. lowAt t x m) (q .before .left-part .ensures .0) in
-    let right = r .low2 .ensures .0 ∙ ap (λ x. lowAt t x m) (q .right-part .ensures .0) in (
-      ap₂ _+_ left right
-          ∙ sym
-          (low-both bs ns t i m (same-high _ _ 4 k (e .before .if2 .left)) (same-not-above _ _ 8 k (e .if3 .left))
-          (λ p. c .before .before .if5 .left (k ∙ p)) (λ p. l .before .before .if4 .left (k ∙ p))
-          (λ p. c .before .if6 .left (k ∙ p)) (λ p. c .if7 .left (k ∙ p))),
-      sum-small _ _ (l .low3 .ensures .1) (r .low2 .ensures .1),
-    )
+    let four = left-both _ _ k (e .before .if2 .left) (e .if3 .left) (d .if5 .left) (l .before .before .if4 .left) (c .if6 .left) in
+    (ap₂ _+_ left right ∙ sym (low-both bs ns t i m four), sum-small _ _ (l .low3 .ensures .1) (r .low2 .ensures .1))
 
 pub low-step-spec : {M : Type 1} → statement M
 low-step-spec =
@@ -213,7 +172,7 @@ low-step-spec =
     low-requires
     returns
     returns-2
-    never-requires
+    low-choice-requires
     returns-3
     left-part-requires
     right-part-requires
@@ -227,7 +186,5 @@ low-step-spec =
     if-recipe-requires
     add-result
     returns-6
-    lesser-requires
-    returns-7
     add-result-2
-    returns-8)
+    returns-7)

@@ -2,7 +2,6 @@
 use borrow.Author.Needs.{needs}
 use Prim.Native.Nat.{ℕ, _-_, _≤_, _<_}
 use native.Mathlib.Omega.{arith}
-use mathlib.Core.Path.{_≡_}
 use mathlib.Core.Bool.{_&&_, false≢true}
 use Rattle.card.specs.Decode.{clauseOf}
 use Rattle.bounds.specs.Inner.Count.{bit}

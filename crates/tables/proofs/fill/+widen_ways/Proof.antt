@@ -10,7 +10,7 @@ use Rattle.card.specs.Format.{kindAt, leftAt, rightAt}
 use Rattle.card.specs.Fault.{Sound}
 use Rattle.card.proofs.SoundNodes.{parts-below}
 use Rattle.bounds.proofs.WaysSmall.{way-on}
-use Rattle.bounds.specs.Inner.Table.{Node, Held, TableCells}
+use Rattle.bounds.specs.Inner.Table.{Node}
 use Rattle.tables.proofs.fill.widen_ways.Reads as widen-ways
 use Rattle.tables.proofs.fill.widen_ways.Kinds as widen-ways-kinds
 use Rattle.tables.proofs.fill.+widen_ways.Lts-widen_ways as widen-ways-lts
@@ -110,7 +110,8 @@ widen-ways-widen-ways-requires t c κs =
     let a = e .before .before in
     let s = a .before .before in
     let z = s .pre .1 .0 in
-    let lower = parts (z .sound) (s .pre .1 .1 .0 .0) (a .kind-at .ensures) (omega (arith, e .if2 .taken), λ q. omega (arith, q, e .if2 .taken)) .1 in (
+    let k = e .if2 .taken in
+    let lower = parts (z .sound) (s .pre .1 .1 .0 .0) (a .kind-at .ensures) (omega (arith, k), λ q. omega (arith, q, k)) .1 in (
       omega (arith, lower, s .pre .0, c .right-part .ensures .0),
       (
         z,
@@ -138,7 +139,8 @@ widen-ways-widen-ways-requires-2 t c κs =
     let a = e .before .before .before in
     let s = a .before .before in
     let z = s .pre .1 .0 in
-    let lower = parts (z .sound) (s .pre .1 .1 .0 .0) (a .kind-at .ensures) (omega (arith, e .if3 .taken), λ q. omega (arith, q, e .if3 .taken)) .0 in (
+    let k = e .if3 .taken in
+    let lower = parts (z .sound) (s .pre .1 .1 .0 .0) (a .kind-at .ensures) (omega (arith, k), λ q. omega (arith, q, k)) .0 in (
       omega (arith, lower, s .pre .0, f .left-part2 .ensures .0),
       (
         z,
@@ -163,7 +165,8 @@ widen-ways-widen-ways-requires-3 t c κs =
     let a = e .before .before .before in
     let s = a .before .before in
     let z = s .pre .1 .0 in
-    let lower = parts (z .sound) (s .pre .1 .1 .0 .0) (a .kind-at .ensures) (omega (arith, e .if3 .taken), λ q. omega (arith, q, e .if3 .taken)) .1 in (
+    let k = e .if3 .taken in
+    let lower = parts (z .sound) (s .pre .1 .1 .0 .0) (a .kind-at .ensures) (omega (arith, k), λ q. omega (arith, q, k)) .1 in (
       omega (arith, lower, s .pre .0, r .right-part2 .ensures .0),
       (
         record { sound = z .sound; names-held = z .names-held; table-held = f .widen-ways2 .ensures },

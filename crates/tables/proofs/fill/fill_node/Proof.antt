@@ -11,6 +11,12 @@ Inv-loop card names table₀ i s n c₀ table c = (c ≤ n) × TableCells table
 abbrev μ-loop : tie.MeasureT-loop
 μ-loop card names table₀ i s n c₀ table c = n - c
 
+own-row-requires : tie.Need-own-row-requires Inv-loop μ-loop
+own-row-requires c κs = search needs
+
+returns : tie.Need-returns Inv-loop μ-loop
+returns c = search needs
+
 least-step-requires : tie.Need-least-step-requires Inv-loop μ-loop
 least-step-requires c κs = search needs
 
@@ -38,8 +44,8 @@ loop-less c = search needs
 loop-again : tie.Need-loop-again Inv-loop μ-loop
 loop-again c = search needs
 
-returns : tie.Need-returns Inv-loop μ-loop
-returns c = search needs
+returns-2 : tie.Need-returns-2 Inv-loop μ-loop
+returns-2 c = search needs
 
 pub fill-node-spec : {M : Type 1} → statement M
 fill-node-spec =
@@ -47,6 +53,8 @@ fill-node-spec =
     (tie.spec
     Inv-loop
     μ-loop
+    own-row-requires
+    returns
     least-step-requires
     add-put
     put-requires
@@ -56,4 +64,4 @@ fill-node-spec =
     add-c
     loop-less
     loop-again
-    returns)
+    returns-2)
