@@ -10,7 +10,7 @@ ghost use mathlib.Core.Bool.{true};
 ghost use Rattle.card.specs.Format.{nodeCount};
 ghost use Rattle.card.specs.Fault.{Sound, clausePart};
 ghost use Rattle.entries.specs.Inner.Entries.{codeFits};
-ghost use Rattle.choice.specs.Inner.Choice.{atHandBy, openTo, takableBy, Testing, Seeks, FirstEntry, keepsBy, openBy, gives};
+ghost use Rattle.choice.specs.Inner.Choice.{atHandBy, openTo, takableBy, Testing, Passes, Skips, Seeks, FirstEntry, keepsBy, openBy, gives};
 
 // The least usable entry.
 pub enum Sought {
@@ -81,8 +81,47 @@ pub fn usable(
     open(card, waits, b, e)
 }
 
-// The least usable entry from the given one on.
-pub fn seek(
+// The entry cannot be used for the name; where it has a menu, that is not asked.
+fn passes(card: &[u8], waits: &[u64; 64], b: Branch, name: usize, code: usize, e: usize) -> bool
+    requires { ⌜ Sound (now card) × (length (now waits) ≡ 64) ⌝ }
+    ensures { λ r. ⌜ Passes (now (card .entry)) (now (waits .entry)) b name code e r ⌝ }
+{
+    if 1000 < code {
+        return false;
+    }
+    if code != name {
+        return true;
+    }
+    let free = open(card, waits, b, e);
+    !free
+}
+
+// Past such entries, from the given one on: to the least usable entry, to one with a menu, or to the end.
+fn skip(
+    card: &[u8],
+    waits: &[u64; 64],
+    heads: &[u16; 256],
+    b: Branch,
+    name: usize,
+    from: usize,
+) -> usize
+    requires { ⌜ Testing (now card) (now waits) (now heads) b ⌝ }
+    ensures { λ r. ⌜ Skips (now (card .entry)) (now (waits .entry)) (now (heads .entry)) b name from r ⌝ }
+{
+    let mut e = from;
+    while e < b.count {
+        let code = heads[e] as usize;
+        let on = passes(card, waits, b, name, code, e);
+        if !on {
+            return e;
+        }
+        e += 1;
+    }
+    e
+}
+
+// The least usable entry from one with a menu on.
+fn seek_on(
     card: &[u8],
     waits: &[u64; 64],
     heads: &[u16; 256],
@@ -102,6 +141,29 @@ pub fn seek(
         e += 1;
     }
     Sought::Nothing
+}
+
+// The least usable entry from the given one on. Where there is no menu the loop makes no call.
+pub fn seek(
+    card: &[u8],
+    waits: &[u64; 64],
+    heads: &[u16; 256],
+    b: Branch,
+    name: usize,
+    from: usize,
+) -> Sought
+    requires { ⌜ Testing (now card) (now waits) (now heads) b ⌝ }
+    ensures { λ r. ⌜ Seeks (now (card .entry)) (now (waits .entry)) (now (heads .entry)) b name from r ⌝ }
+{
+    let e = skip(card, waits, heads, b, name, from);
+    if b.count <= e {
+        return Sought::Nothing;
+    }
+    let code = heads[e] as usize;
+    if code < 1001 {
+        return Sought::At(e);
+    }
+    seek_on(card, waits, heads, b, name, e)
 }
 
 // The least entry to be taken at a place: the given step, or the least after the given ones.

@@ -40,6 +40,17 @@ pub record Testing (bs waits heads : List ℕ) (b : Branch) : Type 0 where
   pub heads-low : (e : ℕ) → e < b .count → getD heads e 0 < 1513
   pub menus : (e : ℕ) → e < b .count → 1001 ≤ getD heads e 0 → clausePart bs (nodeCount bs) (getD heads e 0 - 1001) ≡ true
 
+-- Whether an entry with this code is passed: where it is, it cannot be used; where it is not and has no menu, it can.
+pub record Passes (bs waits : List ℕ) (b : Branch) (name code e : ℕ) (r : Bool) : Type 0 where
+  pub unusable : r ≡ true → (codeFits bs code name && openTo bs waits b e) ≡ false
+  pub usable : r ≡ false → code ≤ 1000 → (codeFits bs code name && openTo bs waits b e) ≡ true
+
+-- What the entries from the given one up to e are, which cannot be used, and e itself, if it is one and has no menu.
+pub record Skips (bs waits heads : List ℕ) (b : Branch) (name from e : ℕ) : Type 0 where
+  pub onward : from ≤ e
+  pub passed : (x : ℕ) → from ≤ x → x < e → takableBy bs waits heads b name x ≡ false
+  pub takable : e < b .count → getD heads e 0 ≤ 1000 → takableBy bs waits heads b name e ≡ true
+
 -- What the least usable entry from the given one on is.
 pub record SeeksAt (bs waits heads : List ℕ) (b : Branch) (name from e : ℕ) : Type 0 where
   pub onward : from ≤ e

@@ -1,0 +1,2 @@
+-- Theorems about the choice of an entry.
+mod EntriesPassed
