@@ -4,43 +4,42 @@ use card::Place;
 use card::format::byte;
 use card::format::line_byte;
 use card::refuse;
+use lines::LineSet;
 ghost use mathlib.Core.Path.{_≡_};
 ghost use mathlib.Core.List.{_++_};
 ghost use Prim.Native.Nat.{_≤_, _<_};
 ghost use lib.ListN.{length, take, drop};
-ghost use Rattle.calculus.specs.Steps.{stands};
 ghost use Rattle.card.specs.Format.{lineCount};
 ghost use Rattle.card.specs.Verdict.{told, firstOf};
 ghost use Rattle.card.specs.Inner.Checks.{Framed};
-ghost use Rattle.card.specs.Sheet.{markOf, marksOf};
+ghost use Rattle.card.specs.Sheet.{marksOf};
 ghost use Rattle.marks.specs.Marks.{markFault};
+ghost use Rattle.marks.specs.Inner.Used.{Gathers, markBy, faultBy};
 
-// Entry e stands in the list.
-fn is_step(steps: &[u8], k: usize, e: usize) -> bool
+// The lines that stand in the list: item i for entry rules + i. What is no line has an item past the lines, or none.
+fn listed(steps: &[u8], k: usize, rules: usize) -> LineSet
     requires { ⌜ k ≤ length (now steps) ⌝ }
-    ensures { λ r. ⌜ r ≡ stands e (take k (now (steps .entry))) ⌝ }
+    ensures { λ r. ⌜ Gathers (take k (now (steps .entry))) rules r ⌝ }
 {
-    let mut i = 0;
-    while i < k {
-        let step = byte(steps, i);
-        if e == step {
-            return true;
+    let mut set = LineSet::empty();
+    let mut at = 0;
+    while at < k {
+        let step = byte(steps, at);
+        if rules <= step {
+            set = set.add(step - rules);
         }
-        i += 1;
+        at += 1;
     }
-    false
+    set
 }
 
-// The mark of line i.
-fn mark(card: &[u8], steps: &[u8], k: usize, i: usize) -> u8
+// The mark of line i, where the lines used stand in the list.
+fn mark(card: &[u8], used: LineSet, i: usize) -> u8
     requires { ⌜ Framed (now card) ⌝ }
-    requires { ⌜ k ≤ length (now steps) ⌝ }
     requires { ⌜ i < lineCount (now card) ⌝ }
-    ensures { λ r. ⌜ r ≡ markOf (now (card .entry)) (take k (now (steps .entry))) i ⌝ }
+    ensures { λ r. ⌜ r ≡ markBy (now (card .entry)) used i ⌝ }
 {
-    let p = byte(card, 3);
-    let used = is_step(steps, k, p + i);
-    if used {
+    if used.has(i) {
         return 1;
     }
     let must = line_byte(card, i);
@@ -60,23 +59,24 @@ pub fn write_marks(card: &[u8], steps: &[u8; 255], k: usize, marks: &mut [u8])
         ≡ marksOf (now (card .entry)) (take k (now (steps .entry)))
         ++ drop (lineCount (now (card .entry))) (now (marks .entry)) ⌝ }
 {
+    let p = byte(card, 3);
     let t = byte(card, 4);
+    let used = listed(steps, k, p);
     let mut i = 0;
     while i < t {
-        marks[i] = mark(card, steps, k, i);
+        marks[i] = mark(card, used, i);
         i += 1;
     }
 }
 
 // 14 at mark i: it is not the true one.
-fn mark_check(card: &[u8], steps: &[u8], k: usize, marks: &[u8], i: usize) -> Checked
+fn mark_check(card: &[u8], used: LineSet, marks: &[u8], i: usize) -> Checked
     requires { ⌜ Framed (now card) ⌝ }
-    requires { ⌜ k ≤ length (now steps) ⌝ }
     requires { ⌜ i < lineCount (now card) ⌝ }
     requires { ⌜ i < length (now marks) ⌝ }
-    ensures { λ r. ⌜ told r ≡ markFault (now (card .entry)) (take k (now (steps .entry))) (now (marks .entry)) i ⌝ }
+    ensures { λ r. ⌜ told r ≡ faultBy (now (card .entry)) used (now (marks .entry)) i ⌝ }
 {
-    let asked = mark(card, steps, k, i);
+    let asked = mark(card, used, i);
     refuse(marks[i] != asked, 14, Place::Mark(i as u16))
 }
 
@@ -89,10 +89,12 @@ pub fn marks_check(card: &[u8], steps: &[u8], k: usize, marks: &[u8]) -> Checked
         ≡ firstOf (lineCount (now (card .entry)))
         (markFault (now (card .entry)) (take k (now (steps .entry))) (now (marks .entry))) ⌝ }
 {
+    let p = byte(card, 3);
     let t = byte(card, 4);
+    let used = listed(steps, k, p);
     let mut i = 0;
     while i < t {
-        let mark = mark_check(card, steps, k, marks, i);
+        let mark = mark_check(card, used, marks, i);
         let Checked::Sound = mark else {
             return mark;
         };

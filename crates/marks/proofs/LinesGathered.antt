@@ -1,0 +1,65 @@
+-- Laws of the lines gathered: no step, one step more, and the marks by the set.
+use Prim.Native.Nat.{ℕ, _+_, _<_}
+use native.Mathlib.Decide.{decLt, ℕ-discrete}
+use native.Mathlib.Omega.{arith}
+use mathlib.Core.Path.{_≡_, sym, _∙_, ap}
+use mathlib.Core.Bool.{Bool, _||_, or-false, or-assoc, or-comm}
+use mathlib.Core.List.{List, [], _∷_, _++_}
+use lib.Dec.{eqb}
+use borrow.Author.Tests.{eq-eqb, ne-eqb}
+use Rattle.calculus.specs.Steps.{stands}
+use Rattle.card.specs.Format.{ruleCount}
+use Rattle.card.specs.Sheet.{markOf}
+use Rattle.lines.specs.declared.LineSet.{LineSet}
+use Rattle.lines.specs.Inner.Set.{member, emptyS, addS}
+use Rattle.lines.proofs.MemberLaws.{member-empty, member-add, add-past}
+use Rattle.marks.specs.Marks.{markFault}
+use Rattle.marks.specs.Inner.Used.{Gathers, markBy, faultBy}
+
+pub gathers-none : (rules : ℕ) → Gathers [] rules emptyS
+unfolding stands
+gathers-none rules = record { line = λ x h. member-empty x }
+
+stands-more : (x e : ℕ) (l : List ℕ) → stands x (l ++ (e ∷ [])) ≡ (stands x l || eqb x e)
+unfolding stands
+stands-more x e [] = or-false (eqb x e)
+stands-more x e (y ∷ l) =
+    ap (λ (b : Bool). eqb x y || b) (stands-more x e l) ∙ sym (or-assoc (eqb x y) (stands x l) (eqb x e))
+
+module _ {l : List ℕ} {rules : ℕ} {s : LineSet} (g : Gathers l rules s) (e : ℕ) where
+  -- the set gains the line that the list gains
+  gathers-more : {t : LineSet} → ((x : ℕ) → x < 64 → member t x ≡ (eqb (rules + x) e || member s x)) → Gathers (l ++ (e ∷ [])) rules t
+  gathers-more f =
+      record {
+        line = λ x h.
+            f x h ∙ ap (λ (b : Bool). eqb (rules + x) e || b) (g .line x h) ∙ or-comm (eqb (rules + x) e) (stands (rules + x) l)
+            ∙ sym (stands-more (rules + x) e l);
+      }
+
+  -- a step that is no line of a card
+  gathers-beside : ((x : ℕ) → x < 64 → rules + x ≡ e → ⊥) → Gathers (l ++ (e ∷ [])) rules s
+  gathers-beside d = gathers-more (λ x h. ap (λ (b : Bool). b || member s x) (sym (ne-eqb (rules + x) e (d x h))))
+
+  pub gathers-rule : e < rules → Gathers (l ++ (e ∷ [])) rules s
+  gathers-rule k = gathers-beside (λ x h p. omega arith)
+
+  -- a step behind the rules has item i; from 192 on the set has no place for it
+  pub gathers-item : (i : ℕ) → e ≡ rules + i → Gathers (l ++ (e ∷ [])) rules (addS s i)
+  gathers-item i q = go (decLt i 192)
+    where
+      same : (x : ℕ) → Dec (x ≡ i) → eqb x i ≡ eqb (rules + x) e
+      same x (yes p) = eq-eqb x i p ∙ sym (eq-eqb (rules + x) e (omega arith))
+      same x (no d) = ne-eqb x i d ∙ sym (ne-eqb (rules + x) e (λ p. d (omega arith)))
+
+      go : Dec (i < 192) → Gathers (l ++ (e ∷ [])) rules (addS s i)
+      go (yes d) = gathers-more (λ x h. member-add s i x d ∙ ap (λ (b : Bool). b || member s x) (same x (ℕ-discrete x i)))
+      go (no d) = rw (add-past s i (omega arith)) (gathers-beside (λ x h p. omega arith))
+
+module _ (bs : List ℕ) {l : List ℕ} {s : LineSet} (g : Gathers l (ruleCount bs) s) (i : ℕ) (h : i < 64) where
+  pub mark-by : markBy bs s i ≡ markOf bs l i
+  unfolding markBy markOf
+  mark-by = rw (g .line i h)
+
+  pub fault-by : (marks : List ℕ) → faultBy bs s marks i ≡ markFault bs l marks i
+  unfolding faultBy markFault
+  fault-by marks = rw mark-by

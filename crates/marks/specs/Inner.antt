@@ -1,0 +1,2 @@
+-- The lines that a list uses, as a set, and the marks by that set.
+pub mod Used

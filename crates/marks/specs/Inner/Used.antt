@@ -1,0 +1,23 @@
+-- The lines that stand in a list, gathered in a set, and the marks by that set.
+use Prim.Native.Nat.{ℕ, _+_, _<_}
+use mathlib.Core.Path.{_≡_}
+use mathlib.Core.Bool.{not, cond}
+use mathlib.Core.List.{List}
+use lib.Dec.{eqb}
+use Rattle.calculus.specs.Steps.{stands}
+use Rattle.card.specs.Format.{byteAt, lineByte}
+use Rattle.card.specs.Verdict.{Verdict, mark, refuse}
+use Rattle.lines.specs.declared.LineSet.{LineSet}
+use Rattle.lines.specs.Inner.Set.{member}
+
+-- Of the lines, of which a card has at most 64, exactly those that stand in the list are in the set.
+pub record Gathers (l : List ℕ) (rules : ℕ) (s : LineSet) : Type 0 where
+  pub line : (x : ℕ) → x < 64 → member s x ≡ stands (rules + x) l
+
+-- `markOf` line i, where the lines in the set stand in the list
+unfoldable pub markBy : List ℕ → LineSet → ℕ → ℕ
+markBy bs s i = cond (member s i) 1 (cond (eqb (lineByte bs i) 1) 2 0)
+
+-- `markFault`, where the lines in the set stand in the list
+unfoldable pub faultBy : List ℕ → LineSet → List ℕ → ℕ → Verdict
+faultBy bs s marks i = refuse (not (eqb (byteAt marks i) (markBy bs s i))) 14 (mark i)
