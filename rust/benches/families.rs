@@ -14,7 +14,9 @@ use std::time::{Duration, Instant};
 
 /// A card without an answer in this time is not timed.
 const LIMIT: Duration = Duration::from_secs(1);
-const ROUNDS: usize = 21;
+/// Places on the stack at which each planner is timed, and how often at each.
+const PLACES: usize = 64;
+const TURNS: usize = 5;
 
 /// Times of one call in nanoseconds, one for each archive, none where it does not answer; and now by before.
 struct Times {
@@ -32,9 +34,10 @@ fn main() {
     archives::serve();
     println!("{}", about());
     let mut asked: Vec<Asked> = (0..ARCHIVES.len()).map(Asked::start).collect();
-    summary(&table(&mut asked, FAMILIES));
+    let rows = table(&mut asked, FAMILIES);
     println!("\nHard cards, not up to full size:\n");
-    table(&mut asked, HARD);
+    let hard = table(&mut asked, HARD);
+    summary(&rows, &hard);
     println!("\nCards with choices:\n");
     match all_choose() {
         true => drop(table(&mut asked, CHOOSING)),
@@ -66,16 +69,16 @@ fn table(asked: &mut [Asked], families: &'static [Family]) -> Vec<Row> {
 fn about() -> String {
     let before = if ARCHIVES.len() > 1 {
         "\"before\" is the planner of the earlier commit, \"now\" that of this tree. They take turns, and \"ratio\" is the\n\
-         median of now by before in each round."
+         geometric mean of now by before over the places."
     } else {
         "\"now\" is the planner of this tree."
     };
     format!(
         "{before}\n\
-         Each time is the median of {ROUNDS} rounds, 3 where a call takes over 5 ms. A round is as many calls as take the\n\
-         slower about 500 us, at least one; the time is that of one call, from the card's bytes to the sheet. \"power\"\n\
-         is the power of n by which the time grew since the row above. Each planner is first asked in a process of\n\
-         its own, which is ended where it has no answer in {} s.\n",
+         Each time is that of one call, from the card's bytes to the sheet: the least of {TURNS} turns at each of {PLACES}\n\
+         places on the stack (one where a call takes over 5 ms), and of these the geometric mean. A turn is as many\n\
+         calls as take the slower about 50 us, at least one. \"power\" is the power of n by which the time grew since the\n\
+         row above. Each planner is first asked in a process of its own, which is ended where it has no answer in {} s.\n",
         LIMIT.as_secs()
     )
 }
@@ -92,30 +95,54 @@ fn check(family: &Family, n: usize, answers: &[Option<Answer>]) {
     }
 }
 
-/// The median time of one call, by turns, of the archives that answer.
+/// The time of one call of each archive that answers. Where the stack begins sets how its cells fall on lines and pages, which can make a call
+/// a quarter slower; so all are timed at many places.
 fn times(card: &[u8], answers: &[Option<Answer>]) -> Times {
     let mut sheet = vec![0; ROOM];
-    let mut answering: Vec<usize> = (0..answers.len()).filter(|&i| answers[i].is_some()).collect();
-    // the second call is warm, and says how many there are to a round
-    let mut warm = |i: &usize| [(); 2].map(|()| round(ARCHIVES[*i], card, &mut sheet, 1))[1];
+    let answering: Vec<usize> = (0..answers.len()).filter(|&i| answers[i].is_some()).collect();
+    // the second call is warm, and says how many there are to a turn
+    let mut warm = |i: &usize| [(); 2].map(|()| turn(ARCHIVES[*i], card, &mut sheet, 1))[1];
     let once: Vec<f64> = answering.iter().map(&mut warm).collect();
-    let calls = once.iter().map(|&ns| (500_000.0 / ns.max(1.0)).ceil() as usize).min().unwrap_or(0);
-    let rounds = if once.iter().any(|&ns| ns > 5e6) { 3 } else { ROUNDS };
+    let calls = once.iter().map(|&ns| (50_000.0 / ns.max(1.0)).ceil() as usize).min().unwrap_or(0);
+    let places = if once.iter().any(|&ns| ns > 5e6) { 1 } else { PLACES };
     let mut found: Vec<Vec<f64>> = vec![Vec::new(); answers.len()];
-    for _ in 0..rounds {
-        for &i in &answering {
-            found[i].push(round(ARCHIVES[i], card, &mut sheet, calls));
-        }
-        answering.reverse();
+    for place in 0..places {
+        deeper(place, &mut || {
+            for (i, least) in least_of_turns(&answering, card, &mut sheet, calls) {
+                found[i].push(least);
+            }
+        });
     }
     let ratio = match &found[..] {
-        [before, now] => median(now.iter().zip(before).map(|(n, b)| n / b).collect()),
+        [before, now] => mean(now.iter().zip(before).map(|(n, b)| n / b)),
         _ => None,
     };
-    Times { each: found.into_iter().map(median).collect(), ratio }
+    Times { each: found.into_iter().map(|times| mean(times.into_iter())).collect(), ratio }
 }
 
-fn round(archive: Archive, card: &[u8], sheet: &mut [u8], calls: usize) -> f64 {
+/// The least time of each archive at this place, by turns: what is more was disturbed.
+fn least_of_turns(answering: &[usize], card: &[u8], sheet: &mut [u8], calls: usize) -> Vec<(usize, f64)> {
+    let mut least: Vec<(usize, f64)> = answering.iter().map(|&i| (i, f64::INFINITY)).collect();
+    for _ in 0..TURNS {
+        for (i, time) in &mut least {
+            *time = time.min(turn(ARCHIVES[*i], card, sheet, calls));
+        }
+    }
+    least
+}
+
+/// Calls the function so many frames of some hundred bytes further down the stack.
+#[inline(never)]
+fn deeper(frames: usize, f: &mut dyn FnMut()) {
+    let frame = black_box([0u8; 208]);
+    match frames {
+        0 => f(),
+        _ => deeper(frames - 1, f),
+    }
+    black_box(&frame);
+}
+
+fn turn(archive: Archive, card: &[u8], sheet: &mut [u8], calls: usize) -> f64 {
     let start = Instant::now();
     for _ in 0..calls {
         black_box(archive.plan(black_box(card), sheet));
@@ -123,9 +150,10 @@ fn round(archive: Archive, card: &[u8], sheet: &mut [u8], calls: usize) -> f64 {
     start.elapsed().as_nanos() as f64 / calls as f64
 }
 
-fn median(mut times: Vec<f64>) -> Option<f64> {
-    times.sort_by(f64::total_cmp);
-    times.get(times.len() / 2).copied()
+/// The geometric mean, if there is anything.
+fn mean(values: impl Iterator<Item = f64>) -> Option<f64> {
+    let logs: Vec<f64> = values.map(f64::ln).collect();
+    (!logs.is_empty()).then(|| (logs.iter().sum::<f64>() / logs.len() as f64).exp())
 }
 
 fn time(ns: Option<f64>) -> String {
@@ -169,22 +197,34 @@ fn print_row(
     println!("{:<29}{mark}{n:>4}  {answer:<12}{cells}{ratio}{power:>7}", family.name);
 }
 
-/// The straight plans' ratios, and the cards that take longest now.
-fn summary(rows: &[Row]) {
-    let straight = rows.iter().filter(|r| r.0.straight);
-    let ratios: Vec<(f64, String)> =
-        straight.filter_map(|r| Some((r.2.ratio?, format!("{} {}", r.0.name, r.1)))).collect();
-    if let Some((worst, card)) = ratios.iter().max_by(|a, b| a.0.total_cmp(&b.0)) {
-        let mean = (ratios.iter().map(|r| r.0.ln()).sum::<f64>() / ratios.len() as f64).exp();
-        println!("\nStraight plans (*): {} cards, geometric mean of the ratios {mean:.3}, worst {worst:.3} ({card})", ratios.len());
+/// Ratios of these rows: their mean, the worst, and how many are above 1.05.
+fn ratios(of: &str, rows: &[&Row]) {
+    let known: Vec<(f64, &Row)> = rows.iter().filter_map(|&row| Some((row.2.ratio?, row))).collect();
+    if let (Some(mean), Some((worst, row))) =
+        (mean(known.iter().map(|r| r.0)), known.iter().max_by(|a, b| a.0.total_cmp(&b.0)))
+    {
+        let above = known.iter().filter(|r| r.0 > 1.05).count();
+        println!(
+            "{of}: {} cards, geometric mean of the ratios {mean:.3}, worst {worst:.3} ({} {}), {above} above 1.05",
+            known.len(),
+            row.0.name,
+            row.1
+        );
     }
+}
+
+/// The ratios of straight plans and of all cards, and the cards that take longest now.
+fn summary(rows: &[Row], hard: &[Row]) {
+    println!();
+    ratios("Straight plans (*)", &rows.iter().filter(|r| r.0.straight).collect::<Vec<_>>());
+    ratios("All of both tables", &rows.iter().chain(hard).collect::<Vec<_>>());
     let slow: Vec<String> = rows
         .iter()
         .filter(|r| r.2.now().is_none_or(|t| t > 1e6))
         .map(|r| format!("{} {}", r.0.name, r.1))
         .collect();
     println!(
-        "\n{} of {} cards take over 1 ms now{}",
+        "\n{} of {} cards of the first take over 1 ms now{}",
         slow.len(),
         rows.len(),
         if slow.is_empty() { "." } else { ":" }

@@ -18,7 +18,7 @@ use Rattle.calculus.specs.Derivation.{res-⊗, res-&, res-⊕₁, res-�
 use Rattle.calculus.specs.Steps.{steps, nesting, leftChoice, rightChoice}
 use Rattle.calculus.specs.Job.{Job, Derivation, Limited, Listed}
 use Rattle.calculus.specs.Inner.Renaming.{Renaming, Image, over, Renamed, JobRenaming, swap}
-use Rattle.calculus.proofs.SetLaws.{or-right}
+use Rattle.calculus.proofs.SetLaws.{or-right, and-left}
 use Rattle.calculus.proofs.SummaryExact.{lend-size}
 
 -- An entry that is used
@@ -74,10 +74,6 @@ same-truth false false h k = refl
 not-true : (b : Bool) → (b ≡ true → ⊥) → b ≡ false
 not-true true h = absurd (h refl)
 not-true false h = refl
-
-and-left : (a b : Bool) → (a && b) ≡ true → a ≡ true
-and-left true b h = refl
-and-left false b h = h
 
 absorbed : (a b : Bool) → (b ≡ true → a ≡ true) → (a && b) ≡ b
 absorbed true b h = refl

@@ -80,7 +80,8 @@ unfolding stands
 below-cons {m} {x} {l} h b =
     record { below = λ e s. or-cases (eqb e x) (stands e l) (e < m) s (λ q. omega (arith, eqb-true e x q)) (b .below e) }
 
-stands-parts : (e : ℕ) (l k : List ℕ) → stands e (l ++ k) ≡ (stands e l || stands e k)
+-- what stands in two lists, one behind the other
+pub stands-parts : (e : ℕ) (l k : List ℕ) → stands e (l ++ k) ≡ (stands e l || stands e k)
 unfolding stands
 stands-parts e [] k = refl
 stands-parts e (x ∷ l) k = ap (λ (b : Bool). eqb e x || b) (stands-parts e l k) ∙ sym (or-assoc (eqb e x) (stands e l) (stands e k))

@@ -26,7 +26,7 @@ passed-more {p} {k} {e} {f} w h q = record { onward = let o = w .onward in omega
     at x a b (no l) = let r : x ≡ e = omega arith in ap p r ∙ h
 
 -- what is sought behind passed entries
-pub seeks-past : {bs waits heads : List ℕ} {b : Branch} {name from e : ℕ} (r : Sought) → Skips bs waits heads b name from e
+pub seeks-past : {bs waits heads : List ℕ} {b : Branch} {name from e : ℕ} (r : Sought) {end : ℕ} → Skips bs waits heads b name end from e
     → Seeks bs waits heads b name e r → Seeks bs waits heads b name from r
 unfolding Seeks
 seeks-past {bs} {waits} {heads} {b} {name} {from} {e} (At f) w s = record {

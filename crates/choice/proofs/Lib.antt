@@ -1,2 +1,3 @@
 -- Theorems about the choice of an entry.
 mod EntriesPassed
+mod LinesAtHand

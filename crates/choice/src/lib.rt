@@ -4,13 +4,14 @@ use branch::Floor;
 use branch::Outcome;
 use card::format::byte;
 ghost use mathlib.Core.Path.{_≡_};
-ghost use Prim.Native.Nat.{_-_, _≤_};
-ghost use lib.ListN.{length};
+ghost use Prim.Native.Nat.{ℕ, _+_, _-_, _≤_, _<_};
+ghost use lib.ListN.{length, getD};
 ghost use mathlib.Core.Bool.{true};
-ghost use Rattle.card.specs.Format.{nodeCount};
+ghost use Rattle.card.specs.Format.{nodeCount, ruleCount, lineCount};
 ghost use Rattle.card.specs.Fault.{Sound, clausePart};
 ghost use Rattle.entries.specs.Inner.Entries.{codeFits};
-ghost use Rattle.choice.specs.Inner.Choice.{atHandBy, openTo, takableBy, Testing, Passes, Skips, Seeks, FirstEntry, keepsBy, openBy, gives};
+ghost use Rattle.choice.specs.Inner.Choice.{atHandBy, openTo, takableBy, Testing, Passes, PassesLine, missesBy, RulesMissed};
+ghost use Rattle.choice.specs.Inner.Choice.{HandFrom, Skips, Reached, Seeks, FirstEntry, keepsBy, openBy, gives};
 
 // The least usable entry.
 pub enum Sought {
@@ -96,8 +97,105 @@ fn passes(card: &[u8], waits: &[u64; 64], b: Branch, name: usize, code: usize, e
     !free
 }
 
-// Past such entries, from the given one on: to the least usable entry, to one with a menu, or to the end.
-fn skip(
+// The entry has neither a menu nor the name for its head.
+fn misses(code: usize, name: usize) -> bool
+    ensures { λ r. ⌜ r ≡ missesBy code name ⌝ }
+{
+    if 1000 < code {
+        return false;
+    }
+    code != name
+}
+
+// Past the rules that miss the name, from the given entry on: to the least that does not, or to their end.
+fn skip_rules(card: &[u8], heads: &[u16; 256], name: usize, from: usize) -> usize
+    requires { ⌜ Sound (now card) × (length (now heads) ≡ 256) ⌝ }
+    requires { ⌜ ((e : ℕ) → e < ruleCount (now card) → getD (now heads) e 0 < 1513) ⌝ }
+    ensures { λ r. ⌜ RulesMissed (now (card .entry)) (now (heads .entry)) name from r ⌝ }
+{
+    let rules = byte(card, 3);
+    let mut e = from;
+    while e < rules {
+        let code = heads[e] as usize;
+        let on = misses(code, name);
+        if !on {
+            return e;
+        }
+        e += 1;
+    }
+    e
+}
+
+// The lines at hand from line i on, as a word.
+fn hand_from(b: Branch, i: usize) -> u64
+    requires { ⌜ i < 64 ⌝ }
+    ensures { λ r. ⌜ HandFrom b i r ⌝ }
+{
+    let strict = b.strict;
+    let lax = b.lax;
+    let hand = strict.low | lax.low;
+    let below = (1u64 << i) - 1;
+    hand ^ (hand & below)
+}
+
+// The line at hand cannot be used for the name; where it has a menu, that is not asked.
+fn passes_line(
+    card: &[u8],
+    waits: &[u64; 64],
+    b: Branch,
+    name: usize,
+    code: usize,
+    e: usize,
+) -> bool
+    requires { ⌜ Sound (now card) × (length (now waits) ≡ 64) ⌝ }
+    ensures { λ r. ⌜ PassesLine (now (card .entry)) (now (waits .entry)) b name code e r ⌝ }
+{
+    if 1000 < code {
+        return false;
+    }
+    if code != name {
+        return true;
+    }
+    let seen = entries::ready(byte(card, 3), byte(card, 4), waits, b.seen, e);
+    !seen
+}
+
+// Past the lines that cannot be used, from the given entry on, which is no rule. Only those at hand are looked at, the lowest first.
+fn skip_lines(
+    card: &[u8],
+    waits: &[u64; 64],
+    heads: &[u16; 256],
+    b: Branch,
+    name: usize,
+    from: usize,
+) -> usize
+    requires { ⌜ Testing (now card) (now waits) (now heads) b × (ruleCount (now card) ≤ from) ⌝ }
+    ensures { λ r. ⌜ (let bs = now (card .entry) in
+        Skips bs (now (waits .entry)) (now (heads .entry)) b name (ruleCount bs + lineCount bs) from r) ⌝ }
+{
+    let rules = byte(card, 3);
+    let end = rules + byte(card, 4);
+    if end <= from {
+        return from;
+    }
+    let mut hand = hand_from(b, from - rules);
+    while hand != 0 {
+        let e = rules + u64::trailing_zeros(hand) as usize;
+        if end <= e {
+            return end;
+        }
+        let code = heads[e] as usize;
+        let on = passes_line(card, waits, b, name, code, e);
+        if !on {
+            return e;
+        }
+        hand = hand & (hand - 1);
+    }
+    end
+}
+
+// Past the lent clauses that cannot be used, from the given entry on.
+fn skip_lent(
     card: &[u8],
     waits: &[u64; 64],
     heads: &[u16; 256],
@@ -106,7 +204,7 @@ fn skip(
     from: usize,
 ) -> usize
     requires { ⌜ Testing (now card) (now waits) (now heads) b ⌝ }
-    ensures { λ r. ⌜ Skips (now (card .entry)) (now (waits .entry)) (now (heads .entry)) b name from r ⌝ }
+    ensures { λ r. ⌜ Skips (now (card .entry)) (now (waits .entry)) (now (heads .entry)) b name (b .count) from r ⌝ }
 {
     let mut e = from;
     while e < b.count {
@@ -143,7 +241,27 @@ fn seek_on(
     Sought::Nothing
 }
 
-// The least usable entry from the given one on. Where there is no menu the loop makes no call.
+// The entry itself, where it has no menu, and so is usable; else the least usable one from it on.
+fn found(
+    card: &[u8],
+    waits: &[u64; 64],
+    heads: &[u16; 256],
+    b: Branch,
+    name: usize,
+    e: usize,
+) -> Sought
+    requires { ⌜ Testing (now card) (now waits) (now heads) b ⌝ }
+    requires { ⌜ Reached (now card) (now waits) (now heads) b name e ⌝ }
+    ensures { λ r. ⌜ Seeks (now (card .entry)) (now (waits .entry)) (now (heads .entry)) b name e r ⌝ }
+{
+    let code = heads[e] as usize;
+    if code < 1001 {
+        return Sought::At(e);
+    }
+    seek_on(card, waits, heads, b, name, e)
+}
+
+// The least usable entry from the given one on: a rule, a line, or a lent clause.
 pub fn seek(
     card: &[u8],
     waits: &[u64; 64],
@@ -155,15 +273,20 @@ pub fn seek(
     requires { ⌜ Testing (now card) (now waits) (now heads) b ⌝ }
     ensures { λ r. ⌜ Seeks (now (card .entry)) (now (waits .entry)) (now (heads .entry)) b name from r ⌝ }
 {
-    let e = skip(card, waits, heads, b, name, from);
+    let rules = byte(card, 3);
+    let rule = skip_rules(card, heads, name, from);
+    if rule < rules {
+        return found(card, waits, heads, b, name, rule);
+    }
+    let line = skip_lines(card, waits, heads, b, name, rule);
+    if line < rules + byte(card, 4) {
+        return found(card, waits, heads, b, name, line);
+    }
+    let e = skip_lent(card, waits, heads, b, name, line);
     if b.count <= e {
         return Sought::Nothing;
     }
-    let code = heads[e] as usize;
-    if code < 1001 {
-        return Sought::At(e);
-    }
-    seek_on(card, waits, heads, b, name, e)
+    found(card, waits, heads, b, name, e)
 }
 
 // The least entry to be taken at a place: the given step, or the least after the given ones.

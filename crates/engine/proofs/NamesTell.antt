@@ -221,6 +221,7 @@ module _ {bs waits tape nodes heads : List ℕ} {f : Floor} {b : Branch} (R : Re
     wait-room = R .waiting .room;
     head-room = R .entered .head-room;
     few = let p = sound-front bs (R .sound) .rules in let k = R .few in omega arith;
+    scoped = R .scoped;
     heads-low = λ e h. R .entered .headed e h .small;
     menus = λ e h. R .entered .headed e h .menu;
   }

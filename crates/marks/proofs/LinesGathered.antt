@@ -3,11 +3,12 @@ use Prim.Native.Nat.{ℕ, _+_, _<_}
 use native.Mathlib.Decide.{decLt, ℕ-discrete}
 use native.Mathlib.Omega.{arith}
 use mathlib.Core.Path.{_≡_, sym, _∙_, ap}
-use mathlib.Core.Bool.{Bool, _||_, or-false, or-assoc, or-comm}
+use mathlib.Core.Bool.{Bool, _||_, or-false, or-comm}
 use mathlib.Core.List.{List, [], _∷_, _++_}
 use lib.Dec.{eqb}
 use borrow.Author.Tests.{eq-eqb, ne-eqb}
 use Rattle.calculus.specs.Steps.{stands}
+use Rattle.calculus.proofs.StepsBounded.{stands-parts}
 use Rattle.card.specs.Format.{ruleCount}
 use Rattle.card.specs.Sheet.{markOf}
 use Rattle.lines.specs.declared.LineSet.{LineSet}
@@ -22,9 +23,7 @@ gathers-none rules = record { line = λ x h. member-empty x }
 
 stands-more : (x e : ℕ) (l : List ℕ) → stands x (l ++ (e ∷ [])) ≡ (stands x l || eqb x e)
 unfolding stands
-stands-more x e [] = or-false (eqb x e)
-stands-more x e (y ∷ l) =
-    ap (λ (b : Bool). eqb x y || b) (stands-more x e l) ∙ sym (or-assoc (eqb x y) (stands x l) (eqb x e))
+stands-more x e l = stands-parts x l (e ∷ []) ∙ ap (λ (b : Bool). stands x l || b) (or-false (eqb x e))
 
 module _ {l : List ℕ} {rules : ℕ} {s : LineSet} (g : Gathers l rules s) (e : ℕ) where
   -- the set gains the line that the list gains

@@ -536,14 +536,13 @@ fn widen_lends(card: &[u8], names: &[u16; 1577], table: &mut [u8; 66177], wide: 
     changed
 }
 
-// One round; whether anything changed.
-fn round(card: &[u8], names: &[u16; 1577], table: &mut [u8; 66177], wide: bool) -> bool
+// The bounds of every name take in the uses for it, those of lines first: they need no conditions. Whether any changed.
+fn widen_names(card: &[u8], names: &[u16; 1577], table: &mut [u8; 66177], wide: bool) -> bool
     requires { ⌜ Held (now card) (now names) (now table) ⌝ }
     ensures { λ _. ⌜ TableCells (now (table .exit)) ⌝ }
 {
-    fill_nodes(card, names, table);
-    let rules = widen_rules(card, names, table, wide);
     let lines = widen_lines(card, names, table, wide);
+    let rules = widen_rules(card, names, table, wide);
     let lends = widen_lends(card, names, table, wide);
     if rules {
         return true;
@@ -554,16 +553,20 @@ fn round(card: &[u8], names: &[u16; 1577], table: &mut [u8; 66177], wide: bool) 
     lends
 }
 
-// Rounds until nothing changes. What has not come to rest after 40 goes all the way.
+// The names from their uses and the nodes from their parts, by turns, until nothing changes. What has not come to rest after 40 turns goes
+// all the way.
 fn rounds(card: &[u8], names: &[u16; 1577], table: &mut [u8; 66177])
     requires { ⌜ Held (now card) (now names) (now table) ⌝ }
     ensures { λ _. ⌜ TableCells (now (table .exit)) ⌝ }
 {
+    widen_names(card, names, table, false);
+    fill_nodes(card, names, table);
     let mut i: usize = 0;
     while i < 80 {
-        if !round(card, names, table, 40 <= i) {
+        if !widen_names(card, names, table, 40 <= i) {
             return;
         }
+        fill_nodes(card, names, table);
         i += 1;
     }
 }

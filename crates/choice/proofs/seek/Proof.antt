@@ -1,59 +1,127 @@
--- Past the entries that cannot be used: none is left, one without a menu, or the least from one with a menu on.
-use Prim.Native.Nat.{ℕ, _≤_, _<_}
+-- Past the rules, the lines and the lent clauses that cannot be used: one that is reached, or none.
 use native.Mathlib.Omega.{arith}
-use borrow.Author.Needs.{needs}
-use Rattle.choice.specs.Inner.Choice.{Seeks}
+use Rattle.card.specs.Format.{ruleCount}
+use Rattle.card.proofs.CardChecked.{sound-front}
+use Rattle.choice.specs.Inner.Choice.{Skips, Seeks}
+use Rattle.choice.specs.declared.Sought.the-variants.{Nothing}
 use Rattle.choice.proofs.EntriesPassed.{seeks-past}
+use Rattle.choice.proofs.LinesAtHand.{rules-skipped}
 use Rattle.choice.proofs.seek.Statement.{statement}
 use Rattle.choice.proofs.seek.Tie as tie
 
-plain : (n : ℕ) → n < 1001 → n ≤ 1000
-plain n h = omega arith
+byte-requires : tie.Need-byte-requires
+byte-requires c κs =
+    let start = c .before in
+    let front = sound-front (start .args .card .now) (start .pre .sound) .whole in
+    omega (arith, front)
 
-skip-requires : tie.Need-skip-requires
-skip-requires c κs = c .before .pre
+skip-rules-requires : tie.Need-skip-rules-requires
+skip-rules-requires c κs =
+    let start = c .before .before in
+    let rules = start .pre .scoped in
+    ((start .pre .sound, start .pre .head-room), λ e h. start .pre .heads-low e (omega arith))
+
+-- what the rules passed are
+passed-rules : (c : tie.After-skip-rules) → Skips (c .before .before .before .args .card .now) (c .before .before .before .args .waits .now)
+    (c .before .before .before .args .heads .now) (c .before .before .before .args .b) (c .before .before .before .args .name)
+    (ruleCount (c .before .before .before .args .card .now)) (c .before .before .before .args .from) (c .skip-rules .result)
+passed-rules c =
+    let start = c .before .before .before in
+    let scoped = start .pre .scoped in
+    rules-skipped _ _ _ _ _ (c .skip-rules .ensures) (omega arith)
+
+found-requires : tie.Need-found-requires
+found-requires c κs =
+    let at-rules = c .before in
+    let at-byte = at-rules .before in
+    let start = at-byte .before .before in (
+      start .pre,
+      record {
+        inside = omega (arith, start .pre .scoped, c .if1 .taken, at-byte .byte .ensures .0);
+        takable = passed-rules at-rules .takable (omega (arith, c .if1 .taken, at-byte .byte .ensures .0));
+      },
+    )
 
 returns : tie.Need-returns
-unfolding Seeks
-returns c =
-    let at-skip = c .before .before in
-    let none = c .if1 .taken in
-    λ x h k. at-skip .skip .ensures .passed x h (omega arith)
+returns c = let at-rules = c .before .before in seeks-past _ (passed-rules at-rules) (c .found .ensures)
 
-mul-code : tie.Need-mul-code
-mul-code c = search needs
+skip-lines-requires : tie.Need-skip-lines-requires
+skip-lines-requires c κs =
+    let at-byte = c .before .before in
+    let start = at-byte .before .before in
+    (start .pre, omega (arith, c .if1 .left, at-byte .byte .ensures .0))
 
-element-copy-out-code : tie.Need-element-copy-out-code
-element-copy-out-code c =
-    let start = c .before .before .before .before in
-    omega (arith, start .pre .few, c .if1 .left)
+byte-requires-2 : tie.Need-byte-requires-2
+byte-requires-2 c κs =
+    let start = c .before .before .before .before .before in
+    let front = sound-front (start .args .card .now) (start .pre .sound) .whole in
+    omega (arith, front)
 
-cast-code : tie.Need-cast-code
-cast-code c =
-    let at-if1 = c .before in
-    let start = at-if1 .before .before .before .before in
-    let low = start .pre .heads-low _ (at-if1 .if1 .left) in
-    omega arith
+add-if2 : tie.Need-add-if2
+add-if2 c = omega (arith, c .before .before .before .before .byte .ensures .1, c .byte2 .ensures .1)
+
+found-requires-2 : tie.Need-found-requires-2
+found-requires-2 c κs =
+    let at-byte2 = c .before in
+    let at-lines = at-byte2 .before in
+    let at-byte = at-lines .before .before .before in
+    let start = at-byte .before .before in
+    let p = at-byte .byte .ensures .0 in
+    let t = at-byte2 .byte2 .ensures .0 in (
+      start .pre,
+      record {
+        inside = omega (arith, start .pre .scoped, c .if2 .taken, p, t);
+        takable = at-lines .skip-lines .ensures .takable (omega (arith, c .if2 .taken, p, t));
+      },
+    )
 
 returns-2 : tie.Need-returns-2
-unfolding Seeks
 returns-2 c =
-    let at-if1 = c .before .before in
-    let at-skip = at-if1 .before .before in
-    record {
-      onward = at-skip .skip .ensures .onward;
-      inside = at-if1 .if1 .left;
-      takable = at-skip .skip .ensures .takable (at-if1 .if1 .left) (plain _ (c .if2 .taken));
-      passed = at-skip .skip .ensures .passed;
-    }
+    let at-lines = c .before .before .before in
+    let at-rules = at-lines .before .before in
+    seeks-past _ (passed-rules at-rules) (seeks-past _ (at-lines .skip-lines .ensures) (c .found2 .ensures))
 
-seek-on-requires : tie.Need-seek-on-requires
-seek-on-requires c κs = let start = c .before .before .before .before .before .before in start .pre
+skip-lent-requires : tie.Need-skip-lent-requires
+skip-lent-requires c κs = let start = c .before .before .before .before .before .before .before in start .pre
 
 returns-3 : tie.Need-returns-3
-returns-3 c = let at-skip = c .before .before .before .before .before in seeks-past _ (at-skip .skip .ensures) (c .seek-on .ensures)
+unfolding Seeks
+returns-3 c =
+    let at-lent = c .before .before in
+    let at-lines = at-lent .before .before .before in
+    let at-rules = at-lines .before .before in
+    let none = c .if3 .taken in
+    seeks-past Nothing (passed-rules at-rules) (seeks-past Nothing (at-lines .skip-lines .ensures)
+    (λ x h k. at-lent .skip-lent .ensures .passed x h (omega arith)))
+
+found-requires-3 : tie.Need-found-requires-3
+found-requires-3 c κs =
+    let at-lent = c .before .before in
+    let start = at-lent .before .before .before .before .before .before .before .before in
+    (start .pre, record { inside = c .if3 .left; takable = at-lent .skip-lent .ensures .takable (c .if3 .left) })
+
+returns-4 : tie.Need-returns-4
+returns-4 c =
+    let at-lent = c .before .before .before in
+    let at-lines = at-lent .before .before .before in
+    let at-rules = at-lines .before .before in
+    seeks-past _ (passed-rules at-rules) (seeks-past _ (at-lines .skip-lines .ensures)
+    (seeks-past _ (at-lent .skip-lent .ensures) (c .found3 .ensures)))
 
 pub seek-spec : {M : Type 1} → statement M
 seek-spec =
     tie.close
-    (tie.spec skip-requires returns mul-code element-copy-out-code cast-code returns-2 seek-on-requires returns-3)
+    (tie.spec
+    byte-requires
+    skip-rules-requires
+    found-requires
+    returns
+    skip-lines-requires
+    byte-requires-2
+    add-if2
+    found-requires-2
+    returns-2
+    skip-lent-requires
+    returns-3
+    found-requires-3
+    returns-4)

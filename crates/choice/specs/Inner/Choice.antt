@@ -1,5 +1,5 @@
 -- The terms of the contracts: which entry is tried next at a name, and where the given steps bear on it.
-use Prim.Native.Nat.{ℕ, _-_, _≤_, _<_}
+use Prim.Native.Nat.{ℕ, _+_, _-_, _^_, _≤_, _<_}
 use mathlib.Core.Path.{_≡_}
 use mathlib.Core.Bool.{Bool, true, false, not, cond, _&&_, _||_}
 use mathlib.Core.List.{List}
@@ -8,6 +8,7 @@ use lib.Dec.{leb, ltb, eqb}
 use Rattle.calculus.specs.Items.{_∪_}
 use Rattle.card.specs.Format.{ruleCount, lineCount, nodeCount, byteAt}
 use Rattle.card.specs.Fault.{Sound, clausePart}
+use Rattle.lines.specs.Inner.Set.{bitAt}
 use Rattle.scope.specs.Inner.Sets.{items}
 use Rattle.entries.specs.Inner.Entries.{codeFits}
 use Rattle.entries.specs.Inner.Masks.{readyBy}
@@ -37,6 +38,7 @@ pub record Testing (bs waits heads : List ℕ) (b : Branch) : Type 0 where
   pub wait-room : length waits ≡ 64
   pub head-room : length heads ≡ 256
   pub few : b .count ≤ 256
+  pub scoped : ruleCount bs + lineCount bs ≤ b .count
   pub heads-low : (e : ℕ) → e < b .count → getD heads e 0 < 1513
   pub menus : (e : ℕ) → e < b .count → 1001 ≤ getD heads e 0 → clausePart bs (nodeCount bs) (getD heads e 0 - 1001) ≡ true
 
@@ -45,11 +47,36 @@ pub record Passes (bs waits : List ℕ) (b : Branch) (name code e : ℕ) (r : Bo
   pub unusable : r ≡ true → (codeFits bs code name && openTo bs waits b e) ≡ false
   pub usable : r ≡ false → code ≤ 1000 → (codeFits bs code name && openTo bs waits b e) ≡ true
 
--- What the entries from the given one up to e are, which cannot be used, and e itself, if it is one and has no menu.
-pub record Skips (bs waits heads : List ℕ) (b : Branch) (name from e : ℕ) : Type 0 where
+-- The same of a line at hand.
+pub record PassesLine (bs waits : List ℕ) (b : Branch) (name code e : ℕ) (r : Bool) : Type 0 where
+  pub unusable : r ≡ true → (codeFits bs code name && readyBy (ruleCount bs) (lineCount bs) waits (b .seen) e) ≡ false
+  pub usable : r ≡ false → code ≤ 1000 → (codeFits bs code name && readyBy (ruleCount bs) (lineCount bs) waits (b .seen) e) ≡ true
+
+-- the entry has neither a menu nor the name for its head
+unfoldable pub missesBy : ℕ → ℕ → Bool
+missesBy code name = cond (ltb 1000 code) false (not (eqb code name))
+
+-- What the rules from the given entry up to e are, which miss the name, and e itself, if it is one.
+pub record RulesMissed (bs heads : List ℕ) (name from e : ℕ) : Type 0 where
+  pub onward : from ≤ e
+  pub passed : (x : ℕ) → from ≤ x → x < e → missesBy (getD heads x 0) name ≡ true
+  pub stops : e < ruleCount bs → missesBy (getD heads e 0) name ≡ false
+
+-- The word of the lines at hand from line i on.
+pub record HandFrom (b : Branch) (i word : ℕ) : Type 0 where
+  pub fits : word < 2 ^ 64
+  pub bits : (x : ℕ) → bitAt word x ≡ ((bitAt (b .strict .low) x || bitAt (b .lax .low) x) && not (ltb x i))
+
+-- What the entries from the given one up to e are, which cannot be used, and e itself, if it is below the end and has no menu.
+pub record Skips (bs waits heads : List ℕ) (b : Branch) (name end from e : ℕ) : Type 0 where
   pub onward : from ≤ e
   pub passed : (x : ℕ) → from ≤ x → x < e → takableBy bs waits heads b name x ≡ false
-  pub takable : e < b .count → getD heads e 0 ≤ 1000 → takableBy bs waits heads b name e ≡ true
+  pub takable : e < end → getD heads e 0 ≤ 1000 → takableBy bs waits heads b name e ≡ true
+
+-- What an entry in scope is at which they end.
+pub record Reached (bs waits heads : List ℕ) (b : Branch) (name e : ℕ) : Type 0 where
+  pub inside : e < b .count
+  pub takable : getD heads e 0 ≤ 1000 → takableBy bs waits heads b name e ≡ true
 
 -- What the least usable entry from the given one on is.
 pub record SeeksAt (bs waits heads : List ℕ) (b : Branch) (name from e : ℕ) : Type 0 where

@@ -11,19 +11,15 @@ use Rattle.branch.specs.declared.Branch.{Branch}
 use Rattle.entries.specs.Inner.Entries.{codeFits}
 use Rattle.choice.specs.Inner.Choice.{openTo, takableBy}
 use Rattle.choice.proofs.EntriesPassed.{Passed, passed-none, passed-more}
-use Rattle.choice.proofs.skip.Statement.{statement}
-use Rattle.choice.proofs.skip.Tie as tie
+use Rattle.choice.proofs.LinesAtHand.{takes}
+use Rattle.choice.proofs.skip_lent.Statement.{statement}
+use Rattle.choice.proofs.skip_lent.Tie as tie
 
 abbrev Inv-loop : tie.InvT-loop
 Inv-loop card waits heads b name from e₀ e = Passed (takableBy card waits heads b name) from e
 
 abbrev μ-loop : tie.MeasureT-loop
 μ-loop card waits heads b name from e₀ e = b .count - e
-
-in-scope : (card waits heads : List ℕ) (b : Branch) (name e : ℕ) (r : Bool) → e < b .count
-    → (codeFits card (getD heads e 0) name && openTo card waits b e) ≡ r → takableBy card waits heads b name e ≡ r
-unfolding takableBy
-in-scope card waits heads b name e r h k = rw (lt-ltb e (b .count) h) k
 
 loop-holds : tie.Need-loop-holds Inv-loop μ-loop
 loop-holds c = passed-none _ _ refl
@@ -56,7 +52,7 @@ returns c =
     record {
       onward = at-loop .loop .inv .onward;
       passed = at-loop .loop .inv .passed;
-      takable = λ h k. in-scope _ _ _ _ _ _ true (at-if1 .if1 .taken) (at-passes .passes .ensures .usable (not-true _ (c .if2 .taken)) k);
+      takable = λ h k. takes _ _ _ _ _ _ true (at-if1 .if1 .taken) (at-passes .passes .ensures .usable (not-true _ (c .if2 .taken)) k);
     }
 
 add-e : tie.Need-add-e Inv-loop μ-loop
@@ -71,7 +67,7 @@ loop-again c =
     let at-if1 = at-passes .before .before in
     let at-loop = at-if1 .before .before in
     passed-more (at-loop .loop .inv)
-    (in-scope _ _ _ _ _ _ false (at-if1 .if1 .taken) (at-passes .passes .ensures .unusable (not-false _ (c .if2 .left)))) refl
+    (takes _ _ _ _ _ _ false (at-if1 .if1 .taken) (at-passes .passes .ensures .unusable (not-false _ (c .if2 .left)))) refl
 
 returns-2 : tie.Need-returns-2 Inv-loop μ-loop
 returns-2 c =
@@ -82,8 +78,8 @@ returns-2 c =
       takable = λ h k. let l = c .if1 .left in absurd (omega arith);
     }
 
-pub skip-spec : {M : Type 1} → statement M
-skip-spec =
+pub skip-lent-spec : {M : Type 1} → statement M
+skip-lent-spec =
     tie.close
     (tie.spec
     Inv-loop
