@@ -10,7 +10,8 @@ ghost use Rattle.branch.specs.Inner.Values.{droppedB, longerB, sizedB, c
 ghost use Rattle.branch.specs.Inner.Values.{flagOf, wayIn, answerIn, Awake, closedA, joinedW, besideW, withoutW, followingW, pastF};
 
 // A branch, by value: the place on the tape, how many entries stand in scope, how many tasks on the agenda, the step limit; the free
-// items, strict and lax apart; what the segment has used so far, and whether some ⊤ in it takes more; the lines in the list so far.
+// items, strict and lax apart; what the segment has used so far, and whether some ⊤ in it takes more; the lines in the list so far, one
+// bit each.
 pub struct Branch {
     pub at: usize,
     pub count: usize,
@@ -19,7 +20,7 @@ pub struct Branch {
     pub strict: LineSet,
     pub lax: LineSet,
     pub used: LineSet,
-    pub seen: LineSet,
+    pub seen: u64,
     pub slack: bool,
 }
 
@@ -28,12 +29,12 @@ pub struct Branch {
 pub struct Way {
     pub at: usize,
     pub used: LineSet,
-    pub seen: LineSet,
+    pub seen: u64,
     pub slack: bool,
     pub kept: bool,
 }
 
-// What a search answers. A way found is written to a place that the caller lends, as nine words. Tired: it has met too many dead ends,
+// What a search answers. A way found is written to a place that the caller lends, as seven words. Tired: it has met too many dead ends,
 // and says nothing.
 pub enum Outcome {
     Solved,
@@ -49,20 +50,17 @@ fn flag(b: bool) -> u64
 }
 
 // The way, written as words.
-pub fn put_way(way: &mut [u64; 9], w: Way)
-    requires { ⌜ length (now way) ≡ 9 ⌝ }
-    ensures { λ _. ⌜ (wayIn (now (way .exit)) ≡ w) × (length (now (way .exit)) ≡ 9) ⌝ }
+pub fn put_way(way: &mut [u64; 7], w: Way)
+    requires { ⌜ length (now way) ≡ 7 ⌝ }
+    ensures { λ _. ⌜ (wayIn (now (way .exit)) ≡ w) × (length (now (way .exit)) ≡ 7) ⌝ }
 {
     let used = w.used;
-    let seen = w.seen;
     let words = [
         w.at as u64,
         used.low,
         used.mid,
         used.high,
-        seen.low,
-        seen.mid,
-        seen.high,
+        w.seen,
         flag(w.slack),
         flag(w.kept),
     ];
@@ -70,8 +68,8 @@ pub fn put_way(way: &mut [u64; 9], w: Way)
 }
 
 // The way that the words say.
-pub fn way_in(way: &[u64; 9]) -> Way
-    requires { ⌜ length (now way) ≡ 9 ⌝ }
+pub fn way_in(way: &[u64; 7]) -> Way
+    requires { ⌜ length (now way) ≡ 7 ⌝ }
     ensures { λ r. ⌜ r ≡ wayIn (now (way .entry)) ⌝ }
 {
     let used = LineSet {
@@ -79,17 +77,12 @@ pub fn way_in(way: &[u64; 9]) -> Way
         mid: way[2],
         high: way[3],
     };
-    let seen = LineSet {
-        low: way[4],
-        mid: way[5],
-        high: way[6],
-    };
     Way {
         at: way[0] as usize,
         used,
-        seen,
-        slack: way[7] == 1,
-        kept: way[8] == 1,
+        seen: way[4],
+        slack: way[5] == 1,
+        kept: way[6] == 1,
     }
 }
 
@@ -100,15 +93,15 @@ pub struct Floor {
 }
 
 // Behind a list that keeps to the given steps or not.
-pub fn follow(way: &mut [u64; 9], kept: bool)
-    requires { ⌜ length (now way) ≡ 9 ⌝ }
+pub fn follow(way: &mut [u64; 7], kept: bool)
+    requires { ⌜ length (now way) ≡ 7 ⌝ }
     ensures { λ _. ⌜ wayIn (now (way .exit)) ≡ followingW (wayIn (now (way .entry))) kept ⌝ }
-    ensures { λ _. ⌜ length (now (way .exit)) ≡ 9 ⌝ }
+    ensures { λ _. ⌜ length (now (way .exit)) ≡ 7 ⌝ }
 {
     if kept {
         return;
     }
-    way[8] = 0;
+    way[6] = 0;
 }
 
 impl Floor {
@@ -260,7 +253,8 @@ impl Branch {
         b
     }
 
-    // Past the use of entry e, with so many tasks: one step further; a rule stays, an item is gone; a line stands in the list.
+    // Past the use of entry e, with so many tasks: one step further; a rule stays, an item is gone; a line, one of at most 64, stands in
+    // the list.
     pub fn using(self, rules: usize, lines: usize, e: usize, len: usize) -> Branch
         requires { ⌜ self .at < 255 ⌝ }
         ensures { λ r. ⌜ r ≡ usingB self rules lines e len ⌝ }
@@ -280,16 +274,16 @@ impl Branch {
         b.lax = lax.take(item);
         b.used = used.add(item);
         if item < lines {
-            b.seen = seen.add(item);
+            b.seen = seen | (1u64 << (item % 64));
         }
         b
     }
 
     // The agenda is empty: no strict item may be left. The words of the sets are those of the machine.
-    pub fn closed(self, way: &mut [u64; 9]) -> Outcome
-        requires { ⌜ length (now way) ≡ 9 ⌝ }
+    pub fn closed(self, way: &mut [u64; 7]) -> Outcome
+        requires { ⌜ length (now way) ≡ 7 ⌝ }
         ensures { λ r. ⌜ answerIn r (now (way .exit)) ≡ closedA self ⌝ }
-        ensures { λ r. ⌜ Words (self .strict) × ((length (now (way .exit)) ≡ 9) × Awake r) ⌝ }
+        ensures { λ r. ⌜ Words (self .strict) × ((length (now (way .exit)) ≡ 7) × Awake r) ⌝ }
     {
         let strict = self.strict;
         let used = self.used;

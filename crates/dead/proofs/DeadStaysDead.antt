@@ -11,31 +11,30 @@ use lib.Seq.{getD-drop}
 use Rattle.calculus.specs.Items.{Items}
 use Rattle.calculus.specs.Derivation.{Scope}
 use Rattle.card.specs.Format.{ruleCount}
-use Rattle.lines.specs.declared.LineSet.{LineSet}
 use Rattle.scope.specs.Inner.Sets.{items}
 use Rattle.agenda.specs.Inner.Agenda.{Agenda}
 use Rattle.agenda.specs.Inner.Sought.{Place, None}
 use Rattle.agenda.proofs.SearchTells.{dead-none}
 use Rattle.entries.specs.Inner.Twins.{eligible}
-use Rattle.entries.specs.Inner.Masks.{maskSet, Seen}
+use Rattle.entries.specs.Inner.Masks.{Seen}
 use Rattle.branch.specs.declared.Branch.{Branch}
 use Rattle.segment.specs.Inner.Tasks.{taskOf, agendaOf}
 use Rattle.dead.specs.Inner.Rows.{rowCount, rowWidth, codeCells, wordCells}
 use Rattle.keys.specs.Inner.Keys.{keyWords}
 use Rattle.dead.specs.Inner.Rows.{wordAt, rowStrict, rowLax, rowSeen, rowLen, rowRoom, rowAgenda, Same, Put}
 use Rattle.dead.specs.Inner.Barren.{openPlace, Barren, BarrenIn, BarrenRow, Honest, Dead, Remembers}
-use Rattle.dead.proofs.LinesDecide.{seen-lines, chosen-same, seen-word}
+use Rattle.dead.proofs.LinesDecide.{seen-lines, chosen-same}
 
 -- Barren agendas
 
 -- THEOREM. Where the agenda is barren nothing is sought, from any floor on.
-pub barren-none : {bs : List ℕ} {es : Scope} {A : Agenda} {S L : Items} {seen : LineSet} {r : ℕ} → Barren bs es A S L seen r
+pub barren-none : {bs : List ℕ} {es : Scope} {A : Agenda} {S L : Items} {seen r : ℕ} → Barren bs es A S L seen r
     → (p : Place) → Seen bs seen (p .done) → p .strict ≡ S → p .lax ≡ L → p .room ≤ r → None (eligible bs) es A p
 barren-none {bs} {S} {L} {r} b p s e f h =
     dead-none (eligible bs) (openPlace (p .done) S L r) p (b .barren (p .done) s) e f h (λ m c. c)
 
 -- THEOREM. Where nothing is sought from no floor on the agenda is barren: what goes on eligibly goes by the lines seen.
-pub none-barren : {bs : List ℕ} {es : Scope} {A : Agenda} {seen : LineSet} (p : Place) → None (eligible bs) es A p → p .given ≡ []
+pub none-barren : {bs : List ℕ} {es : Scope} {A : Agenda} {seen : ℕ} (p : Place) → None (eligible bs) es A p → p .given ≡ []
     → p .from ≡ 0 → Seen bs seen (p .done) → Barren bs es A (p .strict) (p .lax) seen (p .room)
 none-barren {bs} {es} {A} {seen} p h g f s = record {
   barren = λ done t.
@@ -44,10 +43,10 @@ none-barren {bs} {es} {A} {seen} p h g f s = record {
 }
 
 -- the same key, and no more room
-barren-at : {bs : List ℕ} {es : Scope} {A A′ : Agenda} {S S′ L L′ : Items} {seen seen′ : LineSet} {r r′ : ℕ}
-    → Barren bs es A S L seen r → A′ ≡ A → S′ ≡ S → L′ ≡ L → seen′ .low ≡ seen .low → r′ ≤ r → Barren bs es A′ S′ L′ seen′ r′
+barren-at : {bs : List ℕ} {es : Scope} {A A′ : Agenda} {S S′ L L′ : Items} {seen seen′ r r′ : ℕ}
+    → Barren bs es A S L seen r → A′ ≡ A → S′ ≡ S → L′ ≡ L → seen′ ≡ seen → r′ ≤ r → Barren bs es A′ S′ L′ seen′ r′
 barren-at {bs} {es} {A} {A′} {S} {S′} {L} {L′} {seen} {seen′} {r} {r′} b a s l w h = record {
-  barren = λ done t. rw a (barren-none b (openPlace done S′ L′ r′) (seen-word w t) s l h);
+  barren = λ done t. rw a (barren-none b (openPlace done S′ L′ r′) (rw w at t) s l h);
 }
 
 -- Rows
@@ -69,8 +68,8 @@ module _ {words : List ℕ} (row : ℕ) (b : Branch) (s : Same words (row * 9) (
   unfolding rowLax wordAt
   row-lax = rw (s .same 3 (omega arith), s .same 4 (omega arith), s .same 5 (omega arith)) refl
 
-  row-seen : b .seen .low ≡ rowSeen words row .low
-  unfolding rowSeen wordAt maskSet
+  row-seen : b .seen ≡ rowSeen words row
+  unfolding rowSeen wordAt
   row-seen = sym (s .same 6 (omega arith))
 
   row-len : b .len ≡ rowLen words row
@@ -116,8 +115,8 @@ module _ (words words′ : List ℕ) (row : ℕ) (s : (j : ℕ) → j < 9 → wo
   unfolding rowLax
   kept-lax = rw (s 3 (omega arith), s 4 (omega arith), s 5 (omega arith)) refl
 
-  kept-seen : rowSeen words′ row .low ≡ rowSeen words row .low
-  unfolding rowSeen maskSet
+  kept-seen : rowSeen words′ row ≡ rowSeen words row
+  unfolding rowSeen
   kept-seen = s 6 (omega arith)
 
   kept-room : rowRoom words′ row ≡ rowRoom words row

@@ -1,4 +1,4 @@
--- Which entries are eligible after some steps goes by the lines that stand in them alone; and lines seen go by a set's first word.
+-- Which entries are eligible after some steps goes by the lines that stand in them alone.
 use Prim.Native.Nat.{ℕ, zero, suc, _+_, _-_, _<_}
 use native.Mathlib.Omega.{arith}
 use mathlib.Core.Path.{_≡_, refl, sym, _∙_, ap, ap₂}
@@ -8,19 +8,16 @@ use lib.Dec.{leb, ltb}
 use borrow.Author.Tests.{leb-true, ltb-true}
 use Rattle.calculus.specs.Steps.{stands}
 use Rattle.card.specs.Format.{ruleCount, lineCount}
-use Rattle.lines.specs.declared.LineSet.{LineSet}
-use Rattle.lines.specs.Inner.Set.{bitAt}
 use Rattle.agenda.specs.Inner.Order.{Chosen, none, step}
 use Rattle.entries.specs.Inner.Twins.{waits, every, isLine, met, eligible}
 use Rattle.entries.specs.Inner.Masks.{Seen}
 use Rattle.entries.proofs.TestLaws.{stands-append}
-use Rattle.entries.proofs.MasksAreTwins.{member-low}
 
 -- the same lines of the card stand in both lists
 pub record SameLines (bs done done′ : List ℕ) : Type 0 where
   pub line : (x : ℕ) → x < lineCount bs → stands (ruleCount bs + x) done ≡ stands (ruleCount bs + x) done′
 
-pub seen-lines : {bs : List ℕ} {seen : LineSet} {done done′ : List ℕ} → Seen bs seen done → Seen bs seen done′ → SameLines bs done done′
+pub seen-lines : {bs : List ℕ} {seen : ℕ} {done done′ : List ℕ} → Seen bs seen done → Seen bs seen done′ → SameLines bs done done′
 seen-lines s t = record { line = λ x h. sym (s .line x h) ∙ t .line x h }
 
 lines-more : {bs done done′ : List ℕ} (e : ℕ) → SameLines bs done done′ → SameLines bs (done ++ (e ∷ [])) (done′ ++ (e ∷ []))
@@ -58,12 +55,3 @@ module _ {bs done done′ : List ℕ} (s : SameLines bs done done′) where
 pub chosen-same : {bs done done′ m : List ℕ} → SameLines bs done done′ → Chosen (eligible bs) done m → Chosen (eligible bs) done′ m
 chosen-same s none = none
 chosen-same s (step {e = e} h k) = step (sym (eligible-same s e) ∙ h) (chosen-same (lines-more e s) k)
-
--- a set with the same first word tells the same lines
-pub seen-word : {bs : List ℕ} {seen seen′ : LineSet} {done : List ℕ} → seen .low ≡ seen′ .low → Seen bs seen done → Seen bs seen′ done
-seen-word {bs} {seen} {seen′} p s = record {
-  few = s .few;
-  line = λ x h.
-      let low : x < 64 = omega (arith, s .few) in
-      member-low seen′ x low ∙ ap (λ w. bitAt w x) (sym p) ∙ sym (member-low seen x low) ∙ s .line x h;
-}

@@ -35,8 +35,7 @@ fn row_of(agenda: &[u16; 104], b: Branch) -> usize
 {
     let strict = b.strict;
     let lax = b.lax;
-    let seen = b.seen;
-    let mut sum = mixed(mixed(mixed(0, strict.low), lax.low), seen.low);
+    let mut sum = mixed(mixed(mixed(0, strict.low), lax.low), b.seen);
     let mut i = 0;
     while i < b.len {
         sum = mixed(sum, code(agenda, i));

@@ -1,5 +1,5 @@
 -- What a search says where the next task is a name: by the entries that can be used for it, each with its conditions before the rest.
-use Prim.Native.Nat.{ℕ, zero, suc, _+_, _-_, _*_, _≤_, _<_}
+use Prim.Native.Nat.{ℕ, zero, suc, _+_, _-_, _*_, _%_, _^_, _≤_, _<_}
 use native.Mathlib.Decide.{decLt}
 use native.Mathlib.Omega.{arith}
 use mathlib.Core.Path.{_≡_, refl, sym, _∙_, ap, ap₂, subst, fun-ext}
@@ -9,6 +9,7 @@ use mathlib.Core.List.{List, [], _∷_, _++_}
 use lib.ListN.{length, getD, take, set, length-set}
 use lib.Seq.{slice, set-getD}
 use lib.Dec.{leb, ltb, eqb}
+use lib.Bits.{bitOr}
 use borrow.Author.Tests.{lt-ltb, le-ltb, eq-eqb, ne-eqb, eqb-true, ltb-true, ltb-false}
 use Rattle.calculus.specs.Formula.{Clause, Fits, atomᴳ, residual, usable}
 use Rattle.calculus.specs.Items.{Items, _∪_, _∖_, only, Within}
@@ -20,7 +21,6 @@ use Rattle.card.specs.Decode.{clauseOf, scopeOf}
 use Rattle.card.proofs.CardChecked.{sound-front}
 use Rattle.card.proofs.NodesDecoded.{reads-name}
 use Rattle.card.proofs.SoundNodes.{goal-lower, clause-lower, node-here, name-low, height-low, height-pos}
-use Rattle.lines.specs.Inner.Set.{addS}
 use Rattle.scope.specs.Inner.Sets.{items}
 use Rattle.scope.specs.Inner.Tables.{Kept}
 use Rattle.scope.proofs.TablesAreScopes.{kept-self, kept-trans, kept-again, kept-set}
@@ -388,9 +388,13 @@ module _ {bs waits tape nodes heads : List ℕ} {f : Floor} {b : Branch} (R : Re
         seen-more = at (ltb e (ruleCount bs)) refl (ltb (e - ruleCount bs) (lineCount bs)) refl
           where
             at : (c : Bool) → ltb e (ruleCount bs) ≡ c → (d : Bool) → ltb (e - ruleCount bs) (lineCount bs) ≡ d
-                → Seen bs (cond c (b .seen) (cond d (addS (b .seen) (e - ruleCount bs)) (b .seen))) (take (b .at) tape ++ (e ∷ []))
+                → Seen bs (cond c (b .seen) (cond d (bitOr (b .seen) (2 ^ ((e - ruleCount bs) % 64))) (b .seen)))
+                (take (b .at) tape ++ (e ∷ []))
             at true p d q = seen-rule (R .seen) e (ltb-true e (ruleCount bs) p)
-            at false p true q = seen-item (R .seen) e (ltb-false e (ruleCount bs) p) entry-item
+            at false p true q =
+                let k = ltb-true (e - ruleCount bs) (lineCount bs) q in
+                let low : (e - ruleCount bs) % 64 ≡ e - ruleCount bs = omega (arith, R .seen .few) in
+                rw low (seen-item (R .seen) e (ltb-false e (ruleCount bs) p))
             at false p false q =
                 let h = ltb-false e (ruleCount bs) p in
                 let k = ltb-false (e - ruleCount bs) (lineCount bs) q in

@@ -79,7 +79,7 @@ module _ {bs names table masks : List ℕ} where
     pub large-on : AsLarge codes′ words′ codes₀ words₀
     large-on = record { code-same = t .code-same ∙ e .code-same; same = t .same ∙ e .same }
 
-    pub stays-from : {way″ : List ℕ} (s : Outcome) → length way″ ≡ 9 → Weary s words₀
+    pub stays-from : {way″ : List ℕ} (s : Outcome) → length way″ ≡ 7 → Weary s words₀
         → Stays bs names table masks codes₀ words₀ codes′ words′ way″ s
     stays-from s l w = record {
       way-room = l;
@@ -162,7 +162,7 @@ stays-tired {bs} {names} {table} {masks} {codes₀} {words₀} {codes′ = codes
 
 -- nothing was called but for the way
 pub awake-stays : {bs names table masks codes words way nodes way′ : List ℕ} {n : ℕ} {r : Outcome}
-    → Equipped bs names table masks codes words way nodes n → length way′ ≡ 9 → Awake r
+    → Equipped bs names table masks codes words way nodes n → length way′ ≡ 7 → Awake r
     → Stays bs names table masks codes words codes words way′ r
 unfolding Awake Weary
 awake-stays {words = words} {r = r} q l a = record {

@@ -3,13 +3,13 @@ use Prim.Native.Nat.{ℕ, zero, suc, _+_, _-_, _/_, _%_, _^_, _≤_, _<_}
 use native.Mathlib.Decide.{decLt, ℕ-discrete}
 use native.Mathlib.Omega.{arith}
 use mathlib.Core.Path.{_≡_, refl, sym, _∙_, ap, ap₂, subst}
-use mathlib.Core.Bool.{Bool, true, false, not, _&&_, _||_, false≢true, and-true as and-unit}
+use mathlib.Core.Bool.{Bool, true, false, not, _&&_, _||_, false≢true, and-true as and-unit, or-comm}
 use mathlib.Core.List.{List, [], _∷_, _++_}
 use lib.ListN.{length, getD, set, length-set}
 use lib.Seq.{getD-set-same, getD-set-other}
 use lib.Dec.{leb, ltb, eqb}
 use lib.Pow.{pow-pos, pow-lt}
-use lib.Bits.{bitAnd, or-lt, and-le-l}
+use lib.Bits.{bitAnd, bitOr, or-lt, and-le-l}
 use borrow.Author.Tests.{eqb-true, eqb-false, eq-eqb, ne-eqb, lt-ltb, le-ltb, ltb-true, ltb-false, leb-true, leb-false, not-false}
 use Rattle.calculus.specs.Steps.{stands}
 use Rattle.card.specs.Format.{ruleCount, lineCount, nodeCount, lineNode, lineByte}
@@ -17,10 +17,8 @@ use Rattle.card.specs.Fault.{Sound, clausePart, lineFault, lineGood}
 use Rattle.card.proofs.FrontChecked.{both-right}
 use Rattle.card.proofs.FaultsInOrder.{not-applied}
 use Rattle.card.proofs.CardChecked.{sound-front, sound-line}
-use Rattle.lines.specs.declared.LineSet.{LineSet}
-use Rattle.lines.specs.Inner.Set.{bitAt, wordOf, member, emptyS, addS}
+use Rattle.lines.specs.Inner.Set.{bitAt, wordOf, member}
 use Rattle.lines.proofs.Word.{bit-or, bit-and, bit-zero, bit-pow, bit-ext}
-use Rattle.lines.proofs.MemberLaws.{member-empty, member-add}
 use Rattle.entries.specs.Inner.Twins.{waits, every, isLine, met, eligible}
 use Rattle.entries.specs.Inner.Masks.{maskSet, withLine, passing, hasNode, mustNode, wider, Waiting, within, readyBy}
 use Rattle.entries.specs.Inner.Masks.{Seen, seenPast}
@@ -28,13 +26,6 @@ use Rattle.calculus.proofs.SetLaws.{or-right}
 use Rattle.entries.proofs.TestLaws.{and-true, same-test, stands-append, every-at, every-all}
 
 -- The lines of a mask
-
-pub member-low : (s : LineSet) (x : ℕ) → x < 64 → member s x ≡ bitAt (s .low) x
-unfolding member wordOf
-member-low s x h =
-    let q : x / 64 ≡ 0 = omega arith in
-    let r : x % 64 ≡ x = omega arith in
-    ap₂ (λ (k j : ℕ). bitAt (wordOf s k) j) q r
 
 no-word : (w k : ℕ) → 1 ≤ k → wordOf (maskSet w) k ≡ 0
 unfolding maskSet wordOf
@@ -49,8 +40,11 @@ unfolding member
 mask-past w x h = ap (λ (a : ℕ). bitAt a (x % 64)) (no-word w (x / 64) (omega arith)) ∙ bit-zero (x % 64)
 
 pub mask-low : (w x : ℕ) → x < 64 → member (maskSet w) x ≡ bitAt w x
-unfolding maskSet
-mask-low w x h = member-low (maskSet w) x h
+unfolding maskSet member wordOf
+mask-low w x h =
+    let q : x / 64 ≡ 0 = omega arith in
+    let r : x % 64 ≡ x = omega arith in
+    ap₂ (λ (k j : ℕ). bitAt (wordOf (maskSet w) k) j) q r
 
 -- the lines below n that pass
 module _ (p : ℕ → Bool) where
@@ -259,9 +253,9 @@ module _ {bs : List ℕ} (s : Sound bs) (i : ℕ) (h : i < lineCount bs) where
 
 -- Lines seen
 
-pub seen-none : {bs : List ℕ} → Sound bs → Seen bs emptyS []
+pub seen-none : {bs : List ℕ} → Sound bs → Seen bs 0 []
 unfolding stands
-seen-none {bs} s = record { few = sound-front bs s .lines; line = λ x h. member-empty x }
+seen-none {bs} s = record { few = sound-front bs s .lines; line = λ x h. bit-zero x }
 
 stands-more : (x e : ℕ) (done : List ℕ) → stands x (done ++ (e ∷ [])) ≡ (eqb x e || stands x done)
 unfolding stands
@@ -273,7 +267,7 @@ stands-more x e done = stands-append x done (e ∷ []) ∙ law (stands x done) (
     law false true = refl
     law false false = refl
 
-module _ {bs : List ℕ} {seen : LineSet} {done : List ℕ} (s : Seen bs seen done) (e : ℕ) where
+module _ {bs : List ℕ} {seen : ℕ} {done : List ℕ} (s : Seen bs seen done) (e : ℕ) where
   -- an entry that is no line
   seen-beside : ((x : ℕ) → x < lineCount bs → ruleCount bs + x ≡ e → ⊥) → Seen bs seen (done ++ (e ∷ []))
   seen-beside d =
@@ -290,14 +284,14 @@ module _ {bs : List ℕ} {seen : LineSet} {done : List ℕ} (s : Seen bs seen do
   pub seen-lent : ruleCount bs + lineCount bs ≤ e → Seen bs seen (done ++ (e ∷ []))
   seen-lent h = seen-beside (λ x l p. omega arith)
 
-  -- a line, or a lent clause that the set has a place for
-  pub seen-item : ruleCount bs ≤ e → e - ruleCount bs < 192 → Seen bs (addS seen (e - ruleCount bs)) (done ++ (e ∷ []))
-  seen-item h k =
+  -- a line, or a lent clause
+  pub seen-item : ruleCount bs ≤ e → Seen bs (bitOr seen (2 ^ (e - ruleCount bs))) (done ++ (e ∷ []))
+  seen-item h =
       record {
         few = s .few;
         line = λ x l.
-            member-add seen (e - ruleCount bs) x k ∙ ap₂ _||_ (same x) (s .line x l)
-            ∙ sym (stands-more (ruleCount bs + x) e done);
+            bit-or seen (2 ^ (e - ruleCount bs)) x ∙ or-comm (bitAt seen x) (bitAt (2 ^ (e - ruleCount bs)) x)
+            ∙ ap₂ _||_ (bit-pow (e - ruleCount bs) x ∙ same x) (s .line x l) ∙ sym (stands-more (ruleCount bs + x) e done);
       }
     where
       same : (x : ℕ) → eqb x (e - ruleCount bs) ≡ eqb (ruleCount bs + x) e
@@ -307,15 +301,12 @@ module _ {bs : List ℕ} {seen : LineSet} {done : List ℕ} (s : Seen bs seen do
 
   -- THEOREM. The lines seen go on past a step.
   pub seen-more : Seen bs (seenPast bs seen e) (done ++ (e ∷ []))
-  unfolding seenPast isLine
+  unfolding seenPast isLine withLine
   seen-more = go (leb (ruleCount bs) e) refl (ltb e (ruleCount bs + lineCount bs)) refl
     where
       go : (a : Bool) → leb (ruleCount bs) e ≡ a → (b : Bool) → ltb e (ruleCount bs + lineCount bs) ≡ b
-          → Seen bs (elim (a && b) as (λ x. LineSet) [ true ↦ addS seen (e - ruleCount bs) | false ↦ seen ]) (done ++ (e ∷ []))
-      go true p true q =
-          let h = leb-true (ruleCount bs) e p in
-          let k = ltb-true e (ruleCount bs + lineCount bs) q in
-          seen-item h (omega (arith, s .few))
+          → Seen bs (withLine (a && b) seen (e - ruleCount bs)) (done ++ (e ∷ []))
+      go true p true q = seen-item (leb-true (ruleCount bs) e p)
       go true p false q = seen-lent (ltb-false e (ruleCount bs + lineCount bs) q)
       go false p b q = seen-rule (leb-false (ruleCount bs) e p)
 
@@ -333,7 +324,7 @@ if-met : (w t : Bool) → (not w || t) ≡ true → w ≡ true → t ≡ true
 if-met true t h p = h
 if-met false t h p = absurd (false≢true p)
 
-module _ {bs masks : List ℕ} {seen : LineSet} {done : List ℕ} (w : Waiting bs masks) (s : Seen bs seen done) where
+module _ {bs masks : List ℕ} {seen : ℕ} {done : List ℕ} (w : Waiting bs masks) (s : Seen bs seen done) where
   module _ (i : ℕ) (h : i < lineCount bs) where
     mask : ℕ
     mask = getD masks i 0
@@ -341,9 +332,6 @@ module _ {bs masks : List ℕ} {seen : LineSet} {done : List ℕ} (w : Waiting b
     mask-at : (x : ℕ) → x < 64 → bitAt mask x ≡ waits bs i x
     unfolding mask
     mask-at x l = sym (mask-low mask x l) ∙ w .bits i h x
-
-    seen-at : (x : ℕ) → x < lineCount bs → bitAt (seen .low) x ≡ stands (ruleCount bs + x) done
-    seen-at x l = sym (member-low seen x (omega (arith, s .few))) ∙ s .line x l
 
     waits-low : (x : ℕ) → waits bs i x ≡ true → x < i
     unfolding waits
@@ -355,25 +343,25 @@ module _ {bs masks : List ℕ} {seen : LineSet} {done : List ℕ} (w : Waiting b
         every-all (met bs done i) i
         (λ x l. met-if (waits bs i x) (stands (ruleCount bs + x) done)
         (λ q.
-        let both = bit-and mask (seen .low) x in
+        let both = bit-and mask seen x in
         let in-mask : bitAt mask x ≡ true = mask-at x (omega (arith, s .few)) ∙ q in
-        let e = eqb-true (bitAnd mask (seen .low)) mask p in
+        let e = eqb-true (bitAnd mask seen) mask p in
         let t = sym both ∙ ap (λ a. bitAt a x) e ∙ in-mask in
-        sym (seen-at x (omega arith)) ∙ and-true (bitAt mask x) (bitAt (seen .low) x) t .1))
+        sym (s .line x (omega arith)) ∙ and-true (bitAt mask x) (bitAt seen x) t .1))
 
     none-missing : every (met bs done i) i ≡ true → within mask seen ≡ true
     unfolding within met mask
     none-missing p =
-        let low = and-le-l mask (seen .low) in
+        let low = and-le-l mask seen in
         let word = w .words i h in
-        eq-eqb (bitAnd mask (seen .low)) mask
-        (bit-ext 64 (bitAnd mask (seen .low)) mask (omega arith) word
-        (λ x l. bit-and mask (seen .low) x
-        ∙ absorbed (bitAt mask x) (bitAt (seen .low) x)
+        eq-eqb (bitAnd mask seen) mask
+        (bit-ext 64 (bitAnd mask seen) mask (omega arith) word
+        (λ x l. bit-and mask seen x
+        ∙ absorbed (bitAt mask x) (bitAt seen x)
         (λ q.
         let r = sym (mask-at x l) ∙ q in
         let k = waits-low x r in
-        seen-at x (omega arith)
+        s .line x (omega arith)
         ∙ if-met (waits bs i x) (stands (ruleCount bs + x) done) (every-at (met bs done i) i p x k) r)))
 
     within-met : within mask seen ≡ every (met bs done i) i

@@ -6,7 +6,6 @@ use card::format::line_byte;
 use card::format::line_node;
 use card::format::right;
 use card::format::rule_node;
-use lines::LineSet;
 ghost use mathlib.Core.Path.{_≡_};
 ghost use mathlib.Core.Bool.{true};
 ghost use Prim.Native.Nat.{_+_, _≤_, _<_};
@@ -137,7 +136,7 @@ pub fn waits(card: &[u8]) -> [u64; 64]
 }
 
 // Whether entry e may be used: every line that it waits for is seen. What is no line waits for nothing.
-pub fn ready(rules: usize, lines: usize, waits: &[u64; 64], seen: LineSet, e: usize) -> bool
+pub fn ready(rules: usize, lines: usize, waits: &[u64; 64], seen: u64, e: usize) -> bool
     requires { ⌜ (rules < 256) × (lines ≤ 64) ⌝ }
     requires { ⌜ length (now waits) ≡ 64 ⌝ }
     ensures { λ r. ⌜ r ≡ readyBy rules lines (now (waits .entry)) seen e ⌝ }
@@ -149,5 +148,5 @@ pub fn ready(rules: usize, lines: usize, waits: &[u64; 64], seen: LineSet, e: us
         return true;
     }
     let mask = waits[e - rules];
-    mask & seen.low == mask
+    mask & seen == mask
 }

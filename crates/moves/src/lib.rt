@@ -105,7 +105,6 @@ pub fn start(card: &[u8]) -> Branch
     let strict = scope::strict_lines(card);
     let lax = LineSet::full(t).cut(strict);
     let used = LineSet::empty();
-    let seen = LineSet::empty();
     Branch {
         at: 0,
         count: p + t,
@@ -114,7 +113,7 @@ pub fn start(card: &[u8]) -> Branch
         strict,
         lax,
         used,
-        seen,
+        seen: 0,
         slack: false,
     }
 }

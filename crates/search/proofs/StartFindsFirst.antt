@@ -192,7 +192,7 @@ module _ {bs zeros codes : List ℕ} {b : Branch} {goal depth : ℕ} (s : Sound 
         at Tired y = tt
 
     -- what the next run starts from
-    pub started : {waits way way′ : List ℕ} → Starts bs waits tape nodes heads way → length way′ ≡ 9
+    pub started : {waits way way′ : List ℕ} → Starts bs waits tape nodes heads way → length way′ ≡ 7
         → Starts bs waits tape′ nodes′ heads′ way′
     unfolding startB
     started {waits} {way′ = way′} q l = at answered

@@ -23,7 +23,7 @@ fn run(
     tape: &mut [u8; 255],
     nodes: &mut [u16; 256],
     heads: &mut [u16; 256],
-    way: &mut [u64; 9],
+    way: &mut [u64; 7],
     names: &[u16],
     table: &[u8],
     masks: &[u64],
@@ -67,7 +67,7 @@ fn remembering(
     tape: &mut [u8; 255],
     nodes: &mut [u16; 256],
     heads: &mut [u16; 256],
-    way: &mut [u64; 9],
+    way: &mut [u64; 7],
     names: &[u16],
     table: &[u8],
     masks: &[u64],
@@ -75,7 +75,7 @@ fn remembering(
     requires { ⌜ Starts (now card) (now waits) (now tape) (now nodes) (now heads) (now way) ⌝ }
     requires { ⌜ (Tabled (now card) (now names) (now table) (now masks)) ⌝ }
     ensures { λ r. ⌜ Ran (now (card .entry)) (now (tape .exit)) (answerIn r (now (way .exit))) ⌝ }
-    ensures { λ r. ⌜ (length (now (tape .exit)) ≡ 255) × ((length (now (way .exit)) ≡ 9) × Awake r) ⌝ }
+    ensures { λ r. ⌜ (length (now (tape .exit)) ≡ 255) × ((length (now (way .exit)) ≡ 7) × Awake r) ⌝ }
 {
     let mut codes = [0u16; 16384];
     let mut words = [0u64; 9216];
@@ -102,12 +102,12 @@ fn pruned(
     tape: &mut [u8; 255],
     nodes: &mut [u16; 256],
     heads: &mut [u16; 256],
-    way: &mut [u64; 9],
+    way: &mut [u64; 7],
     bounded: bool,
 ) -> Outcome
     requires { ⌜ Starts (now card) (now waits) (now tape) (now nodes) (now heads) (now way) ⌝ }
     ensures { λ r. ⌜ Ran (now (card .entry)) (now (tape .exit)) (answerIn r (now (way .exit))) ⌝ }
-    ensures { λ r. ⌜ (length (now (tape .exit)) ≡ 255) × ((length (now (way .exit)) ≡ 9) × Awake r) ⌝ }
+    ensures { λ r. ⌜ (length (now (tape .exit)) ≡ 255) × ((length (now (way .exit)) ≡ 7) × Awake r) ⌝ }
 {
     let mut names = [0u16; 1577];
     let mut table = [0u8; 66177];
@@ -133,8 +133,8 @@ fn pruned(
 }
 
 // What a run found.
-fn list_of(way: &[u64; 9], r: Outcome) -> Found
-    requires { ⌜ length (now way) ≡ 9 ⌝ }
+fn list_of(way: &[u64; 7], r: Outcome) -> Found
+    requires { ⌜ length (now way) ≡ 7 ⌝ }
     requires { ⌜ Awake r ⌝ }
     ensures { λ s. ⌜ Says (now (way .entry)) r s ⌝ }
 {
@@ -157,7 +157,7 @@ pub fn first_list(card: &[u8], tape: &mut [u8; 255]) -> Found
     let mut nodes = [0u16; 256];
     let mut heads = [0u16; 256];
     entries::enter(card, &mut nodes, &mut heads);
-    let mut way = [0u64; 9];
+    let mut way = [0u64; 7];
     let mut patience = [100u64; 1];
     let r = run(
         card,

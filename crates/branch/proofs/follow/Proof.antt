@@ -24,18 +24,18 @@ and-never false = refl
 kept : (w : Way) → w ≡ followingW w true
 kept w = λ i. record { at = w .at; used = w .used; seen = w .seen; slack = w .slack; kept = and-always (w .kept) i }
 
-departed : (ws : List ℕ) → length ws ≡ 9 → wayIn (set ws 8 0) ≡ followingW (wayIn ws) false
+departed : (ws : List ℕ) → length ws ≡ 7 → wayIn (set ws 6 0) ≡ followingW (wayIn ws) false
 unfolding wayIn
 departed ws h = λ i. record {
   at = other 0 (omega arith) i;
   used = record { low = other 1 (omega arith) i; mid = other 2 (omega arith) i; high = other 3 (omega arith) i };
-  seen = record { low = other 4 (omega arith) i; mid = other 5 (omega arith) i; high = other 6 (omega arith) i };
-  slack = eqb (other 7 (omega arith) i) 1;
-  kept = (ap (λ m. eqb m 1) (getD-set-same ws 8 0 0 (omega arith)) ∙ and-never (eqb (getD ws 8 0) 1)) i;
+  seen = other 4 (omega arith) i;
+  slack = eqb (other 5 (omega arith) i) 1;
+  kept = (ap (λ m. eqb m 1) (getD-set-same ws 6 0 0 (omega arith)) ∙ and-never (eqb (getD ws 6 0) 1)) i;
 }
   where
-    other : (j : ℕ) → j < 8 → getD (set ws 8 0) j 0 ≡ getD ws j 0
-    other j l = getD-set-other ws 8 j 0 0 (λ e. omega (arith, e, l))
+    other : (j : ℕ) → j < 6 → getD (set ws 6 0) j 0 ≡ getD ws j 0
+    other j l = getD-set-other ws 6 j 0 0 (λ e. omega (arith, e, l))
 
 returns : tie.Need-returns
 returns c =
@@ -49,7 +49,7 @@ returns-2 : tie.Need-returns-2
 returns-2 c =
     let start = c .before in
     let ws = start .args .way .now in
-    rw (c .if1 .left) (departed ws (start .pre), length-set ws 8 0 ∙ start .pre)
+    rw (c .if1 .left) (departed ws (start .pre), length-set ws 6 0 ∙ start .pre)
 
 pub follow-spec : {M : Type 1} → statement M
 follow-spec = tie.close (tie.spec returns element-write-way returns-2)

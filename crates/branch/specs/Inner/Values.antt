@@ -1,9 +1,10 @@
 -- What each change of a branch, of a way and of a floor is.
-use Prim.Native.Nat.{ℕ, _+_, _-_}
+use Prim.Native.Nat.{ℕ, _+_, _-_, _%_, _^_}
 use mathlib.Core.Bool.{Bool, true, false, cond, _&&_, _||_}
 use mathlib.Core.List.{List}
 use lib.ListN.{getD}
 use lib.Dec.{ltb, eqb}
+use lib.Bits.{bitOr}
 use Rattle.lines.specs.Inner.Set.{isEmptyS, emptyS, addS, takeS, cutS, joinS}
 use Rattle.branch.specs.declared.Branch.{Branch}
 use Rattle.branch.specs.declared.Way.{Way}
@@ -17,7 +18,7 @@ pub data Answer : Type 0 where
   Stuck : Answer
   Tired : Answer
 
--- A way as nine words, and as they are read.
+-- A way as seven words, and as they are read.
 unfoldable pub flagOf : Bool → ℕ
 flagOf true = 1
 flagOf false = 0
@@ -26,9 +27,9 @@ unfoldable pub wayIn : List ℕ → Way
 wayIn words = record {
   at = getD words 0 0;
   used = record { low = getD words 1 0; mid = getD words 2 0; high = getD words 3 0 };
-  seen = record { low = getD words 4 0; mid = getD words 5 0; high = getD words 6 0 };
-  slack = eqb (getD words 7 0) 1;
-  kept = eqb (getD words 8 0) 1;
+  seen = getD words 4 0;
+  slack = eqb (getD words 5 0) 1;
+  kept = eqb (getD words 6 0) 1;
 }
 
 unfoldable pub answerIn : Outcome → List ℕ → Answer
@@ -190,7 +191,7 @@ usingB b P T e len = record {
   strict = cond (ltb e P) (b .strict) (takeS (b .strict) (e - P));
   lax = cond (ltb e P) (b .lax) (takeS (b .lax) (e - P));
   used = cond (ltb e P) (b .used) (addS (b .used) (e - P));
-  seen = cond (ltb e P) (b .seen) (cond (ltb (e - P) T) (addS (b .seen) (e - P)) (b .seen));
+  seen = cond (ltb e P) (b .seen) (cond (ltb (e - P) T) (bitOr (b .seen) (2 ^ ((e - P) % 64))) (b .seen));
   slack = b .slack;
 }
 

@@ -6,7 +6,6 @@ use lib.ListN.{length}
 use Rattle.calculus.specs.Items.{Items}
 use Rattle.calculus.specs.Derivation.{Scope}
 use Rattle.card.specs.Format.{ruleCount}
-use Rattle.lines.specs.declared.LineSet.{LineSet}
 use Rattle.scope.specs.Inner.Sets.{items}
 use Rattle.agenda.specs.Inner.Agenda.{Agenda}
 use Rattle.agenda.specs.Inner.Sought.{Place, None}
@@ -21,7 +20,7 @@ abbrev pub openPlace : List ℕ → Items → Items → ℕ → Place
 openPlace done S L r = record { done = done; given = []; from = 0; strict = S; lax = L; room = r }
 
 -- Nothing is readable for the agenda with these items within r steps, after any steps in which just these lines stand.
-pub record Barren (bs : List ℕ) (es : Scope) (A : Agenda) (S L : Items) (seen : LineSet) (r : ℕ) : Type 0 where
+pub record Barren (bs : List ℕ) (es : Scope) (A : Agenda) (S L : Items) (seen r : ℕ) : Type 0 where
   pub barren : (done : List ℕ) → Seen bs seen done → None (eligible bs) es A (openPlace done S L r)
 
 -- so it is for the agenda in an array, in the branch

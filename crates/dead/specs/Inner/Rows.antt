@@ -5,7 +5,6 @@ use mathlib.Core.Logic.{_⊎_}
 use mathlib.Core.List.{List}
 use lib.ListN.{length, getD, drop}
 use Rattle.lines.specs.declared.LineSet.{LineSet}
-use Rattle.entries.specs.Inner.Masks.{maskSet}
 use Rattle.agenda.specs.Inner.Agenda.{Agenda}
 use Rattle.segment.specs.Inner.Tasks.{agendaOf}
 
@@ -33,9 +32,8 @@ rowStrict words row = record { low = wordAt words row 0; mid = wordAt words row 
 unfoldable pub rowLax : List ℕ → ℕ → LineSet
 rowLax words row = record { low = wordAt words row 3; mid = wordAt words row 4; high = wordAt words row 5 }
 
--- lines have their places in a set's first word
-unfoldable pub rowSeen : List ℕ → ℕ → LineSet
-rowSeen words row = maskSet (wordAt words row 6)
+unfoldable pub rowSeen : List ℕ → ℕ → ℕ
+rowSeen words row = wordAt words row 6
 
 unfoldable pub rowLen : List ℕ → ℕ → ℕ
 rowLen words row = wordAt words row 7

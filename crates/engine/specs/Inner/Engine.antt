@@ -218,7 +218,7 @@ pub record Siding (bs codes : List ℕ) (meets : Bool) (node name n c first : �
 
 -- What the prunings are stocked with, and a place for a way.
 pub record Equipped (bs names table masks codes words way nodes : List ℕ) (n : ℕ) : Type 0 where
-  pub way-room : length way ≡ 9
+  pub way-room : length way ≡ 7
   pub rooted : Rooted bs nodes n
   pub stocked : Stocked bs names table masks codes words
 
@@ -230,7 +230,7 @@ Weary IsTired words = length words ≡ 1
 
 -- What a call leaves: a place for a way, prunings stocked as before, a memory as large as before.
 pub record Stays (bs names table masks codes words codes′ words′ way′ : List ℕ) (r : Outcome) : Type 0 where
-  pub way-room : length way′ ≡ 9
+  pub way-room : length way′ ≡ 7
   pub stocked : Stocked bs names table masks codes′ words′
   pub code-same : length codes′ ≡ length codes
   pub same : length words′ ≡ length words

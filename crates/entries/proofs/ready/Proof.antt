@@ -7,12 +7,11 @@ use native.Mathlib.Omega.{arith}
 use borrow.Author.Needs.{needs}
 use borrow.Author.Tests.{lt-leb, le-leb, le-ltb, lt-ltb}
 use lib.ListN.{getD}
-use Rattle.lines.specs.declared.LineSet.{LineSet}
 use Rattle.entries.specs.Inner.Masks.{within, readyBy}
 use Rattle.entries.proofs.ready.Statement.{statement}
 use Rattle.entries.proofs.ready.Tie as tie
 
-module _ (rules lines : ℕ) (masks : List ℕ) (seen : LineSet) (e : ℕ) where
+module _ (rules lines : ℕ) (masks : List ℕ) (seen e : ℕ) where
   a-rule : e < rules → true ≡ readyBy rules lines masks seen e
   unfolding readyBy
   a-rule h = rw (lt-leb rules e h, readyBy) refl
@@ -44,7 +43,7 @@ element-copy-out-mask c = search needs
 returns-3 : tie.Need-returns-3
 unfolding within
 returns-3 c =
-    let a = c .before .before .before .before .args in
+    let a = c .before .before .before .args in
     a-line (a .rules) (a .lines) (a .waits .now) (a .seen) (a .e) (omega arith) (omega arith)
 
 pub ready-spec : {M : Type 1} → statement M

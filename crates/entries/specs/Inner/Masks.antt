@@ -9,7 +9,7 @@ use lib.Bits.{bitAnd, bitOr}
 use Rattle.calculus.specs.Steps.{stands}
 use Rattle.card.specs.Format.{ruleCount, lineCount, lineNode, lineByte}
 use Rattle.lines.specs.declared.LineSet.{LineSet}
-use Rattle.lines.specs.Inner.Set.{member, addS}
+use Rattle.lines.specs.Inner.Set.{bitAt, member}
 use Rattle.entries.specs.Inner.Twins.{waits, isLine}
 
 -- the line set of a mask
@@ -46,19 +46,19 @@ pub record Waiting (bs masks : List ℕ) : Type 0 where
   pub bits : (i : ℕ) → i < lineCount bs → (x : ℕ) → member (maskSet (getD masks i 0)) x ≡ waits bs i x
 
 -- every line of the mask is one of those seen
-unfoldable pub within : ℕ → LineSet → Bool
-within mask seen = eqb (bitAnd mask (seen .low)) mask
+unfoldable pub within : ℕ → ℕ → Bool
+within mask seen = eqb (bitAnd mask seen) mask
 
 -- Every line that the entry e waits for, by its mask, is seen; an entry that is no line waits for none.
-unfoldable pub readyBy : ℕ → ℕ → List ℕ → LineSet → ℕ → Bool
+unfoldable pub readyBy : ℕ → ℕ → List ℕ → ℕ → ℕ → Bool
 readyBy rules lines masks seen e =
     elim (leb rules e && ltb e (rules + lines)) [ true ↦ within (getD masks (e - rules) 0) seen | false ↦ true ]
 
--- Of the card's lines, which have their places in the set's first word, exactly those in the set stand among the steps so far.
-pub record Seen (bs : List ℕ) (seen : LineSet) (done : List ℕ) : Type 0 where
+-- Of the card's lines, which have their places in a word, exactly those in the mask stand among the steps so far.
+pub record Seen (bs : List ℕ) (seen : ℕ) (done : List ℕ) : Type 0 where
   pub few : lineCount bs ≤ 64
-  pub line : (x : ℕ) → x < lineCount bs → member seen x ≡ stands (ruleCount bs + x) done
+  pub line : (x : ℕ) → x < lineCount bs → bitAt seen x ≡ stands (ruleCount bs + x) done
 
 -- the lines seen past one step more
-unfoldable pub seenPast : List ℕ → LineSet → ℕ → LineSet
-seenPast bs seen e = elim (isLine bs e) [ true ↦ addS seen (e - ruleCount bs) | false ↦ seen ]
+unfoldable pub seenPast : List ℕ → ℕ → ℕ → ℕ
+seenPast bs seen e = withLine (isLine bs e) seen (e - ruleCount bs)

@@ -43,17 +43,13 @@ cut-requires c κs = search needs
 empty-requires : tie.Need-empty-requires
 empty-requires c κs = search needs
 
-empty-requires-2 : tie.Need-empty-requires-2
-empty-requires-2 c κs = search needs
-
-add-t10 : tie.Need-add-t10
-add-t10 c = search needs
+add-t9 : tie.Need-add-t9
+add-t9 c = search needs
 
 returns : tie.Need-returns
 unfolding startB
 returns c =
-    let at-empty2 = c in
-    let at-empty = at-empty2 .before in
+    let at-empty = c in
     let at-cut = at-empty .before in
     let at-full = at-cut .before in
     let at-strict-lines = at-full .before in
@@ -76,7 +72,7 @@ returns c =
       strict = strict i;
       lax = lax i;
       used = at-empty .empty .ensures i;
-      seen = at-empty2 .empty2 .ensures i;
+      seen = 0;
       slack = false;
     }
 
@@ -91,6 +87,5 @@ start-spec =
     full-requires
     cut-requires
     empty-requires
-    empty-requires-2
-    add-t10
+    add-t9
     returns)

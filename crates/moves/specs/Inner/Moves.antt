@@ -34,6 +34,6 @@ startB bs =
       strict = strictOf bs;
       lax = cutS (fullS (lineCount bs)) (strictOf bs);
       used = emptyS;
-      seen = emptyS;
+      seen = 0;
       slack = false;
     }

@@ -44,4 +44,4 @@ pub record Starts (bs waits tape nodes heads way : List ℕ) : Type 0 where
   pub tape-room : length tape ≡ 255
   pub entered : Entered bs nodes heads (ruleCount bs + lineCount bs)
   pub scope : scopeIn bs nodes (ruleCount bs + lineCount bs) ≡ jobOf bs .scope
-  pub way-room : length way ≡ 9
+  pub way-room : length way ≡ 7

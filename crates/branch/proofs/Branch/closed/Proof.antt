@@ -20,14 +20,14 @@ returns : tie.Need-returns
 unfolding closedA answerIn Awake
 returns c =
     let at-test = c .before .before .before in
-    let start = at-test .before .before .before .before in
+    let start = at-test .before .before .before in
     let e : isEmptyS (start .args .self .strict) ≡ true = sym (at-test .is-empty .ensures) ∙ c .before .before .if1 .taken in
     (rw e (ap Solved (c .put-way .ensures .0)), (words start, (c .put-way .ensures .1, tt)))
 
 returns-2 : tie.Need-returns-2
 unfolding closedA answerIn Awake
 returns-2 c =
-    let start = c .before .before .before .before .before in
+    let start = c .before .before .before .before in
     let e : isEmptyS (start .args .self .strict) ≡ false = sym (c .before .is-empty .ensures) ∙ c .if1 .left in
     (rw e refl, (words start, (start .pre, tt)))
 

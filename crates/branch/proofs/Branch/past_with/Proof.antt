@@ -16,7 +16,7 @@ cut-requires c κs = search needs
 returns : tie.Need-returns
 unfolding pastWithB
 returns c =
-    let w = c .before .before .before .before .before .before .before .before .args .w in
+    let w = c .before .before .before .before .before .before .before .args .w in
     let own = c .before .before .before .own .ensures in
     rw (c .before .before .if1 .taken)
     (λ i. record {
@@ -37,7 +37,7 @@ empty-requires c κs = search needs
 returns-2 : tie.Need-returns-2
 unfolding pastWithB
 returns-2 c =
-    let w = c .before .before .before .before .before .before .before .args .w in
+    let w = c .before .before .before .before .before .before .args .w in
     let own = c .before .before .own .ensures in
     rw (c .before .if1 .left)
     (λ i. record {
