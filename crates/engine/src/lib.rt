@@ -31,12 +31,13 @@ use segment::tasks::unwind;
 ghost use mathlib.Core.Path.{_≡_};
 ghost use Rattle.card.specs.Format.{kindAt, leftAt};
 ghost use Rattle.segment.specs.Inner.Tasks.{Laid};
-ghost use Rattle.branch.specs.Inner.Values.{answerIn};
+ghost use Rattle.branch.specs.Inner.Values.{answerIn, floorOf};
 ghost use Rattle.choice.specs.Inner.Choice.{FirstEntry};
 ghost use Rattle.engine.specs.Inner.Engine.{Ready, NameNext, NameOpen, CanUse, PartNext, GoalReady, Fresh, Solving, Alone, Using};
 ghost use Rattle.engine.specs.Inner.Engine.{topNode, OneOfNext, PartReady, ChoiceReady, Choosing, Entering, Siding, Equipped, Stays};
 
-// The agenda in the branch, its lists not below the floor.
+// The agenda in the branch, its lists not below the floor. The floor is handed over by its numbers: as a struct it would be laid down in memory at
+// every step.
 pub fn solve(
     card: &[u8],
     waits: &[u64; 64],
@@ -50,19 +51,21 @@ pub fn solve(
     codes: &mut [u16],
     words: &mut [u64],
     agenda: &mut [u16; 104],
-    f: Floor,
+    fixed: usize,
+    from: usize,
     b: Branch,
 ) -> Outcome
-    requires { ⌜ Ready (now card) (now waits) (now tape) (now nodes) (now heads) f b ⌝ }
+    requires { ⌜ Ready (now card) (now waits) (now tape) (now nodes) (now heads) (floorOf fixed from) b ⌝ }
     requires { ⌜ Laid (now card) (now agenda) (b .len) (b .count) ⌝ }
     requires { ⌜ Equipped (now card) (now names) (now table) (now masks) (now codes) (now words) (now way)
         (now nodes) (b .count) ⌝ }
-    ensures { λ r. ⌜ Solving (now (card .entry)) (now (agenda .entry)) f b (now (tape .entry)) (now (tape .exit))
+    ensures { λ r. ⌜ Solving (now (card .entry)) (now (agenda .entry)) (floorOf fixed from) b (now (tape .entry)) (now (tape .exit))
         (now (nodes .entry)) (now (nodes .exit)) (now (heads .entry)) (now (heads .exit))
         (answerIn r (now (way .exit))) ⌝ }
     ensures { λ r. ⌜ Stays (now (card .entry)) (now (names .entry)) (now (table .entry)) (now (masks .entry))
         (now (codes .entry)) (now (words .entry)) (now (codes .exit)) (now (words .exit)) (now (way .exit)) r ⌝ }
 {
+    let f = Floor { fixed, from };
     let c = unwind(card, agenda, b);
     if c.len == 0 {
         return c.closed(way);
@@ -384,7 +387,8 @@ fn use_clause(
         codes,
         words,
         &mut rest,
-        f,
+        f.fixed,
+        f.from,
         c,
     )
 }
@@ -458,7 +462,8 @@ fn enter(
             codes,
             words,
             agenda,
-            f,
+            f.fixed,
+            f.from,
             c,
         );
     }
@@ -476,7 +481,8 @@ fn enter(
         codes,
         words,
         agenda,
-        f,
+        f.fixed,
+        f.from,
         b.longer(),
     )
 }
@@ -709,6 +715,7 @@ fn behind(
             return r;
         };
         let w = way_in(way);
+        let h = g.past(w.kept);
         let mut rest = *agenda;
         let s = solve(
             card,
@@ -723,7 +730,8 @@ fn behind(
             codes,
             words,
             &mut rest,
-            g.past(w.kept),
+            h.fixed,
+            h.from,
             b.past_tensor(w),
         );
         match s {
@@ -909,13 +917,15 @@ fn both_ways(
             codes,
             words,
             &mut agenda,
-            g,
+            g.fixed,
+            g.from,
             b,
         );
         let Outcome::Solved = first else {
             return first;
         };
         let w = way_in(way);
+        let h = g.past(w.kept);
         let mut other = [0u16; 104];
         right_alone(card, &mut other, goal, n);
         let second = solve(
@@ -931,7 +941,8 @@ fn both_ways(
             codes,
             words,
             &mut other,
-            g.past(w.kept),
+            h.fixed,
+            h.from,
             b.past_with(w),
         );
         match second {
@@ -998,7 +1009,8 @@ fn lent(
         codes,
         words,
         &mut agenda,
-        f,
+        f.fixed,
+        f.from,
         b.lent(item),
     );
     let Outcome::Solved = r else {

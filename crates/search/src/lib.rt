@@ -1,5 +1,4 @@
 // The search: the first list of a sound card (01, "Steps, nesting, order, marks").
-use branch::Floor;
 use branch::Outcome;
 use branch::way_in;
 ghost use mathlib.Core.Path.{_≡_};
@@ -41,7 +40,6 @@ fn run(
     let depth = card::format::byte(card, 9);
     segment::tasks::put(&mut agenda, 0, goal, depth);
     let b = moves::start(card);
-    let f = Floor { fixed: 0, from: 0 };
     engine::solve(
         card,
         waits,
@@ -55,7 +53,8 @@ fn run(
         codes,
         words,
         &mut agenda,
-        f,
+        0,
+        0,
         b,
     )
 }

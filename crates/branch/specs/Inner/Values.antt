@@ -49,6 +49,9 @@ Awake IsSolved = Unit {0}
 Awake IsStuck = Unit {0}
 Awake IsTired = ⊥
 
+abbrev pub floorOf : ℕ → ℕ → Floor
+floorOf fixed from = record { fixed = fixed; from = from }
+
 unfoldable pub pastF : Floor → Bool → Floor
 pastF f kept = cond kept f (record { fixed = 0; from = 0 })
 

@@ -175,7 +175,7 @@ abbrev μ-side : Measures 12 side-kinds.ps ℕ
 μ-side κs a = 8 * fewest (a .1 .1 .1 .1 .1 .1 .1 .1 .1 .1 .1 .1 .1 .1 .1 .1 .1 .1 .1 .0) + 4
 
 abbrev μ-solve : Measures 12 solve-kinds.ps ℕ
-μ-solve κs a = 8 * number (a .0 .now) (a .1 .1 .1 .1 .1 .1 .1 .1 .1 .1 .1 .0 .now) (a .1 .1 .1 .1 .1 .1 .1 .1 .1 .1 .1 .1 .1 .0) + 7
+μ-solve κs a = 8 * number (a .0 .now) (a .1 .1 .1 .1 .1 .1 .1 .1 .1 .1 .1 .0 .now) (a .1 .1 .1 .1 .1 .1 .1 .1 .1 .1 .1 .1 .1 .1 .0) + 7
 
 abbrev μ-use-clause : Measures 12 use-clause-kinds.ps ℕ
 μ-use-clause κs a = 8 * number (a .0 .now) (a .1 .1 .1 .1 .1 .1 .1 .1 .1 .1 .1 .0 .now) (a .1 .1 .1 .1 .1 .1 .1 .1 .1 .1 .1 .1 .1 .1 .1 .0) + 1
@@ -297,10 +297,10 @@ both-ways-claims t = (
   solve.Post,
   way-in-reads.Asked,
   way-in-reads.Learnt,
-  right-alone-reads.Asked,
-  right-alone-reads.Learnt,
   past-reads.Asked,
   past-reads.Learnt,
+  right-alone-reads.Asked,
+  right-alone-reads.Learnt,
   past-with-reads.Asked,
   past-with-reads.Learnt,
   beside-reads.Asked,
@@ -642,8 +642,8 @@ behind-past-tensor-requires t c κs =
 behind-solve-requires : (t : ℕ) → behind-lts.Need-solve-requires (behind-claims t) (behind-at t) behind.Post behind-Inv-loop behind-μ-loop
 behind-solve-requires t c κs =
     let at-past-tensor = c in
-    let at-past = at-past-tensor .before in
-    let at-way-in = at-past .before .before .before .before .before .before .before .before .before in
+    let at-past = at-past-tensor .before .before .before .before .before .before .before .before .before in
+    let at-way-in = at-past .before in
     let at-enum-told = at-way-in .before .before in
     let at-part = at-enum-told .before .before .before .before .before .before in
     let at-lead = at-part .before in
@@ -708,8 +708,8 @@ behind-returns-3 t c =
     let at-enum-told2 = at-both .before .before in
     let at-solve = at-enum-told2 .before .before .before .before .before .before in
     let at-past-tensor = at-solve .before in
-    let at-past = at-past-tensor .before in
-    let at-way-in = at-past .before .before .before .before .before .before .before .before .before in
+    let at-past = at-past-tensor .before .before .before .before .before .before .before .before .before in
+    let at-way-in = at-past .before in
     let at-enum-told = at-way-in .before .before in
     let at-part = at-enum-told .before .before .before .before .before .before in
     let at-lead = at-part .before in
@@ -761,8 +761,8 @@ behind-returns-4 t c =
     let at-enum-told3 = at-if2 .before .before .before in
     let at-solve = at-enum-told3 .before .before .before .before .before .before in
     let at-past-tensor = at-solve .before in
-    let at-past = at-past-tensor .before in
-    let at-way-in = at-past .before .before .before .before .before .before .before .before .before in
+    let at-past = at-past-tensor .before .before .before .before .before .before .before .before .before in
+    let at-way-in = at-past .before in
     let at-enum-told = at-way-in .before .before in
     let at-part = at-enum-told .before .before .before .before .before .before in
     let at-lead = at-part .before in
@@ -790,8 +790,8 @@ behind-raise-requires t c κs =
     let at-enum-told3 = at-if2 .before .before .before in
     let at-solve = at-enum-told3 .before .before .before .before .before .before in
     let at-past-tensor = at-solve .before in
-    let at-past = at-past-tensor .before in
-    let at-way-in = at-past .before .before .before .before .before .before .before .before .before in
+    let at-past = at-past-tensor .before .before .before .before .before .before .before .before .before in
+    let at-way-in = at-past .before in
     let at-enum-told = at-way-in .before .before in
     let at-part = at-enum-told .before .before .before .before .before .before in
     let at-lead = at-part .before in
@@ -810,8 +810,8 @@ behind-loop-less t c =
     let at-enum-told3 = at-if2 .before .before .before in
     let at-solve = at-enum-told3 .before .before .before .before .before .before in
     let at-past-tensor = at-solve .before in
-    let at-past = at-past-tensor .before in
-    let at-way-in = at-past .before .before .before .before .before .before .before .before .before in
+    let at-past = at-past-tensor .before .before .before .before .before .before .before .before .before in
+    let at-way-in = at-past .before in
     let at-enum-told = at-way-in .before .before in
     let at-part = at-enum-told .before .before .before .before .before .before in
     let at-lead = at-part .before in
@@ -831,8 +831,8 @@ behind-loop-again t c =
     let at-enum-told3 = at-if2 .before .before .before in
     let at-solve = at-enum-told3 .before .before .before .before .before .before in
     let at-past-tensor = at-solve .before in
-    let at-past = at-past-tensor .before in
-    let at-way-in = at-past .before .before .before .before .before .before .before .before .before in
+    let at-past = at-past-tensor .before .before .before .before .before .before .before .before .before in
+    let at-way-in = at-past .before in
     let at-enum-told = at-way-in .before .before in
     let at-part = at-enum-told .before .before .before .before .before .before in
     let at-lead = at-part .before in
@@ -882,8 +882,8 @@ behind-returns-5 t c =
     let at-enum-told4 = c in
     let at-solve = at-enum-told4 .before .before .before .before .before .before in
     let at-past-tensor = at-solve .before in
-    let at-past = at-past-tensor .before in
-    let at-way-in = at-past .before .before .before .before .before .before .before .before .before in
+    let at-past = at-past-tensor .before .before .before .before .before .before .before .before .before in
+    let at-way-in = at-past .before in
     let at-enum-told = at-way-in .before .before in
     let at-part = at-enum-told .before .before .before .before .before .before in
     let at-lead = at-part .before in
@@ -997,7 +997,7 @@ both-ways-way-in-requires t c κs =
 both-ways-right-alone-requires : (t : ℕ) → both-ways-lts.Need-right-alone-requires (both-ways-claims t) (both-ways-at t) both-ways.Post
     both-ways-Inv-loop both-ways-μ-loop
 both-ways-right-alone-requires t c κs =
-    let start = c .before .before .before .before .before .before .before .before .before .before .before .before .before .before .before .before .before .before .before .before .before .before .before .before .before .before in
+    let start = c .before .before .before .before .before .before .before .before .before .before .before .before .before .before .before .before .before .before .before .before .before .before .before .before .before .before .before in
     let rd = start .pre .1 .0 in
     let gr = start .pre .1 .1 .0 .0 .0 in
     (rd .sound, ((goal-low (rd .sound) gr, omega (arith, gr .kind)), (gr .nested, refl)))
@@ -1014,9 +1014,9 @@ both-ways-solve-requires-2 : (t : ℕ) → both-ways-lts.Need-solve-requires-2 (
     both-ways-Inv-loop both-ways-μ-loop
 both-ways-solve-requires-2 t c κs =
     let at-past-with = c in
-    let at-past = at-past-with .before in
-    let at-right = at-past .before .before .before .before .before .before .before .before in
-    let at-way-in = at-right .before .before in
+    let at-right = at-past-with .before .before .before .before .before .before .before .before in
+    let at-past = at-right .before .before in
+    let at-way-in = at-past .before in
     let at-enum-told = at-way-in .before .before in
     let at-solve = at-enum-told .before .before .before .before .before .before in
     let at-left = at-solve .before .before .before .before .before .before .before .before in
@@ -1111,9 +1111,9 @@ both-ways-returns-2 t c =
     let at-enum-told2 = at-way-in2 .before .before .before in
     let at-solve2 = at-enum-told2 .before .before .before .before .before .before in
     let at-past-with = at-solve2 .before in
-    let at-past = at-past-with .before in
-    let at-right = at-past .before .before .before .before .before .before .before .before in
-    let at-way-in = at-right .before .before in
+    let at-right = at-past-with .before .before .before .before .before .before .before .before in
+    let at-past = at-right .before .before in
+    let at-way-in = at-past .before in
     let at-enum-told = at-way-in .before .before in
     let at-solve = at-enum-told .before .before .before .before .before .before in
     let at-left = at-solve .before .before .before .before .before .before .before .before in
@@ -1174,9 +1174,9 @@ both-ways-returns-3 t c =
     let at-enum-told3 = at-if1 .before .before .before in
     let at-solve2 = at-enum-told3 .before .before .before .before .before .before in
     let at-past-with = at-solve2 .before in
-    let at-past = at-past-with .before in
-    let at-right = at-past .before .before .before .before .before .before .before .before in
-    let at-way-in = at-right .before .before in
+    let at-right = at-past-with .before .before .before .before .before .before .before .before in
+    let at-past = at-right .before .before in
+    let at-way-in = at-past .before in
     let at-enum-told = at-way-in .before .before in
     let at-solve = at-enum-told .before .before .before .before .before .before in
     let at-left = at-solve .before .before .before .before .before .before .before .before in
@@ -1208,9 +1208,9 @@ both-ways-raise-requires t c κs =
     let at-enum-told3 = at-if1 .before .before .before in
     let at-solve2 = at-enum-told3 .before .before .before .before .before .before in
     let at-past-with = at-solve2 .before in
-    let at-past = at-past-with .before in
-    let at-right = at-past .before .before .before .before .before .before .before .before in
-    let at-way-in = at-right .before .before in
+    let at-right = at-past-with .before .before .before .before .before .before .before .before in
+    let at-past = at-right .before .before in
+    let at-way-in = at-past .before in
     let at-enum-told = at-way-in .before .before in
     let at-solve = at-enum-told .before .before .before .before .before .before in
     let at-left = at-solve .before .before .before .before .before .before .before .before in
@@ -1235,9 +1235,9 @@ both-ways-loop-less t c =
     let at-enum-told3 = at-if1 .before .before .before in
     let at-solve2 = at-enum-told3 .before .before .before .before .before .before in
     let at-past-with = at-solve2 .before in
-    let at-past = at-past-with .before in
-    let at-right = at-past .before .before .before .before .before .before .before .before in
-    let at-way-in = at-right .before .before in
+    let at-right = at-past-with .before .before .before .before .before .before .before .before in
+    let at-past = at-right .before .before in
+    let at-way-in = at-past .before in
     let at-enum-told = at-way-in .before .before in
     let at-solve = at-enum-told .before .before .before .before .before .before in
     let at-left = at-solve .before .before .before .before .before .before .before .before in
@@ -1263,9 +1263,9 @@ both-ways-loop-again t c =
     let at-enum-told3 = at-if1 .before .before .before in
     let at-solve2 = at-enum-told3 .before .before .before .before .before .before in
     let at-past-with = at-solve2 .before in
-    let at-past = at-past-with .before in
-    let at-right = at-past .before .before .before .before .before .before .before .before in
-    let at-way-in = at-right .before .before in
+    let at-right = at-past-with .before .before .before .before .before .before .before .before in
+    let at-past = at-right .before .before in
+    let at-way-in = at-past .before in
     let at-enum-told = at-way-in .before .before in
     let at-solve = at-enum-told .before .before .before .before .before .before in
     let at-left = at-solve .before .before .before .before .before .before .before .before in
@@ -1323,9 +1323,9 @@ both-ways-returns-4 t c =
     let at-enum-told4 = c in
     let at-solve2 = at-enum-told4 .before .before .before .before .before .before in
     let at-past-with = at-solve2 .before in
-    let at-past = at-past-with .before in
-    let at-right = at-past .before .before .before .before .before .before .before .before in
-    let at-way-in = at-right .before .before in
+    let at-right = at-past-with .before .before .before .before .before .before .before .before in
+    let at-past = at-right .before .before in
+    let at-way-in = at-past .before in
     let at-enum-told = at-way-in .before .before in
     let at-solve = at-enum-told .before .before .before .before .before .before in
     let at-left = at-solve .before .before .before .before .before .before .before .before in
@@ -2962,8 +2962,8 @@ pub +behind+both-ways+choose+enter+last+lent+need+one-of+others+part+side+solve+
     (both-ways-same-length-2 t)
     (both-ways-returns t)
     (both-ways-way-in-requires t)
-    (both-ways-right-alone-requires t)
     (both-ways-past-requires t)
+    (both-ways-right-alone-requires t)
     (both-ways-past-with-requires t)
     (both-ways-solve-requires-2 t)
     (both-ways-enum-told-2 t)
