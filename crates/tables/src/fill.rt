@@ -553,17 +553,24 @@ fn widen_names(card: &[u8], names: &[u16; 1577], table: &mut [u8; 66177], wide: 
     lends
 }
 
+// Nothing changes any more. In the first turn no node is filled in yet, so that says nothing.
+fn at_rest(changed: bool, turn: usize) -> bool {
+    if changed {
+        return false;
+    }
+    0 < turn
+}
+
 // The names from their uses and the nodes from their parts, by turns, until nothing changes. What has not come to rest after 40 turns goes
 // all the way.
 fn rounds(card: &[u8], names: &[u16; 1577], table: &mut [u8; 66177])
     requires { ⌜ Held (now card) (now names) (now table) ⌝ }
     ensures { λ _. ⌜ TableCells (now (table .exit)) ⌝ }
 {
-    widen_names(card, names, table, false);
-    fill_nodes(card, names, table);
     let mut i: usize = 0;
     while i < 80 {
-        if !widen_names(card, names, table, 40 <= i) {
+        let changed = widen_names(card, names, table, 40 <= i);
+        if at_rest(changed, i) {
             return;
         }
         fill_nodes(card, names, table);

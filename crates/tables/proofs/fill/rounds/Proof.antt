@@ -11,23 +11,20 @@ Inv-loop card names table₀ i₀ table i = (i ≤ 80) × TableCells table
 abbrev μ-loop : tie.MeasureT-loop
 μ-loop card names table₀ i₀ table i = 80 - i
 
-widen-names-requires : tie.Need-widen-names-requires Inv-loop μ-loop
-widen-names-requires c κs = search needs
-
-fill-nodes-requires : tie.Need-fill-nodes-requires Inv-loop μ-loop
-fill-nodes-requires c κs = search needs
-
 loop-holds : tie.Need-loop-holds Inv-loop μ-loop
 loop-holds c = search needs
 
-widen-names-requires-2 : tie.Need-widen-names-requires-2 Inv-loop μ-loop
-widen-names-requires-2 c κs = search needs
+widen-names-requires : tie.Need-widen-names-requires Inv-loop μ-loop
+widen-names-requires c κs = search needs
+
+at-rest-requires : tie.Need-at-rest-requires Inv-loop μ-loop
+at-rest-requires c κs = search needs
 
 returns : tie.Need-returns Inv-loop μ-loop
 returns c = search needs
 
-fill-nodes-requires-2 : tie.Need-fill-nodes-requires-2 Inv-loop μ-loop
-fill-nodes-requires-2 c κs = search needs
+fill-nodes-requires : tie.Need-fill-nodes-requires Inv-loop μ-loop
+fill-nodes-requires c κs = search needs
 
 add-i : tie.Need-add-i Inv-loop μ-loop
 add-i c = search needs
@@ -47,12 +44,11 @@ rounds-spec =
     (tie.spec
     Inv-loop
     μ-loop
-    widen-names-requires
-    fill-nodes-requires
     loop-holds
-    widen-names-requires-2
+    widen-names-requires
+    at-rest-requires
     returns
-    fill-nodes-requires-2
+    fill-nodes-requires
     add-i
     loop-less
     loop-again
