@@ -3,6 +3,7 @@ use branch::Branch;
 use branch::Floor;
 use branch::Outcome;
 use card::format::byte;
+use lines::LineSet;
 ghost use mathlib.Core.Path.{_≡_};
 ghost use Prim.Native.Nat.{ℕ, _+_, _-_, _≤_, _<_};
 ghost use lib.ListN.{length, getD};
@@ -132,10 +133,9 @@ fn hand_from(b: Branch, i: usize) -> u64
     ensures { λ r. ⌜ HandFrom b i r ⌝ }
 {
     let strict = b.strict;
-    let lax = b.lax;
-    let hand = strict.low | lax.low;
-    let below = (1u64 << i) - 1;
-    hand ^ (hand & below)
+    let hand = strict.join(b.lax);
+    let late = hand.cut(LineSet::full(i));
+    late.low
 }
 
 // The line at hand cannot be used for the name; where it has a menu, that is not asked.

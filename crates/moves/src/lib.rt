@@ -82,8 +82,8 @@ pub fn right_alone(card: &[u8], agenda: &mut [u16; 104], goal: usize, nest: usiz
     requires { ⌜ (nest < 32) × (length (now agenda) ≡ 104) ⌝ }
     ensures { λ _. ⌜ now (agenda .exit) ≡ set (now (agenda .entry)) 0 (rightAt (now (card .entry)) goal * 32 + nest) ⌝ }
 {
-    let part = right(card, goal);
-    put(agenda, 0, part, nest);
+    let other = right(card, goal);
+    put(agenda, 0, other, nest);
 }
 
 // The item that a clause is which is lent where so many entries are in scope.

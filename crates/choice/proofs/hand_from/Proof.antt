@@ -6,33 +6,35 @@ use mathlib.Core.Path.{ap₂, _∙_}
 use mathlib.Core.Bool.{Bool, not, _&&_}
 use borrow.Author.Needs.{needs}
 use lib.Bits.{bitAnd, bitOr, or-lt, xor-lt, and-le-l}
-use lib.Pow.{pow-pos}
-use Rattle.lines.specs.Inner.Set.{less}
-use Rattle.lines.proofs.Word.{bit-or, bit-less, bit-ones, shl-one}
+use Rattle.lines.specs.Inner.Set.{each, less, fullS, joinS, cutS}
+use Rattle.lines.proofs.Word.{bit-or, bit-less, bit-ones}
 use Rattle.choice.proofs.hand_from.Statement.{statement}
 use Rattle.choice.proofs.hand_from.Tie as tie
 
-shl-below : tie.Need-shl-below
-shl-below c = search needs
+join-requires : tie.Need-join-requires
+join-requires c κs = tt
 
-sub-below : tie.Need-sub-below
-sub-below c = let start = c .before .before .before .before in omega (arith, shl-one 64 (start .args .i) (start .pre), pow-pos (start .args .i))
+full-requires : tie.Need-full-requires
+full-requires c κs = let low = c .before .before .pre in omega arith
+
+cut-requires : tie.Need-cut-requires
+cut-requires c κs = tt
 
 words : (s : tie.Start) → (s .args .b .strict .low < 2 ^ 64) × (s .args .b .lax .low < 2 ^ 64)
 words s = search needs
 
 returns : tie.Need-returns
-unfolding less
+unfolding joinS cutS fullS each less
 returns c =
     let start = c .before .before .before .before in
     let b = start .args .b in
     let i = start .args .i in
     let hand = bitOr (b .strict .low) (b .lax .low) in
     let fits = or-lt 64 (b .strict .low) (b .lax .low) (words start .0) (words start .1) in
-    rw (shl-one 64 i (start .pre)) (record {
+    rw (c .cut .ensures, c .before .before .join .ensures, c .before .full .ensures) (record {
       fits = xor-lt 64 hand (bitAnd hand (2 ^ i - 1)) fits (lt-of-le-of-lt (and-le-l hand (2 ^ i - 1)) fits);
       bits = λ x. bit-less hand (2 ^ i - 1) x ∙ ap₂ (λ (p q : Bool). p && not q) (bit-or (b .strict .low) (b .lax .low) x) (bit-ones i x);
     })
 
 pub hand-from-spec : {M : Type 1} → statement M
-hand-from-spec = tie.close (tie.spec shl-below sub-below returns)
+hand-from-spec = tie.close (tie.spec join-requires full-requires cut-requires returns)
