@@ -48,6 +48,10 @@ fits-plain bs code name h m =
     rw (lt-ltb code 1001 (omega arith)) (not-false (eqb code name) (rw (le-ltb 1000 code h) at m))
 
 module _ (bs waits heads : List ℕ) (b : Branch) (name : ℕ) where
+  -- line x is at hand
+  abbrev hand : ℕ → Bool
+  hand x = bitAt (b .strict .low) x || bitAt (b .lax .low) x
+
   unfit : (e : ℕ) → codeFits bs (getD heads e 0) name ≡ false → takableBy bs waits heads b name e ≡ false
   unfolding takableBy
   unfit e h = rw h (and-false (ltb e (b .count)))
@@ -57,7 +61,8 @@ module _ (bs waits heads : List ℕ) (b : Branch) (name : ℕ) where
   away e h = rw (h, and-false (codeFits bs (getD heads e 0) name)) (and-false (ltb e (b .count)))
 
   -- an entry in scope
-  pub takes : (e : ℕ) (r : Bool) → e < b .count → (codeFits bs (getD heads e 0) name && openTo bs waits b e) ≡ r → takableBy bs waits heads b name e ≡ r
+  pub takes : (e : ℕ) (r : Bool) → e < b .count → (codeFits bs (getD heads e 0) name && openTo bs waits b e) ≡ r
+      → takableBy bs waits heads b name e ≡ r
   unfolding takableBy
   takes e r h k = rw (lt-ltb e (b .count) h) k
 
@@ -76,18 +81,18 @@ module _ (bs waits heads : List ℕ) (b : Branch) (name : ℕ) where
   }
 
   -- a line is at hand where its bit is set
-  hand-line : (x : ℕ) → x < 64 → atHandBy (ruleCount bs) (ruleCount bs + x) b ≡ (bitAt (b .strict .low) x || bitAt (b .lax .low) x)
+  hand-line : (x : ℕ) → x < 64 → atHandBy (ruleCount bs) (ruleCount bs + x) b ≡ hand x
   unfolding atHandBy _∪_ items
   hand-line x h =
       let q : ruleCount bs + x - ruleCount bs ≡ x = omega arith in
       rw (le-leb (ruleCount bs) (ruleCount bs + x) (omega arith), q) (ap₂ _||_ (member-low (b .strict) x h) (member-low (b .lax) x h))
 
-  line-gone : (x : ℕ) → x < 64 → (bitAt (b .strict .low) x || bitAt (b .lax .low) x) ≡ false
+  line-gone : (x : ℕ) → x < 64 → hand x ≡ false
       → takableBy bs waits heads b name (ruleCount bs + x) ≡ false
   unfolding openTo
   line-gone x h g = away (ruleCount bs + x) (rw (hand-line x h, g) refl)
 
-  line-here : (x : ℕ) (r : Bool) → x < 64 → ruleCount bs + x < b .count → (bitAt (b .strict .low) x || bitAt (b .lax .low) x) ≡ true
+  line-here : (x : ℕ) (r : Bool) → x < 64 → ruleCount bs + x < b .count → hand x ≡ true
       → (codeFits bs (getD heads (ruleCount bs + x) 0) name && readyBy (ruleCount bs) (lineCount bs) waits (b .seen) (ruleCount bs + x)) ≡ r
       → takableBy bs waits heads b name (ruleCount bs + x) ≡ r
   unfolding openTo
@@ -97,12 +102,9 @@ module _ (bs waits heads : List ℕ) (b : Branch) (name : ℕ) where
   pub record Left (from word : ℕ) : Type 0 where
     pub fits : word < 2 ^ 64
     pub above : (x : ℕ) → bitAt word x ≡ true → from ≤ ruleCount bs + x
-    pub held : (x : ℕ) → bitAt word x ≡ true → (bitAt (b .strict .low) x || bitAt (b .lax .low) x) ≡ true
+    pub held : (x : ℕ) → bitAt word x ≡ true → hand x ≡ true
     pub others : (x : ℕ) → x < lineCount bs → from ≤ ruleCount bs + x → bitAt word x ≡ false
         → takableBy bs waits heads b name (ruleCount bs + x) ≡ false
-
-  abbrev hand : ℕ → Bool
-  hand x = bitAt (b .strict .low) x || bitAt (b .lax .low) x
 
   -- all lines at hand
   pub left-all : {from word : ℕ} → ruleCount bs ≤ from → lineCount bs ≤ 64 → HandFrom b (from - ruleCount bs) word → Left from word
@@ -138,7 +140,7 @@ module _ (bs waits heads : List ℕ) (b : Branch) (name : ℕ) where
     left-none z x h l = unlit x h l (ap (λ (w : ℕ). bitAt w (x - ruleCount bs)) z ∙ bit-zero (x - ruleCount bs))
 
     -- the lowest, if there is one
-    left-lowest : (word ≡ 0 → ⊥) → (from ≤ ruleCount bs + low) × ((bitAt (b .strict .low) low || bitAt (b .lax .low) low) ≡ true)
+    left-lowest : (word ≡ 0 → ⊥) → (from ≤ ruleCount bs + low) × (hand low ≡ true)
     left-lowest n = let s = bit-lowest 64 word (omega arith) (L .fits) in (L .above low s, L .held low s)
 
     -- those behind it, where it cannot be used either

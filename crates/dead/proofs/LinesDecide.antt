@@ -11,7 +11,7 @@ use Rattle.card.specs.Format.{ruleCount, lineCount}
 use Rattle.agenda.specs.Inner.Order.{Chosen, none, step}
 use Rattle.entries.specs.Inner.Twins.{waits, every, isLine, met, eligible}
 use Rattle.entries.specs.Inner.Masks.{Seen}
-use Rattle.entries.proofs.TestLaws.{stands-append}
+use Rattle.calculus.proofs.StepsBounded.{stands-parts}
 
 -- the same lines of the card stand in both lists
 pub record SameLines (bs done done′ : List ℕ) : Type 0 where
@@ -24,7 +24,7 @@ lines-more : {bs done done′ : List ℕ} (e : ℕ) → SameLines bs done done�
 lines-more {bs} {done} {done′} e s = record {
   line = λ x h.
       let n = ruleCount bs + x in
-      stands-append n done (e ∷ []) ∙ ap (λ (b : Bool). b || stands n (e ∷ [])) (s .line x h) ∙ sym (stands-append n done′ (e ∷ []));
+      stands-parts n done (e ∷ []) ∙ ap (λ (b : Bool). b || stands n (e ∷ [])) (s .line x h) ∙ sym (stands-parts n done′ (e ∷ []));
 }
 
 every-same : (p q : ℕ → Bool) (n : ℕ) → ((x : ℕ) → x < n → p x ≡ q x) → every p n ≡ every q n

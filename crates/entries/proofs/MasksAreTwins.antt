@@ -19,11 +19,12 @@ use Rattle.card.proofs.FaultsInOrder.{not-applied}
 use Rattle.card.proofs.CardChecked.{sound-front, sound-line}
 use Rattle.lines.specs.Inner.Set.{bitAt, wordOf, member}
 use Rattle.lines.proofs.Word.{bit-or, bit-and, bit-zero, bit-pow, bit-ext}
+use Rattle.calculus.proofs.StepsBounded.{stands-parts}
 use Rattle.entries.specs.Inner.Twins.{waits, every, isLine, met, eligible}
 use Rattle.entries.specs.Inner.Masks.{maskSet, withLine, passing, hasNode, mustNode, wider, Waiting, within, readyBy}
-use Rattle.entries.specs.Inner.Masks.{Seen, seenPast}
+use Rattle.entries.specs.Inner.Masks.{Seen}
 use Rattle.calculus.proofs.SetLaws.{or-right}
-use Rattle.entries.proofs.TestLaws.{and-true, same-test, stands-append, every-at, every-all}
+use Rattle.entries.proofs.TestLaws.{and-true, same-test, every-at, every-all}
 
 -- The lines of a mask
 
@@ -259,7 +260,7 @@ seen-none {bs} s = record { few = sound-front bs s .lines; line = λ x h. bit-ze
 
 stands-more : (x e : ℕ) (done : List ℕ) → stands x (done ++ (e ∷ [])) ≡ (eqb x e || stands x done)
 unfolding stands
-stands-more x e done = stands-append x done (e ∷ []) ∙ law (stands x done) (eqb x e)
+stands-more x e done = stands-parts x done (e ∷ []) ∙ law (stands x done) (eqb x e)
   where
     law : (a b : Bool) → (a || (b || false)) ≡ (b || a)
     law true true = refl
@@ -298,17 +299,6 @@ module _ {bs : List ℕ} {seen : ℕ} {done : List ℕ} (s : Seen bs seen done) 
       same x = same-test (eqb x (e - ruleCount bs)) (eqb (ruleCount bs + x) e)
           (λ p. let q = eqb-true x (e - ruleCount bs) p in eq-eqb (ruleCount bs + x) e (omega arith))
           (λ p. let q = eqb-true (ruleCount bs + x) e p in eq-eqb x (e - ruleCount bs) (omega arith))
-
-  -- THEOREM. The lines seen go on past a step.
-  pub seen-more : Seen bs (seenPast bs seen e) (done ++ (e ∷ []))
-  unfolding seenPast isLine withLine
-  seen-more = go (leb (ruleCount bs) e) refl (ltb e (ruleCount bs + lineCount bs)) refl
-    where
-      go : (a : Bool) → leb (ruleCount bs) e ≡ a → (b : Bool) → ltb e (ruleCount bs + lineCount bs) ≡ b
-          → Seen bs (withLine (a && b) seen (e - ruleCount bs)) (done ++ (e ∷ []))
-      go true p true q = seen-item (leb-true (ruleCount bs) e p)
-      go true p false q = seen-lent (ltb-false e (ruleCount bs + lineCount bs) q)
-      go false p b q = seen-rule (leb-false (ruleCount bs) e p)
 
 -- Eligible by masks
 

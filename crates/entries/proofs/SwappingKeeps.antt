@@ -19,7 +19,8 @@ use Rattle.calculus.proofs.SummaryExact.{lend-size}
 use Rattle.calculus.proofs.RenamingKeeps.{entry-before, rename, over-steps, over-length, pushed, image-pushed}
 use Rattle.calculus.proofs.RenamingKeeps.{swap-other, swap-cases, swap-swap, swap-keeps, swap-within}
 use Rattle.calculus.proofs.SetLaws.{or-right}
-use Rattle.entries.proofs.TestLaws.{and-true, or-true, stands-append}
+use Rattle.calculus.proofs.StepsBounded.{stands-parts}
+use Rattle.entries.proofs.TestLaws.{and-true, or-true}
 
 -- Lines in a list are items
 
@@ -41,7 +42,7 @@ in-either {I} {J} {K} e s (inl h) = s .whole e ∙ ap (λ (b : Bool). b || K e) 
 in-either {I} {J} {K} e s (inr h) = s .whole e ∙ or-right (J e) (K e) h
 
 stands-in : (e : ℕ) (l m : List ℕ) → stands e (l ++ m) ≡ true → (stands e l ≡ true) ⊎ (stands e m ≡ true)
-stands-in e l m t = or-true (stands e l) (stands e m) (sym (stands-append e l m) ∙ t)
+stands-in e l m t = or-true (stands e l) (stands e m) (sym (stands-parts e l m) ∙ t)
 
 stands-cons : (e x : ℕ) (l : List ℕ) → stands e (x ∷ l) ≡ true → (e ≡ x) ⊎ (stands e l ≡ true)
 unfolding stands

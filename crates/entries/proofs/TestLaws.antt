@@ -1,13 +1,10 @@
--- Laws of tests, and of what stands in a list.
+-- Laws of tests.
 use Prim.Native.Nat.{ℕ, zero, suc, _<_}
 use native.Mathlib.Decide.{ℕ-discrete}
 use native.Mathlib.Omega.{arith}
 use mathlib.Core.Path.{_≡_, refl, sym, ap, _∙_}
 use mathlib.Core.Logic.{_⊎_, inl, inr}
 use mathlib.Core.Bool.{Bool, true, false, _&&_, _||_, true≢false, false≢true}
-use mathlib.Core.List.{List, [], _∷_, _++_}
-use lib.Dec.{eqb}
-use Rattle.calculus.specs.Steps.{stands}
 use Rattle.entries.specs.Inner.Twins.{every}
 
 pub either : (b : Bool) → (b ≡ true) ⊎ (b ≡ false)
@@ -22,20 +19,11 @@ pub or-true : (a b : Bool) → (a || b) ≡ true → (a ≡ true) ⊎ (b ≡ tru
 or-true true b h = inl refl
 or-true false b h = inr h
 
-pub or-assoc : (a b c : Bool) → (a || (b || c)) ≡ (a || b || c)
-or-assoc true b c = refl
-or-assoc false b c = refl
-
 -- tests that hold together are the same
 pub same-test : (a b : Bool) → (a ≡ true → b ≡ true) → (b ≡ true → a ≡ true) → a ≡ b
 same-test true b h k = sym (h refl)
 same-test false true h k = k refl
 same-test false false h k = refl
-
-pub stands-append : (x : ℕ) (q l : List ℕ) → stands x (q ++ l) ≡ (stands x q || stands x l)
-unfolding stands
-stands-append x [] l = refl
-stands-append x (y ∷ q) l = ap (λ (b : Bool). eqb x y || b) (stands-append x q l) ∙ or-assoc (eqb x y) (stands x q) (stands x l)
 
 -- Every number below n
 

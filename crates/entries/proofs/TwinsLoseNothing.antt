@@ -23,7 +23,8 @@ use Rattle.card.proofs.NodesDecoded.{scope-size, line-at}
 use Rattle.agenda.specs.Inner.Order.{Chosen, none, step}
 use Rattle.entries.specs.Inner.Twins.{waits, every, isLine, met, eligible}
 use Rattle.calculus.proofs.SetLaws.{or-false, or-right}
-use Rattle.entries.proofs.TestLaws.{either, and-true, or-true, stands-append, every-at, every-all, every-fails}
+use Rattle.calculus.proofs.StepsBounded.{stands-parts}
+use Rattle.entries.proofs.TestLaws.{either, and-true, or-true, every-at, every-all, every-fails}
 use Rattle.entries.proofs.SwappingKeeps.{WiderLine, swap-wider}
 
 -- What a line waits for
@@ -118,7 +119,7 @@ unfolding met
 met-more bs q l i x h =
     let a = not (waits bs i x) in
     let s = ruleCount bs + x in
-    ap (λ (b : Bool). a || b) (stands-append s q l) ∙ more a (stands s q) (stands s l) h
+    ap (λ (b : Bool). a || b) (stands-parts s q l) ∙ more a (stands s q) (stands s l) h
   where
     more : (a b c : Bool) → (a || b) ≡ true → (a || (b || c)) ≡ true
     more true b c h = refl
@@ -151,7 +152,7 @@ closed-more {bs} {q} e c h = record { kept = λ x t. eligible-more bs q (e ∷ [
     was : (x : ℕ) → stands x (q ++ (e ∷ [])) ≡ true → eligible bs q x ≡ true
     was x t = ⊎-elim (c .kept x)
         (λ u. ⊎-elim (λ v. ap (eligible bs q) (eqb-true x e v) ∙ h) (λ v. absurd (false≢true v)) (or-true (eqb x e) false u))
-        (or-true (stands x q) (stands x (e ∷ [])) (sym (stands-append x q (e ∷ [])) ∙ t))
+        (or-true (stands x q) (stands x (e ∷ [])) (sym (stands-parts x q (e ∷ [])) ∙ t))
 
 -- The order of lists
 

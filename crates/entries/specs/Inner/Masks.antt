@@ -10,7 +10,7 @@ use Rattle.calculus.specs.Steps.{stands}
 use Rattle.card.specs.Format.{ruleCount, lineCount, lineNode, lineByte}
 use Rattle.lines.specs.declared.LineSet.{LineSet}
 use Rattle.lines.specs.Inner.Set.{bitAt, member}
-use Rattle.entries.specs.Inner.Twins.{waits, isLine}
+use Rattle.entries.specs.Inner.Twins.{waits}
 
 -- the line set of a mask
 unfoldable pub maskSet : ℕ → LineSet
@@ -58,7 +58,3 @@ readyBy rules lines masks seen e =
 pub record Seen (bs : List ℕ) (seen : ℕ) (done : List ℕ) : Type 0 where
   pub few : lineCount bs ≤ 64
   pub line : (x : ℕ) → x < lineCount bs → bitAt seen x ≡ stands (ruleCount bs + x) done
-
--- the lines seen past one step more
-unfoldable pub seenPast : List ℕ → ℕ → ℕ → ℕ
-seenPast bs seen e = withLine (isLine bs e) seen (e - ruleCount bs)
