@@ -1,11 +1,9 @@
--- Laws of counting: parts, one item, and what a set within another says.
-use Prim.Native.Nat.{ℕ, zero, suc, _+_, _≤_, _<_}
-use native.Mathlib.Nat.{add-zero, add-suc, eq-or-lt-of-le}
+-- Laws of counting items of a class.
+use Prim.Native.Nat.{ℕ, _+_, _≤_, _<_}
 use native.Mathlib.Omega.{arith}
 use native.Mathlib.Decide.{decLt}
 use native.Mathlib.Numerals.{add-one}
 use mathlib.Core.Path.{_≡_, refl, sym, ap, ap₂, _∙_}
-use mathlib.Core.Logic.{⊎-elim}
 use mathlib.Core.Bool.{Bool, true, false, not, _&&_, _||_, false≢true}
 use Rattle.calculus.specs.Formula.{Clause}
 use Rattle.calculus.specs.Items.{Items, only, Empty, Splits, Within}
@@ -14,78 +12,9 @@ use Rattle.calculus.specs.Inner.Summary.{Without, Plus}
 use Rattle.calculus.proofs.SetLaws.{table, _≐_, _⟹_, _⊑_, only-self, only-eq, only-at, not-true}
 use Rattle.calculus.proofs.SummaryExact.{lend-size}
 use Rattle.calculus.proofs.RenamingKeeps.{entry-past, entry-before, entry-lent}
-use Rattle.bounds.specs.Inner.Count.{bit, number, Class, ofClass, count}
-
-pub bit-one : (b : Bool) → bit b ≤ 1
-unfolding bit
-bit-one true = omega arith
-bit-one false = omega arith
-
-bit-mono : (a b : Bool) → (a ≡ true → b ≡ true) → bit a ≤ bit b
-unfolding bit
-bit-mono true b h = rw (h refl) (omega arith)
-bit-mono false b h = omega arith
-
-bit-split : (a b c : Bool) → a ≡ (b || c) → (b && c) ≡ false → bit a ≡ bit b + bit c
-unfolding bit
-bit-split a true true p q = absurd (false≢true (sym q))
-bit-split a true false p q = rw p refl
-bit-split a false true p q = rw p refl
-bit-split a false false p q = rw p refl
-
-pub number-mono : (I J : Items) (n : ℕ) → ((i : ℕ) → i < n → I i ≡ true → J i ≡ true) → number I n ≤ number J n
-unfolding number
-number-mono I J zero h = omega arith
-number-mono I J (suc n) h =
-    let a = number-mono I J n (λ i k. h i (omega arith)) in
-    let b = bit-mono (I n) (J n) (h n (omega arith)) in
-    omega arith
-
-pub number-same : (I J : Items) (n : ℕ) → ((i : ℕ) → i < n → I i ≡ J i) → number I n ≡ number J n
-unfolding number
-number-same I J zero h = refl
-number-same I J (suc n) h = ap₂ _+_ (number-same I J n (λ i k. h i (omega arith))) (ap bit (h n (omega arith)))
-
-pub number-split : (I J K : Items) (n : ℕ) → ((i : ℕ) → I i ≡ (J i || K i)) → ((i : ℕ) → (J i && K i) ≡ false)
-    → number I n ≡ number J n + number K n
-unfolding number
-number-split I J K zero p q = refl
-number-split I J K (suc n) p q =
-    let a = number-split I J K n p q in
-    let b = bit-split (I n) (J n) (K n) (p n) (q n) in
-    omega arith
-
-pub number-none : (I : Items) (n : ℕ) → ((i : ℕ) → i < n → I i ≡ false) → number I n ≡ 0
-unfolding number bit
-number-none I zero h = refl
-number-none I (suc n) h =
-    let a = number-none I n (λ i k. h i (omega arith)) in
-    let b : bit (I n) ≡ 0 = ap bit (h n (omega arith)) in
-    omega arith
-
--- one item, and no other
-pub number-one : (I : Items) (e n : ℕ) → e < n → ((i : ℕ) → (i ≡ e → ⊥) → I i ≡ false) → number I n ≡ bit (I e)
-unfolding number bit
-number-one I e zero h p = absurd (omega arith)
-number-one I e (suc n) h p =
-    ⊎-elim
-    (λ (q : e ≡ n).
-    let a = number-none I n (λ i k. p i (λ r. omega arith)) in
-    let b : bit (I e) ≡ bit (I n) = ap (λ x. bit (I x)) q in
-    omega arith)
-    (λ (q : e < n). let a = number-one I e n q p in let b : bit (I n) ≡ 0 = ap bit (p n (λ r. omega arith)) in omega arith)
-    (eq-or-lt-of-le {n = e} {m = n} (omega arith))
-
--- up to a, and from a on
-pub number-add : (I : Items) (a n : ℕ) → number I (a + n) ≡ number I a + number (λ k. I (a + k)) n
-unfolding number
-number-add I a zero =
-    let e : number I (a + 0) ≡ number I a = ap (number I) (add-zero a) in
-    omega arith
-number-add I a (suc n) =
-    let h = number-add I a n in
-    let e : number I (a + suc n) ≡ number I (a + n) + bit (I (a + n)) = ap (number I) (add-suc a n) in
-    omega arith
+use Rattle.lines.specs.Inner.Count.{bit, number}
+use Rattle.lines.proofs.CountLaws.{number-mono, number-same, number-split, number-none, number-one}
+use Rattle.bounds.specs.Inner.Count.{Class, ofClass, count}
 
 -- A linear entry is in scope.
 pub linear-in : (es : Scope) (e : ℕ) → linearAt es e ≡ true → e < size es

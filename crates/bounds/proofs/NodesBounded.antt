@@ -17,7 +17,8 @@ use Rattle.card.proofs.NodesDecoded.{reads-name, reads-rest, reads-done, reads-
 use Rattle.card.proofs.SoundNodes.{goal-lower, goal-kind, clause-lower, clause-kind, goal-above, clause-above, name-low, both-parts}
 use Rattle.card.proofs.SoundNodes.{either-parts, one-of-parts, lend-parts, recipe-parts, menu-parts, sound-both, sound-either}
 use Rattle.card.proofs.SoundNodes.{sound-one-of, sound-lend, sound-recipe, sound-menu, usable-name, usable-rest, usable-recipe, usable-menu}
-use Rattle.bounds.specs.Inner.Count.{bit, Class}
+use Rattle.lines.specs.Inner.Count.{bit}
+use Rattle.bounds.specs.Inner.Count.{Class}
 use Rattle.bounds.specs.Inner.Bound.{Names, off, leastG, lowG, highG, leastD, lowD, highD, Admits, Allows, Settles}
 use Rattle.bounds.specs.Inner.Bound.{LendsG, LendsD, Closed}
 use Rattle.bounds.specs.Inner.Table.{headOf, menuCode, takesIn, headAt, rowOf, classAt, classes, lowAt, highAt, leastAt, byKind}

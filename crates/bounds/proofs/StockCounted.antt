@@ -20,11 +20,12 @@ use Rattle.scope.specs.Inner.Sets.{items}
 use Rattle.scope.specs.Inner.Tables.{scopeIn, Entered}
 use Rattle.scope.proofs.SetsAreItems.{items-at}
 use Rattle.scope.proofs.TablesAreScopes.{scope-size, scope-clause, scope-linear}
-use Rattle.bounds.specs.Inner.Count.{number, ofClass, count}
+use Rattle.lines.specs.Inner.Count.{number}
+use Rattle.lines.proofs.CountLaws.{number-same, number-none, number-add}
+use Rattle.bounds.specs.Inner.Count.{ofClass, count}
 use Rattle.bounds.specs.Inner.Bound.{Scoped}
 use Rattle.bounds.specs.Inner.Table.{takesIn, classAt, classes, inClass, OfCard, Settled, classOf}
 use Rattle.bounds.specs.Inner.Doom.{ScopeOfCard, lineStock, lentStock, stock}
-use Rattle.bounds.proofs.CountLaws.{number-same, number-none, number-add}
 use Rattle.bounds.proofs.NodesBounded.{head-is}
 
 -- the scope of the tables is of the card's family

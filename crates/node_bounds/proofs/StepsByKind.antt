@@ -8,7 +8,7 @@ use mathlib.Core.List.{List}
 use lib.Dec.{leb}
 use borrow.Author.Tests.{leb-true, leb-false}
 use Rattle.card.specs.Format.{kindAt, leftAt, rightAt}
-use Rattle.bounds.specs.Inner.Count.{bit}
+use Rattle.lines.specs.Inner.Count.{bit}
 use Rattle.bounds.specs.Inner.Bound.{off}
 use Rattle.bounds.specs.Inner.Table.{headAt, rowOf, lowAt, highAt, leastAt, byKind, ifRecipe, inClass, menuCode, headStep, leastStep}
 use Rattle.bounds.specs.Inner.Table.{lowStep, highStep}

@@ -16,7 +16,7 @@ ghost use Prim.Native.Nat.{_-_, _<_, _≤_, min, max};
 ghost use Rattle.card.specs.Format.{nodeCount, kindAt};
 ghost use Rattle.card.specs.Fault.{Sound, clausePart};
 ghost use Rattle.card.specs.Decode.{clauseOf};
-ghost use Rattle.bounds.specs.Inner.Count.{bit};
+ghost use Rattle.lines.specs.Inner.Count.{bit};
 ghost use Rattle.bounds.specs.Inner.Table.{NameCells, Held, Node, ifRecipe, inClass, headStep, leastStep, lowStep, highStep};
 ghost use Rattle.bounds.specs.Inner.Table.{menuCode, leastUse, lowUse, highUse, NodeFits, TableCells, OnWay, HeadFits, WaysFit};
 

@@ -10,7 +10,8 @@ use Rattle.calculus.specs.Formula.{Fits, Goal, Clause, atomᴳ, topᴳ, oneᴳ,
 use Rattle.calculus.specs.Items.{Items, _∪_}
 use Rattle.calculus.specs.Derivation.{Scope, size, clauseAt, linearAt}
 use Rattle.agenda.specs.Inner.Agenda.{Agenda}
-use Rattle.bounds.specs.Inner.Count.{Class, bit, count}
+use Rattle.lines.specs.Inner.Count.{bit}
+use Rattle.bounds.specs.Inner.Count.{Class, count}
 
 -- the bounds of each name
 pub record Names : Type 0 where

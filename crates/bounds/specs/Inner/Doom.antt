@@ -10,7 +10,7 @@ use Rattle.lines.specs.Inner.Set.{bitAt, member, joinS}
 use Rattle.card.specs.Format.{ruleCount, lineCount, nodeCount, lineNode}
 use Rattle.card.specs.Fault.{goalPart}
 use Rattle.card.specs.Decode.{clauseOf}
-use Rattle.bounds.specs.Inner.Count.{number}
+use Rattle.lines.specs.Inner.Count.{number}
 use Rattle.bounds.specs.Inner.Table.{NameCells, TableCells, OfCard, inClass, classes, lowAt, highAt, leastAt}
 
 -- the first n tasks are goals of the card

@@ -15,7 +15,8 @@ use Rattle.lines.specs.Inner.Set.{bitAt}
 use Rattle.card.specs.Format.{ruleCount, lineCount, nodeCount, kindAt, leftAt, rightAt, ruleNode, lineNode}
 use Rattle.card.specs.Fault.{Sound, clausePart}
 use Rattle.card.specs.Decode.{clauseOf}
-use Rattle.bounds.specs.Inner.Count.{Class, bit}
+use Rattle.lines.specs.Inner.Count.{bit}
+use Rattle.bounds.specs.Inner.Count.{Class}
 use Rattle.bounds.specs.Inner.Bound.{Names, off}
 
 -- the two arrays that hold a table, as every array of their types is

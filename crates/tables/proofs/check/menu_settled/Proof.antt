@@ -4,7 +4,7 @@ use Prim.Native.Nat.{ℕ, _-_, _≤_, _<_}
 use native.Mathlib.Omega.{arith}
 use mathlib.Core.Bool.{_&&_, false≢true}
 use Rattle.card.specs.Decode.{clauseOf}
-use Rattle.bounds.specs.Inner.Count.{bit}
+use Rattle.lines.specs.Inner.Count.{bit}
 use Rattle.bounds.specs.Inner.Table.{inClass, WaysFit}
 use Rattle.bounds.proofs.WaysSmall.{clause-node, way-starts}
 use borrow.Author.Count.{below-more}
