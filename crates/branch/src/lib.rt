@@ -5,18 +5,20 @@ use lines::LineSet;
 ghost use mathlib.Core.Path.{_≡_};
 ghost use lib.ListN.{length};
 ghost use Prim.Native.Nat.{_≤_, _<_};
-ghost use Rattle.lines.specs.Inner.Set.{Words};
-ghost use Rattle.branch.specs.Inner.Values.{droppedB, longerB, sizedB, choseB, easedB, leadB, ownB, pastTensorB, pastWithB, lentB, usingB};
-ghost use Rattle.branch.specs.Inner.Values.{flagOf, wayIn, answerIn, Awake, closedA, joinedW, besideW, withoutW, followingW, pastF};
+ghost use mathlib.Core.Bool.{false};
+ghost use Rattle.lines.specs.Inner.Set.{member, Words};
+ghost use Rattle.branch.specs.Inner.Values.{droppedB, longerB, sizedB, choseB, freedB, easedB, leadB, ownB, pastTensorB, pastWithB, lentB, usingB, spentB, itemOf};
+ghost use Rattle.branch.specs.Inner.Values.{Counted, flagOf, wayIn, answerIn, Awake, closedA, joinedW, besideW, withoutW, followingW, pastF};
 
-// A branch, by value: the place on the tape, how many entries stand in scope, how many tasks on the agenda, the step limit; the free
-// items, strict and lax apart; what the segment has used so far, and whether some ⊤ in it takes more; the lines in the list so far, one
-// bit each.
+// A branch, by value: the place on the tape, how many entries stand in scope, how many tasks on the agenda, the step limit, how many items
+// are due, which are the strict ones; the free items, strict and lax apart; what the segment has used so far, and whether some ⊤ in it takes
+// more; the lines in the list so far, one bit each.
 pub struct Branch {
     pub at: usize,
     pub count: usize,
     pub len: usize,
     pub limit: usize,
+    pub due: usize,
     pub strict: LineSet,
     pub lax: LineSet,
     pub used: LineSet,
@@ -116,11 +118,23 @@ impl Floor {
     }
 }
 
+// The item of an entry; past all items for a rule, which is none.
+fn item_of(rules: usize, e: usize) -> usize
+    ensures { λ r. ⌜ r ≡ itemOf rules e ⌝ }
+{
+    if rules <= e {
+        return e - rules;
+    }
+    LineSet::LIMIT
+}
+
 impl Branch {
     // 1: the task is done.
     pub fn dropped(self) -> Branch
         requires { ⌜ 1 ≤ self .len ⌝ }
+        requires { ⌜ Counted self ⌝ }
         ensures { λ r. ⌜ r ≡ droppedB self ⌝ }
+        ensures { λ r. ⌜ Counted r ⌝ }
     {
         let mut b = self;
         b.len = self.len - 1;
@@ -130,7 +144,9 @@ impl Branch {
     // ⊗: two tasks where one was.
     pub fn longer(self) -> Branch
         requires { ⌜ self .len < 104 ⌝ }
+        requires { ⌜ Counted self ⌝ }
         ensures { λ r. ⌜ r ≡ longerB self ⌝ }
+        ensures { λ r. ⌜ Counted r ⌝ }
     {
         let mut b = self;
         b.len = self.len + 1;
@@ -139,7 +155,9 @@ impl Branch {
 
     // With so many tasks.
     pub fn sized(self, len: usize) -> Branch
+        requires { ⌜ Counted self ⌝ }
         ensures { λ r. ⌜ r ≡ sizedB self len ⌝ }
+        ensures { λ r. ⌜ Counted r ⌝ }
     {
         let mut b = self;
         b.len = len;
@@ -149,7 +167,9 @@ impl Branch {
     // Past a choice.
     pub fn chose(self) -> Branch
         requires { ⌜ self .at < 255 ⌝ }
+        requires { ⌜ Counted self ⌝ }
         ensures { λ r. ⌜ r ≡ choseB self ⌝ }
+        ensures { λ r. ⌜ Counted r ⌝ }
     {
         let next = self.at + 1;
         let mut b = self;
@@ -157,23 +177,38 @@ impl Branch {
         b
     }
 
+    // Any item may be used, none has to be.
+    fn freed(self) -> Branch
+        requires { ⌜ Counted self ⌝ }
+        ensures { λ r. ⌜ r ≡ freedB self ⌝ }
+        ensures { λ r. ⌜ Counted r ⌝ }
+    {
+        let strict = self.strict;
+        let mut free = self;
+        free.strict = LineSet::empty();
+        free.lax = strict.join(self.lax);
+        free.due = 0;
+        free
+    }
+
     // ⊤ takes whatever is left: nothing has to be used any more.
     pub fn eased(self) -> Branch
         requires { ⌜ 1 ≤ self .len ⌝ }
+        requires { ⌜ Counted self ⌝ }
         ensures { λ r. ⌜ r ≡ easedB self ⌝ }
+        ensures { λ r. ⌜ Counted r ⌝ }
     {
-        let strict = self.strict;
-        let mut b = self;
+        let mut b = self.freed();
         b.len = self.len - 1;
-        b.strict = LineSet::empty();
-        b.lax = strict.join(self.lax);
         b.slack = true;
         b
     }
 
     // A segment of its own in the same window.
     pub fn own(self) -> Branch
+        requires { ⌜ Counted self ⌝ }
         ensures { λ r. ⌜ r ≡ ownB self ⌝ }
+        ensures { λ r. ⌜ Counted r ⌝ }
     {
         let mut b = self;
         b.len = 1;
@@ -184,19 +219,20 @@ impl Branch {
 
     // A part with more behind it: any item may be used, none has to be.
     pub fn lead(self) -> Branch
+        requires { ⌜ Counted self ⌝ }
         ensures { λ r. ⌜ r ≡ leadB self ⌝ }
+        ensures { λ r. ⌜ Counted r ⌝ }
     {
-        let strict = self.strict;
-        let mut b = self.own();
-        b.strict = LineSet::empty();
-        b.lax = strict.join(self.lax);
-        b
+        let b = self.freed();
+        b.own()
     }
 
     // The rest of the segment past a part.
     pub fn past_tensor(self, w: Way) -> Branch
         requires { ⌜ 1 ≤ self .len ⌝ }
+        requires { ⌜ Counted self ⌝ }
         ensures { λ r. ⌜ r ≡ pastTensorB self w ⌝ }
+        ensures { λ r. ⌜ Counted r ⌝ }
     {
         let strict = self.strict;
         let lax = self.lax;
@@ -212,16 +248,21 @@ impl Branch {
         if w.slack {
             b.strict = LineSet::empty();
             b.lax = strict.join(lax).cut(gone);
+            b.due = 0;
             return b;
         }
-        b.strict = strict.cut(gone);
+        let kept = strict.cut(gone);
+        b.strict = kept;
         b.lax = lax.cut(gone);
+        b.due = kept.count();
         b
     }
 
     // The right part of a &, a segment of its own.
     pub fn past_with(self, w: Way) -> Branch
+        requires { ⌜ Counted self ⌝ }
         ensures { λ r. ⌜ r ≡ pastWithB self w ⌝ }
+        ensures { λ r. ⌜ Counted r ⌝ }
     {
         let strict = self.strict;
         let lax = self.lax;
@@ -231,33 +272,54 @@ impl Branch {
         b.at = w.at;
         b.seen = seen;
         if w.slack {
-            b.strict = strict.join(gone);
+            let all = strict.join(gone);
+            b.strict = all;
             b.lax = lax.cut(gone);
+            b.due = all.count();
             return b;
         }
         b.strict = gone;
         b.lax = LineSet::empty();
+        b.due = gone.count();
         b
     }
 
     // The goal of a ⊸: the lent clause is one more item, and strict.
     pub fn lent(self, item: usize) -> Branch
         requires { ⌜ self .count < 1000 ⌝ }
+        requires { ⌜ (item < 192) × (member (self .strict) item ≡ false) ⌝ }
+        requires { ⌜ Counted self ⌝ }
         ensures { λ r. ⌜ r ≡ lentB self item ⌝ }
+        ensures { λ r. ⌜ Counted r ⌝ }
     {
         let strict = self.strict;
         let mut b = self;
         b.count = self.count + 1;
         b.len = 1;
         b.strict = strict.add(item);
+        b.due = self.due + 1;
         b
+    }
+
+    // How many strict items are left once the item is used: one fewer where it is strict.
+    fn spent(self, item: usize) -> usize
+        requires { ⌜ Counted self ⌝ }
+        ensures { λ r. ⌜ r ≡ spentB self item ⌝ }
+    {
+        let owed = self.strict;
+        if owed.has(item) {
+            return self.due - 1;
+        }
+        self.due
     }
 
     // Past the use of entry e, with so many tasks: one step further; a rule stays, an item is gone; a line, one of at most 64, stands in
     // the list.
     pub fn using(self, rules: usize, lines: usize, e: usize, len: usize) -> Branch
-        requires { ⌜ self .at < 255 ⌝ }
+        requires { ⌜ (self .at < 255) × (lines ≤ 64) ⌝ }
+        requires { ⌜ Counted self ⌝ }
         ensures { λ r. ⌜ r ≡ usingB self rules lines e len ⌝ }
+        ensures { λ r. ⌜ Counted r ⌝ }
     {
         let strict = self.strict;
         let lax = self.lax;
@@ -266,29 +328,27 @@ impl Branch {
         let mut b = self;
         b.at = self.at + 1;
         b.len = len;
-        if e < rules {
-            return b;
-        }
-        let item = e - rules;
+        let item = item_of(rules, e);
         b.strict = strict.take(item);
         b.lax = lax.take(item);
         b.used = used.add(item);
+        b.due = self.spent(item);
         if item < lines {
             b.seen = seen | (1u64 << (item % 64));
         }
         b
     }
 
-    // The agenda is empty: no strict item may be left. The words of the sets are those of the machine.
+    // The agenda is empty: no strict item may be left, which the count tells. The words of the sets are those of the machine.
     pub fn closed(self, way: &mut [u64; 7]) -> Outcome
         requires { ⌜ length (now way) ≡ 7 ⌝ }
+        requires { ⌜ Counted self ⌝ }
         ensures { λ r. ⌜ answerIn r (now (way .exit)) ≡ closedA self ⌝ }
         ensures { λ r. ⌜ Words (self .strict) × ((length (now (way .exit)) ≡ 7) × Awake r) ⌝ }
     {
-        let strict = self.strict;
         let used = self.used;
         let seen = self.seen;
-        if strict.is_empty() {
+        if self.due == 0 {
             let w = Way {
                 at: self.at,
                 used,

@@ -111,6 +111,7 @@ module _ {bs codes codes′ : List ℕ} {b c : Branch} (u : Unwound bs codes cod
     from = r .from;
     bounded = rw (u .same-count) (hand (ruleCount bs) (scopeIn bs nodes (b .count)) (r .bounded));
     seen = rw (u .same-at, u .same-seen) (r .seen);
+    counted = u .counted;
   }
 
   -- THEOREM. What is told of the agenda after is told of the agenda before.

@@ -30,6 +30,7 @@ use Rattle.branch.specs.declared.Way.{Way}
 use Rattle.branch.specs.declared.Floor.{Floor}
 use Rattle.branch.specs.Inner.Values.{Answer, Solved, Stuck, Tired}
 use Rattle.branch.specs.Inner.Values.{leadB, pastTensorB, pastF, followingW}
+use Rattle.branch.proofs.CountsKept.{counted-tensor}
 use Rattle.segment.specs.Inner.Tasks.{agendaOf, Laid}
 use Rattle.segment.proofs.TasksAreAgendas.{laid-less}
 use Rattle.engine.specs.Inner.Engine.{PartNext}
@@ -134,6 +135,7 @@ module _ {bs waits tape₀ tape nodes₀ nodes heads₀ heads : List ℕ} (t : T
           ready-past g (pastTensorB b w) (w .kept) (I .ready) (R .tape-kept) (R .node-kept) (R .head-kept) refl refl (s .bounded) (s .seen)
           (rw (ap (λ (q : Place). q .strict) rest-here, ap (λ (q : Place). q .lax) rest-here)
           (tensor-bound (spare es (w .slack)) (items (ruleCount bs) (b .strict)) (items (ruleCount bs) (b .lax)) U))
+          (counted-tensor b w)
 
       -- as the code names it
       module _ (codes : List ℕ) (k : Floor) (c : Branch) (ek : k ≡ h) (ec : c ≡ pastTensorB b w) where

@@ -175,6 +175,7 @@ chosen-ready {bs} {tape = tape} {b = b} R c C g x y b₂ eb = rw eb (record {
   seen = subst (λ l. Seen bs (b .seen) l)
       (sym (done-chosen 0 g g b tape tape c (kept-self (b .at) tape) (let r = C .room in let l = R .limit in let z = R .tape-room in omega arith)))
       (seen-lent (R .seen) c (choice-past (R .sound) c (C .choice)));
+  counted = R .counted;
 })
 
 -- The least step to be taken

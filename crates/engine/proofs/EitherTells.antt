@@ -31,6 +31,7 @@ use Rattle.branch.specs.declared.Way.{Way}
 use Rattle.branch.specs.declared.Floor.{Floor}
 use Rattle.branch.specs.Inner.Values.{Answer, Solved, Stuck, Tired}
 use Rattle.branch.specs.Inner.Values.{pastWithB, pastF, besideW, followingW}
+use Rattle.branch.proofs.CountsKept.{counted-with}
 use Rattle.segment.specs.Inner.Tasks.{Laid}
 use Rattle.engine.specs.Inner.Engine.{GoalReady}
 use Rattle.engine.proofs.NumbersFall.{number, alone}
@@ -147,6 +148,7 @@ module _ {bs waits tape₀ tape nodes₀ nodes heads₀ heads : List ℕ} (G H :
           (rw (ap (λ (q : Place). q .strict) rest-here, ap (λ (q : Place). q .lax) rest-here)
           (with-bound (spare es (w .slack)) (items (ruleCount bs) (b .strict)) (items (ruleCount bs) (b .lax))
           (led .sought .window .within)))
+          (counted-with b w)
 
       -- as the code names it
       pub either-rest-asks : {k : Floor} {c : Branch} → k ≡ h → c ≡ pastWithB b w → {goal : ℕ} → GoalReady bs goal n b → kindAt bs goal ≡ 5

@@ -104,6 +104,7 @@ ready-sized len R = record {
   from = R .from;
   bounded = R .bounded;
   seen = R .seen;
+  counted = R .counted;
 }
 
 -- A goal

@@ -12,3 +12,4 @@ pub mod TurnsRaise
 pub mod PartsTell
 pub mod BehindTells
 pub mod EitherTells
+pub mod CountIsScan

@@ -43,6 +43,7 @@ use Rattle.branch.specs.declared.Way.{Way}
 use Rattle.branch.specs.declared.Floor.{Floor}
 use Rattle.branch.specs.Inner.Values.{Answer, Solved, Stuck, Tired}
 use Rattle.branch.specs.Inner.Values.{usingB, pastF, followingW, answerIn}
+use Rattle.branch.proofs.CountsKept.{counted-using}
 use Rattle.segment.specs.Inner.Tasks.{taskOf, agendaOf}
 use Rattle.segment.proofs.TasksAreAgendas.{agenda-next, nest-low, laid-less, laid-short}
 use Rattle.choice.specs.declared.Sought.{Sought as Found}
@@ -422,6 +423,7 @@ module _ {bs waits tape nodes heads : List ℕ} {f : Floor} {b : Branch} (R : Re
                 (∪-cases (items (ruleCount bs) (next .strict)) (items (ruleCount bs) (next .lax)) i h);
           };
           seen = subst (λ l. Seen bs (next .seen) l) (sym done-more) seen-more;
+          counted = counted-using b (ruleCount bs) (lineCount bs) e len (R .counted);
         }
           where
             left : (i : ℕ) → items (ruleCount bs) (b .strict) i ≡ true

@@ -5,7 +5,7 @@ use native.Mathlib.Numerals.{add-one}
 use native.Mathlib.Nat.{mul-le-mul-right, one-le-mul}
 use mathlib.Core.Path.{_≡_, refl, sym, _∙_, ap, ap₂, subst}
 use mathlib.Core.Logic.{⊎-elim, _⊎_, inl, inr}
-use mathlib.Core.Bool.{true, _||_}
+use mathlib.Core.Bool.{true, false, _||_}
 use mathlib.Core.List.{List, [], _∷_}
 use lib.ListN.{length, getD, set}
 use lib.Seq.{slice}
@@ -20,7 +20,7 @@ use Rattle.card.specs.Decode.{goalAt, clauseOf}
 use Rattle.card.proofs.CardChecked.{sound-front}
 use Rattle.card.proofs.SoundNodes.{goal-lower, goal-kind, goal-above, clause-above, height-pos, height-parts, either-parts, lend-parts}
 use Rattle.card.proofs.SoundNodes.{sound-either, sound-lend}
-use Rattle.lines.specs.Inner.Set.{addS}
+use Rattle.lines.specs.Inner.Set.{member, addS}
 use Rattle.scope.specs.Inner.Sets.{items}
 use Rattle.scope.specs.Inner.Tables.{Kept}
 use Rattle.scope.proofs.SetsAreItems.{items-empty, items-join, items-add, items-take}
@@ -36,6 +36,7 @@ use Rattle.branch.specs.declared.Way.{Way}
 use Rattle.branch.specs.declared.Floor.{Floor}
 use Rattle.branch.specs.Inner.Values.{Answer, Solved, Stuck, Tired}
 use Rattle.branch.specs.Inner.Values.{ownB, leadB, lentB, joinedW, withoutW}
+use Rattle.branch.proofs.CountsKept.{counted-lent}
 use Rattle.segment.specs.Inner.Tasks.{taskOf, agendaOf, weight, taskWeight, total, Laid}
 use Rattle.segment.proofs.WeightsFall.{weight-pos, weight-times, either-weight, lend-weight}
 use Rattle.segment.proofs.TasksAreAgendas.{nest-low, agenda-next, total-next, agenda-one, total-one, laid-one}
@@ -43,6 +44,7 @@ use Rattle.engine.specs.Inner.Engine.{placeOf, Ready, topNode, topNest, 
 use Rattle.engine.specs.Inner.Engine.{Told, Searches}
 use Rattle.engine.proofs.PlacesMove.{lent-place}
 use Rattle.engine.proofs.NumbersFall.{number, alone}
+use Rattle.engine.proofs.CountIsScan.{item-past}
 use Rattle.engine.proofs.TurnsRaise.{∅-∪}
 
 -- The next task of an agenda, & or ⊸
@@ -280,6 +282,16 @@ module _ {bs waits tape nodes heads : List ℕ} {f : Floor} {goal n : ℕ} {b : 
   rules-in : ruleCount bs ≤ b .count
   rules-in = omega (arith, r .scoped)
 
+  abbrev item : ℕ
+  item = b .count - ruleCount bs
+
+  pub item-low : b .count - ruleCount bs < 192
+  item-low = omega (arith, lent-few)
+
+  -- the scope's next item is none of the branch's yet
+  pub item-free : member (b .strict) (b .count - ruleCount bs) ≡ false
+  item-free = item-past r (b .count - ruleCount bs) (omega (arith, r .scoped))
+
   module _ {nodes′ heads′ : List ℕ} {x : ℕ} (ex : x ≡ leftAt bs goal) (put : nodes′ ≡ set nodes (b .count) x)
       (head-put : Headed bs heads heads′ (b .count) x) where
     en : nodes′ ≡ set nodes (b .count) (leftAt bs goal)
@@ -296,12 +308,6 @@ module _ {bs waits tape nodes heads : List ℕ} {f : Floor} {goal n : ℕ} {b : 
     lent-entered : Entered bs nodes′ heads′ (b .count + 1)
     lent-entered = rw (add-one (b .count), en, hd .written)
         (entered-more (leftAt bs goal) (r .entered) lent-count lent-clause (hd .is-head))
-
-    abbrev item : ℕ
-    item = b .count - ruleCount bs
-
-    item-low : b .count - ruleCount bs < 192
-    item-low = omega (arith, lent-few)
 
     lent-items : items (ruleCount bs) (addS (b .strict) item) ≡ items (ruleCount bs) (b .strict) ∪ only (b .count)
     lent-items = items-add (ruleCount bs) (b .strict) (b .count) rules-in item-low
@@ -345,6 +351,7 @@ module _ {bs waits tape nodes heads : List ℕ} {f : Floor} {goal n : ℕ} {b : 
       from = r .from;
       bounded = lent-bounded;
       seen = r .seen;
+      counted = counted-lent b item (r .counted) item-low item-free;
     }
 
     -- as the code names it

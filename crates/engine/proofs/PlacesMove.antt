@@ -270,6 +270,7 @@ ready-moved {bs} {nodes} {nodes′} {heads} {heads′} g {b} r t n h x y = recor
   from = y;
   bounded = rw (scope-kept bs nodes′ nodes (b .count) (n .same)) (r .bounded);
   seen = rw (t .same) (r .seen);
+  counted = r .counted;
 }
 
 pub next-from : {l F₁ F₂ F : List ℕ} {f₁ f₂ f : ℕ} → (F₁ ≡ F₂) × (f₁ ≡ f₂) → Next l F₁ f₁ F f → Next l F₂ f₂ F f

@@ -31,8 +31,9 @@ use Rattle.agenda.proofs.SearchTells.{part-none, part-solved, part-nosteps, par
 use Rattle.branch.specs.declared.Branch.{Branch}
 use Rattle.branch.specs.declared.Way.{Way}
 use Rattle.branch.specs.declared.Floor.{Floor}
-use Rattle.branch.specs.Inner.Values.{Answer, Stuck, Tired}
+use Rattle.branch.specs.Inner.Values.{Counted, Answer, Stuck, Tired}
 use Rattle.branch.specs.Inner.Values.{leadB, ownB, pastF}
+use Rattle.branch.proofs.CountsKept.{counted-lead}
 use Rattle.choice.specs.Inner.Choice.{givenAt, fromAt}
 use Rattle.moves.specs.Inner.Moves.{raisedF}
 use Rattle.engine.specs.Inner.Engine.{placeOf, Ready, Fresh}
@@ -135,6 +136,7 @@ ready-lead {bs} {nodes} {b} r = record {
   bounded = rw (items-empty (ruleCount bs), items-join (ruleCount bs) (b .strict) (b .lax))
       (bounded-within (∅-∪-within (items (ruleCount bs) (b .strict) ∪ items (ruleCount bs) (b .lax))) (r .bounded));
   seen = r .seen;
+  counted = counted-lead b;
 }
 
 -- a segment of its own
@@ -153,6 +155,7 @@ ready-own r = record {
   from = r .from;
   bounded = r .bounded;
   seen = r .seen;
+  counted = r .counted;
 }
 
 pub fresh-lead : (b : Branch) → Fresh (leadB b)
@@ -167,8 +170,8 @@ pub ready-past : {bs waits tape tape′ nodes nodes′ heads heads′ : List ℕ
     → b′ .count ≡ b .count → b′ .limit ≡ b .limit → b′ .at ≤ b .limit → Seen bs (b′ .seen) (take (b′ .at) tape′)
     → Within (items (ruleCount bs) (b′ .strict) ∪ items (ruleCount bs) (b′ .lax))
     (items (ruleCount bs) (b .strict) ∪ items (ruleCount bs) (b .lax))
-    → Ready bs waits tape′ nodes′ heads′ (pastF g kept) b′
-ready-past {bs} {waits} {tape′} {nodes′} {heads′} g {b} b′ kept r t n h c l a s w =
+    → Counted b′ → Ready bs waits tape′ nodes′ heads′ (pastF g kept) b′
+ready-past {bs} {waits} {tape′} {nodes′} {heads′} g {b} b′ kept r t n h c l a s w k =
     let low = past-low g kept (r .fixed) (r .from) in
     let q = ready-moved g r t n h (r .fixed) (r .from) in
     record {
@@ -184,6 +187,7 @@ ready-past {bs} {waits} {tape′} {nodes′} {heads′} g {b} b′ kept r t n h 
       from = low .1;
       bounded = rw c (bounded-within w (q .bounded));
       seen = s;
+      counted = k;
     }
 
 -- What holds at the head of a loop that raises the list of a part in place. B is the part, sought at pp; A is the whole; the tape and the

@@ -14,6 +14,7 @@ ghost use Prim.Native.Nat.{ℕ, _+_, _-_, _*_, _≤_, _<_};
 ghost use lib.ListN.{length, getD, set};
 ghost use Rattle.card.specs.Format.{nodeCount, ruleCount, kindAt, leftAt, rightAt, byteAt};
 ghost use Rattle.card.specs.Fault.{Sound, clausePart, heightAt};
+ghost use Rattle.branch.specs.Inner.Values.{Counted};
 ghost use Rattle.segment.specs.Inner.Tasks.{nestOf};
 ghost use Rattle.moves.specs.Inner.Moves.{raisedF, sideAt, shutBy, startB};
 
@@ -98,6 +99,7 @@ pub fn lent_item(card: &[u8], count: usize) -> usize
 pub fn start(card: &[u8]) -> Branch
     requires { ⌜ Sound (now card) ⌝ }
     ensures { λ r. ⌜ r ≡ startB (now (card .entry)) ⌝ }
+    ensures { λ r. ⌜ Counted r ⌝ }
 {
     let p = byte(card, 3);
     let t = byte(card, 4);
@@ -105,11 +107,13 @@ pub fn start(card: &[u8]) -> Branch
     let strict = scope::strict_lines(card);
     let lax = LineSet::full(t).cut(strict);
     let used = LineSet::empty();
+    let due = strict.count();
     Branch {
         at: 0,
         count: p + t,
         len: 1,
         limit,
+        due,
         strict,
         lax,
         used,

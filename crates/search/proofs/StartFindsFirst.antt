@@ -100,6 +100,7 @@ module _ {bs : List ℕ} (s : Sound bs) where
         from = omega arith;
         bounded = rw (strict-items s, lax-items s) bounded-start;
         seen = seen-none s;
+        counted = refl;
       }
 
       start-place : placeOf (ruleCount bs) noFloor (startB bs) tape ≡ startPlace (jobOf bs)

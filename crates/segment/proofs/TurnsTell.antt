@@ -19,7 +19,8 @@ use Rattle.agenda.specs.Inner.Sought.{Place, holding, eased, None, Least}
 use Rattle.agenda.proofs.AgendasRead.{reads-⊗, reads-1}
 use Rattle.agenda.proofs.SearchTells.{alike-none, alike-least, rest-none, rest-least}
 use Rattle.branch.specs.declared.Branch.{Branch}
-use Rattle.branch.specs.Inner.Values.{droppedB, longerB, easedB}
+use Rattle.branch.specs.Inner.Values.{Counted, droppedB, longerB, easedB}
+use Rattle.branch.proofs.CountsKept.{counted-eased}
 use Rattle.segment.specs.Inner.Tasks.{nodeOf, nestOf, taskOf, agendaOf, weight, taskWeight, total, Fit, Laid}
 use Rattle.segment.specs.Inner.Tasks.{Splitting, halves, Turning, itemsAt, Unwound, Lighter}
 use Rattle.segment.proofs.WeightsFall.{weight-pos, weights-times, both-weight}
@@ -27,8 +28,8 @@ use Rattle.segment.proofs.TasksAreAgendas.{nest-low, task-code, weight-
 use Rattle.segment.proofs.TasksAreAgendas.{agenda-put, total-put, laid-put}
 
 -- No turn, and one after another.
-pub unwound-self : {bs codes : List ℕ} {b : Branch} → Laid bs codes (b .len) (b .count) → Unwound bs codes codes b b
-unwound-self l = record {
+pub unwound-self : {bs codes : List ℕ} {b : Branch} → Laid bs codes (b .len) (b .count) → Counted b → Unwound bs codes codes b b
+unwound-self l k = record {
   laid = l;
   same-at = refl;
   same-count = refl;
@@ -39,6 +40,7 @@ unwound-self l = record {
   no-heavier = omega arith;
   none = λ P eligible es p n. n;
   least = λ P eligible es p l U v n. (v, n, refl);
+  counted = k;
 }
 
 pub unwound-trans : {bs codes codes′ codes″ : List ℕ} {b b′ b″ : Branch} → Unwound bs codes codes′ b b′ → Unwound bs codes′ codes″ b′ b″
@@ -57,6 +59,7 @@ unwound-trans x y = record {
       let h = y .least P eligible es p l U v n in
       let k = x .least P eligible es p l U (h .0) (h .1) in
       (k .0, k .1, h .2 ∙ k .2);
+  counted = y .counted;
 }
 
 or-true : (a : Bool) → true ≡ (a || true)
@@ -120,6 +123,7 @@ module _ {bs codes : List ℕ} {b : Branch} {k : ℕ} (s : Sound bs) (t : Turnin
                 (subst (λ (x : Place). Least eligible es (agendaOf bs codes i) x l U v) (eased-at P b p) n)),
             or-true (b .slack),
           );
+          counted = counted-eased b;
         },
         record { lighter = lighter },
       )
@@ -145,6 +149,7 @@ module _ {bs codes : List ℕ} {b : Branch} {k : ℕ} (s : Sound bs) (t : Turnin
                 (alike-least eligible (reads-1 es (nestOf c) (agendaOf bs codes i)) n),
             refl,
           );
+          counted = t .counted;
         },
         record { lighter = lighter },
       )
@@ -246,6 +251,7 @@ module _ {bs codes : List ℕ} {b : Branch} {k : ℕ} (s : Sound bs) (t : Turnin
                   (subst (λ (A : Agenda). Least eligible es A (itemsAt P b p) m U v) both-agenda n)),
               refl,
             );
+            counted = t .counted;
           },
           record { lighter = both-total },
         )

@@ -9,6 +9,7 @@ ghost use Prim.Native.Nat.{_+_, _*_, _≤_, _<_, _/_};
 ghost use lib.ListN.{length, getD, set};
 ghost use Rattle.card.specs.Format.{nodeCount, kindAt};
 ghost use Rattle.card.specs.Fault.{Sound, clausePart, heightAt};
+ghost use Rattle.branch.specs.Inner.Values.{Counted};
 ghost use Rattle.segment.specs.Inner.Tasks.{nodeOf, nestOf, Laid, Splitting, halves, Turning, Unwound, Lighter, Opened, Pushing};
 
 // Place i: the goal's node and the nesting left.
@@ -79,6 +80,7 @@ fn turn(card: &[u8], agenda: &mut [u16; 104], b: Branch, k: usize) -> Branch
 pub fn unwind(card: &[u8], agenda: &mut [u16; 104], b: Branch) -> Branch
     requires { ⌜ Sound (now card) ⌝ }
     requires { ⌜ Laid (now card) (now agenda) (b .len) (b .count) ⌝ }
+    requires { ⌜ Counted b ⌝ }
     ensures { λ r. ⌜ Unwound (now (card .entry)) (now (agenda .entry)) (now (agenda .exit)) b r ⌝ }
     ensures { λ r. ⌜ Opened (now (card .entry)) (now (agenda .exit)) r ⌝ }
 {

@@ -1,16 +1,22 @@
 -- What each change of a branch, of a way and of a floor is.
 use Prim.Native.Nat.{ℕ, _+_, _-_, _%_, _^_}
+use mathlib.Core.Path.{_≡_}
 use mathlib.Core.Bool.{Bool, true, false, cond, _&&_, _||_}
 use mathlib.Core.List.{List}
 use lib.ListN.{getD}
 use lib.Dec.{ltb, eqb}
 use lib.Bits.{bitOr}
-use Rattle.lines.specs.Inner.Set.{isEmptyS, emptyS, addS, takeS, cutS, joinS}
+use Rattle.lines.specs.Inner.Count.{countS}
+use Rattle.lines.specs.Inner.Set.{member, isEmptyS, emptyS, addS, takeS, cutS, joinS}
 use Rattle.branch.specs.declared.Branch.{Branch}
 use Rattle.branch.specs.declared.Way.{Way}
 use Rattle.branch.specs.declared.Floor.{Floor}
 use Rattle.branch.specs.declared.Outcome.{Outcome}
 use Rattle.branch.specs.declared.Outcome.the-variants.{Solved as IsSolved, Stuck as IsStuck, Tired as IsTired}
+
+-- The invariant of a branch: its running count is what a scan of its strict items finds.
+abbrev pub Counted : Branch → Type 0
+Counted b = b .due ≡ countS (b .strict)
 
 -- What a search answers, with the way that it found.
 pub data Answer : Type 0 where
@@ -61,6 +67,7 @@ droppedB b = record {
   count = b .count;
   len = b .len - 1;
   limit = b .limit;
+  due = b .due;
   strict = b .strict;
   lax = b .lax;
   used = b .used;
@@ -74,6 +81,7 @@ longerB b = record {
   count = b .count;
   len = b .len + 1;
   limit = b .limit;
+  due = b .due;
   strict = b .strict;
   lax = b .lax;
   used = b .used;
@@ -87,6 +95,7 @@ sizedB b len = record {
   count = b .count;
   len = len;
   limit = b .limit;
+  due = b .due;
   strict = b .strict;
   lax = b .lax;
   used = b .used;
@@ -100,8 +109,23 @@ choseB b = record {
   count = b .count;
   len = b .len;
   limit = b .limit;
+  due = b .due;
   strict = b .strict;
   lax = b .lax;
+  used = b .used;
+  seen = b .seen;
+  slack = b .slack;
+}
+
+abbrev pub freedB : Branch → Branch
+freedB b = record {
+  at = b .at;
+  count = b .count;
+  len = b .len;
+  limit = b .limit;
+  due = 0;
+  strict = emptyS;
+  lax = joinS (b .strict) (b .lax);
   used = b .used;
   seen = b .seen;
   slack = b .slack;
@@ -113,6 +137,7 @@ easedB b = record {
   count = b .count;
   len = b .len - 1;
   limit = b .limit;
+  due = 0;
   strict = emptyS;
   lax = joinS (b .strict) (b .lax);
   used = b .used;
@@ -126,6 +151,7 @@ leadB b = record {
   count = b .count;
   len = 1;
   limit = b .limit;
+  due = 0;
   strict = emptyS;
   lax = joinS (b .strict) (b .lax);
   used = emptyS;
@@ -139,6 +165,7 @@ ownB b = record {
   count = b .count;
   len = 1;
   limit = b .limit;
+  due = b .due;
   strict = b .strict;
   lax = b .lax;
   used = emptyS;
@@ -152,6 +179,7 @@ pastTensorB b w = record {
   count = b .count;
   len = b .len - 1;
   limit = b .limit;
+  due = cond (w .slack) 0 (countS (cutS (b .strict) (w .used)));
   strict = cond (w .slack) emptyS (cutS (b .strict) (w .used));
   lax = cond (w .slack) (cutS (joinS (b .strict) (b .lax)) (w .used)) (cutS (b .lax) (w .used));
   used = joinS (b .used) (w .used);
@@ -165,6 +193,7 @@ pastWithB b w = record {
   count = b .count;
   len = 1;
   limit = b .limit;
+  due = cond (w .slack) (countS (joinS (b .strict) (w .used))) (countS (w .used));
   strict = cond (w .slack) (joinS (b .strict) (w .used)) (w .used);
   lax = cond (w .slack) (cutS (b .lax) (w .used)) emptyS;
   used = emptyS;
@@ -178,6 +207,7 @@ lentB b item = record {
   count = b .count + 1;
   len = 1;
   limit = b .limit;
+  due = b .due + 1;
   strict = addS (b .strict) item;
   lax = b .lax;
   used = b .used;
@@ -185,12 +215,20 @@ lentB b item = record {
   slack = b .slack;
 }
 
+unfoldable pub spentB : Branch → ℕ → ℕ
+spentB b item = cond (member (b .strict) item) (b .due - 1) (b .due)
+
+-- the item of an entry; past all items for a rule
+unfoldable pub itemOf : ℕ → ℕ → ℕ
+itemOf P e = cond (ltb e P) 192 (e - P)
+
 unfoldable pub usingB : Branch → ℕ → ℕ → ℕ → ℕ → Branch
 usingB b P T e len = record {
   at = b .at + 1;
   count = b .count;
   len = len;
   limit = b .limit;
+  due = cond (ltb e P) (b .due) (spentB b (e - P));
   strict = cond (ltb e P) (b .strict) (takeS (b .strict) (e - P));
   lax = cond (ltb e P) (b .lax) (takeS (b .lax) (e - P));
   used = cond (ltb e P) (b .used) (addS (b .used) (e - P));

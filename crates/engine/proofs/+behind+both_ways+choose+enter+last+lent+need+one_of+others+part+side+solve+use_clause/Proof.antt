@@ -29,7 +29,7 @@ use Rattle.engine.proofs.RaisesEnd.{leftOver}
 use Rattle.engine.proofs.TurnsRaise.{turns-start, ready-lead, ready-own, fresh-lead, fresh-own}
 use Rattle.engine.proofs.PartsTell.{goal-next, agenda-same, agenda-last, alone-next, searched-as, searched-at, goal-own, goal-lead}
 use Rattle.engine.proofs.PartsTell.{own-unsolved, own-solved, goal-low, goal-six, left-asks, either-goal, one-task}
-use Rattle.engine.proofs.PartsTell.{searched-past, lent-clause, lent-count, lent-asks, lent-branch, lent-unsolved, lent-solved}
+use Rattle.engine.proofs.PartsTell.{searched-past, lent-clause, lent-count, item-low, item-free, lent-asks, lent-branch, lent-unsolved, lent-solved}
 use Rattle.engine.proofs.BehindTells.{Behind, behind-unsolved, behind-nodes-kept, behind-rest-asks, rest-told, behind-solved}
 use Rattle.engine.proofs.BehindTells.{behind-tired, behind-nosteps, behind-raise-asks, behind-falls, behind-again}
 use Rattle.engine.proofs.BehindTells.{nodes-on as behind-nodes-on}
@@ -566,7 +566,7 @@ behind-loop-holds t c =
     (turns-start _ _ _ rd, (eq, large-self))
 
 behind-lead-requires : (t : ℕ) → behind-lts.Need-lead-requires (behind-claims t) (behind-at t) behind.Post behind-Inv-loop behind-μ-loop
-behind-lead-requires t c κs = tt
+behind-lead-requires t c κs = c .before .before .before .before .before .before .loop .inv .0 .ready .counted
 
 behind-part-requires : (t : ℕ) → behind-lts.Need-part-requires (behind-claims t) (behind-at t) behind.Post behind-Inv-loop behind-μ-loop
 behind-part-requires t c κs =
@@ -582,7 +582,7 @@ behind-part-requires t c κs =
     let eg = at-node .node .ensures in
     let en = at-nest .nest .ensures in
     let falls = alone-next q eg en in
-    rw (at-lead .lead .ensures) (
+    rw (at-lead .lead .ensures .0) (
       omega (arith, falls, number-is),
       (ready-lead (turn .ready), ((goal-lead (goal-next q eg en), fresh-lead (start .args .b)), kit)),
     )
@@ -617,7 +617,7 @@ behind-returns-2 t c =
     let turn = at-loop .loop .inv .0 in
     let large = at-loop .loop .inv .1 .1 in
     let same-agenda = agenda-same q (at-node .node .ensures) (at-nest .nest .ensures) in
-    let R = searched-at (at-lead .lead .ensures) (at-part .part .ensures .0) in (
+    let R = searched-at (at-lead .lead .ensures .0) (at-part .part .ensures .0) in (
       searched-as (same-agenda) (behind-unsolved _ _ turn _ R (unsolved _ (at-match .match .keys2) _)),
       stays-back large (at-part .part .ensures .1),
     )
@@ -637,7 +637,7 @@ behind-past-tensor-requires t c κs =
     .before .before .before .before .before .before .before .before .before .before .before .before .before .before .before .before
     .before .before .before .before .before .before in
     let q = start .pre .1 .1 .0 in
-    q .some
+    (q .some, start .pre .1 .0 .counted)
 
 behind-solve-requires : (t : ℕ) → behind-lts.Need-solve-requires (behind-claims t) (behind-at t) behind.Post behind-Inv-loop behind-μ-loop
 behind-solve-requires t c κs =
@@ -654,16 +654,16 @@ behind-solve-requires t c κs =
     let number-is = start .pre .0 in
     let turn = at-loop .loop .inv .0 in
     let kit = at-loop .loop .inv .1 .0 in
-    let R = searched-at (at-lead .lead .ensures) (at-part .part .ensures .0) in
+    let R = searched-at (at-lead .lead .ensures .0) (at-part .part .ensures .0) in
     let solved = solved-said (at-enum-told .enum-told .given .1) _ ∙ ap Solved (sym (at-way-in .way-in .ensures)) in
-    let asked = behind-rest-asks _ _ turn _ R _ solved _ _ _ (at-past .past .ensures) (at-past-tensor .past-tensor .ensures) q in
+    let asked = behind-rest-asks _ _ turn _ R _ solved _ _ _ (at-past .past .ensures) (at-past-tensor .past-tensor .ensures .0) q in
     let kept = behind-nodes-kept _ _ turn _ R in (
       omega (arith, asked .0, number-is),
       (
         asked .1 .0,
         (
           asked .1 .1,
-          equipped-at (tensor-count _ _ _ (at-past-tensor .past-tensor .ensures)) (equipped-on kit kept (rd .scoped)
+          equipped-at (tensor-count _ _ _ (at-past-tensor .past-tensor .ensures .0)) (equipped-on kit kept (rd .scoped)
               (at-part .part .ensures .1)),
         ),
       ),
@@ -722,9 +722,9 @@ behind-returns-3 t c =
     let large = at-loop .loop .inv .1 .1 in
     let large₂ = large-on large (at-part .part .ensures .1) in
     let same-agenda = agenda-same q (at-node .node .ensures) (at-nest .nest .ensures) in
-    let R = searched-at (at-lead .lead .ensures) (at-part .part .ensures .0) in
+    let R = searched-at (at-lead .lead .ensures .0) (at-part .part .ensures .0) in
     let solved = solved-said (at-enum-told .enum-told .given .1) _ ∙ ap Solved (sym (at-way-in .way-in .ensures)) in
-    let Q₁ = rest-told _ _ turn _ R _ solved _ _ _ (at-past .past .ensures) (at-past-tensor .past-tensor .ensures) (at-solve .solve
+    let Q₁ = rest-told _ _ turn _ R _ solved _ _ _ (at-past .past .ensures) (at-past-tensor .past-tensor .ensures .0) (at-solve .solve
     .ensures .0) in
     let done = behind-solved _ _ turn _ R _ solved _ Q₁ _ (solved-said (at-enum-told2 .enum-told2 .given .1) _) in (
       rw (at-follow .follow .ensures .0, at-both .both .ensures) (searched-as (same-agenda) done),
@@ -775,9 +775,9 @@ behind-returns-4 t c =
     let large = at-loop .loop .inv .1 .1 in
     let large₂ = large-on large (at-part .part .ensures .1) in
     let same-agenda = agenda-same q (at-node .node .ensures) (at-nest .nest .ensures) in
-    let R = searched-at (at-lead .lead .ensures) (at-part .part .ensures .0) in
+    let R = searched-at (at-lead .lead .ensures .0) (at-part .part .ensures .0) in
     let solved = solved-said (at-enum-told .enum-told .given .1) _ ∙ ap Solved (sym (at-way-in .way-in .ensures)) in
-    let Q₁ = rest-told _ _ turn _ R _ solved _ _ _ (at-past .past .ensures) (at-past-tensor .past-tensor .ensures) (at-solve .solve
+    let Q₁ = rest-told _ _ turn _ R _ solved _ _ _ (at-past .past .ensures) (at-past-tensor .past-tensor .ensures .0) (at-solve .solve
     .ensures .0) in (
       searched-as (same-agenda) (behind-nosteps _ _ turn _ R _ solved _ Q₁ (stuck-said (at-enum-told3 .enum-told3 .given .1) _)
           (at-if2 .if2 .taken)),
@@ -797,9 +797,9 @@ behind-raise-requires t c κs =
     let at-lead = at-part .before in
     let at-loop = at-lead .before .before .before .before .before .before .before in
     let turn = at-loop .loop .inv .0 in
-    let R = searched-at (at-lead .lead .ensures) (at-part .part .ensures .0) in
+    let R = searched-at (at-lead .lead .ensures .0) (at-part .part .ensures .0) in
     let solved = solved-said (at-enum-told .enum-told .given .1) _ ∙ ap Solved (sym (at-way-in .way-in .ensures)) in
-    let Q₁ = rest-told _ _ turn _ R _ solved _ _ _ (at-past .past .ensures) (at-past-tensor .past-tensor .ensures) (at-solve .solve
+    let Q₁ = rest-told _ _ turn _ R _ solved _ _ _ (at-past .past .ensures) (at-past-tensor .past-tensor .ensures .0) (at-solve .solve
     .ensures .0) in
     behind-raise-asks _ _ turn _ R _ solved _ Q₁ (stuck-said (at-enum-told3 .enum-told3 .given .1) _) (at-if2 .if2 .left)
 
@@ -817,9 +817,9 @@ behind-loop-less t c =
     let at-lead = at-part .before in
     let at-loop = at-lead .before .before .before .before .before .before .before in
     let turn = at-loop .loop .inv .0 in
-    let R = searched-at (at-lead .lead .ensures) (at-part .part .ensures .0) in
+    let R = searched-at (at-lead .lead .ensures .0) (at-part .part .ensures .0) in
     let solved = solved-said (at-enum-told .enum-told .given .1) _ ∙ ap Solved (sym (at-way-in .way-in .ensures)) in
-    let Q₁ = rest-told _ _ turn _ R _ solved _ _ _ (at-past .past .ensures) (at-past-tensor .past-tensor .ensures) (at-solve .solve
+    let Q₁ = rest-told _ _ turn _ R _ solved _ _ _ (at-past .past .ensures) (at-past-tensor .past-tensor .ensures .0) (at-solve .solve
     .ensures .0) in
     behind-falls _ _ turn _ R _ solved _ Q₁ (stuck-said (at-enum-told3 .enum-told3 .given .1) _) (at-if2 .if2 .left) _
     (at-raise .raise .ensures .0) (at-raise .raise .ensures .1)
@@ -843,9 +843,9 @@ behind-loop-again t c =
     let kit = at-loop .loop .inv .1 .0 in
     let large = at-loop .loop .inv .1 .1 in
     let large₂ = large-on large (at-part .part .ensures .1) in
-    let R = searched-at (at-lead .lead .ensures) (at-part .part .ensures .0) in
+    let R = searched-at (at-lead .lead .ensures .0) (at-part .part .ensures .0) in
     let solved = solved-said (at-enum-told .enum-told .given .1) _ ∙ ap Solved (sym (at-way-in .way-in .ensures)) in
-    let Q₁ = rest-told _ _ turn _ R _ solved _ _ _ (at-past .past .ensures) (at-past-tensor .past-tensor .ensures) (at-solve .solve
+    let Q₁ = rest-told _ _ turn _ R _ solved _ _ _ (at-past .past .ensures) (at-past-tensor .past-tensor .ensures .0) (at-solve .solve
     .ensures .0) in
     let kept = behind-nodes-on _ _ turn _ R _ solved _ Q₁ in (
       behind-again _ _ turn _ R _ solved _ Q₁ (stuck-said (at-enum-told3 .enum-told3 .given .1) _) (at-if2 .if2 .left) _
@@ -896,9 +896,9 @@ behind-returns-5 t c =
     let large = at-loop .loop .inv .1 .1 in
     let large₂ = large-on large (at-part .part .ensures .1) in
     let same-agenda = agenda-same q (at-node .node .ensures) (at-nest .nest .ensures) in
-    let R = searched-at (at-lead .lead .ensures) (at-part .part .ensures .0) in
+    let R = searched-at (at-lead .lead .ensures .0) (at-part .part .ensures .0) in
     let solved = solved-said (at-enum-told .enum-told .given .1) _ ∙ ap Solved (sym (at-way-in .way-in .ensures)) in
-    let Q₁ = rest-told _ _ turn _ R _ solved _ _ _ (at-past .past .ensures) (at-past-tensor .past-tensor .ensures) (at-solve .solve
+    let Q₁ = rest-told _ _ turn _ R _ solved _ _ _ (at-past .past .ensures) (at-past-tensor .past-tensor .ensures .0) (at-solve .solve
     .ensures .0) in (
       searched-as (same-agenda) (behind-tired _ _ turn _ R _ solved _ Q₁),
       stays-tired (at-enum-told4 .enum-told4 .given .1) large₂ (at-solve .solve .ensures .1),
@@ -1008,7 +1008,13 @@ both-ways-past-requires t c κs = tt
 
 both-ways-past-with-requires : (t : ℕ) → both-ways-lts.Need-past-with-requires (both-ways-claims t) (both-ways-at t) both-ways.Post
     both-ways-Inv-loop both-ways-μ-loop
-both-ways-past-with-requires t c κs = tt
+both-ways-past-with-requires t c κs =
+    let at-right = c .before .before .before .before .before .before .before in
+    let at-past = at-right .before .before in
+    let at-solve = at-past .before .before .before .before .before .before .before .before .before in
+    let at-loop = at-solve .before .before .before .before .before .before .before .before .before .before in
+    let start = at-loop .before .before .before .before .before .before .before in
+    start .pre .1 .0 .counted
 
 both-ways-solve-requires-2 : (t : ℕ) → both-ways-lts.Need-solve-requires-2 (both-ways-claims t) (both-ways-at t) both-ways.Post
     both-ways-Inv-loop both-ways-μ-loop
@@ -1032,7 +1038,7 @@ both-ways-solve-requires-2 t c κs =
     let R = searched-as (one-task _ (replicate 104 0) (gr .nested) refl (fb .len) refl (at-left .left-alone .ensures))
     (at-solve .solve .ensures .0) in
     let solved = solved-said (at-enum-told .enum-told .given .1) _ ∙ ap Solved (sym (at-way-in .way-in .ensures)) in
-    let asked = either-rest-asks _ _ _ fb turn _ R _ solved (at-past .past .ensures) (at-past-with .past-with .ensures) gr kd
+    let asked = either-rest-asks _ _ _ fb turn _ R _ solved (at-past .past .ensures) (at-past-with .past-with .ensures .0) gr kd
     (replicate 104 0) refl
     refl (at-right .right-alone .ensures) in
     let kept = either-nodes-kept _ _ _ fb turn _ R in (
@@ -1041,7 +1047,7 @@ both-ways-solve-requires-2 t c κs =
         asked .1 .0,
         (
           asked .1 .1,
-          equipped-at (with-count _ _ _ (at-past-with .past-with .ensures)) (equipped-on kit kept (rd .scoped) (at-solve
+          equipped-at (with-count _ _ _ (at-past-with .past-with .ensures .0)) (equipped-on kit kept (rd .scoped) (at-solve
               .solve .ensures .1)),
         ),
       ),
@@ -1130,8 +1136,8 @@ both-ways-returns-2 t c =
     let R = searched-as (one-task _ (replicate 104 0) (gr .nested) refl (fb .len) refl (at-left .left-alone .ensures))
     (at-solve .solve .ensures .0) in
     let solved = solved-said (at-enum-told .enum-told .given .1) _ ∙ ap Solved (sym (at-way-in .way-in .ensures)) in
-    let Q₁ = searched-past (at-past .past .ensures) (at-past-with .past-with .ensures)
-    (searched-as (one-task _ (replicate 104 0) (gr .nested) refl (with-len _ _ (at-past-with .past-with .ensures)) refl
+    let Q₁ = searched-past (at-past .past .ensures) (at-past-with .past-with .ensures .0)
+    (searched-as (one-task _ (replicate 104 0) (gr .nested) refl (with-len _ _ (at-past-with .past-with .ensures .0)) refl
     (at-right .right-alone .ensures)) (at-solve2 .solve2 .ensures .0)) in
     let second = solved-said (at-enum-told2 .enum-told2 .given .1) _ ∙ ap Solved (sym (at-way-in2 .way-in2 .ensures)) in
     let done = either-solved _ _ _ fb turn _ R _ solved _ Q₁ _ second in (
@@ -1193,8 +1199,8 @@ both-ways-returns-3 t c =
     let R = searched-as (one-task _ (replicate 104 0) (gr .nested) refl (fb .len) refl (at-left .left-alone .ensures))
     (at-solve .solve .ensures .0) in
     let solved = solved-said (at-enum-told .enum-told .given .1) _ ∙ ap Solved (sym (at-way-in .way-in .ensures)) in
-    let Q₁ = searched-past (at-past .past .ensures) (at-past-with .past-with .ensures)
-    (searched-as (one-task _ (replicate 104 0) (gr .nested) refl (with-len _ _ (at-past-with .past-with .ensures)) refl
+    let Q₁ = searched-past (at-past .past .ensures) (at-past-with .past-with .ensures .0)
+    (searched-as (one-task _ (replicate 104 0) (gr .nested) refl (with-len _ _ (at-past-with .past-with .ensures .0)) refl
     (at-right .right-alone .ensures)) (at-solve2 .solve2 .ensures .0)) in (
       searched-as (same-goal) (either-nosteps _ _ _ fb turn _ R _ solved _ Q₁ (stuck-said (at-enum-told3 .enum-told3 .given .1) _)
           (at-if1 .if1 .taken)),
@@ -1222,8 +1228,8 @@ both-ways-raise-requires t c κs =
     let R = searched-as (one-task _ (replicate 104 0) (gr .nested) refl (fb .len) refl (at-left .left-alone .ensures))
     (at-solve .solve .ensures .0) in
     let solved = solved-said (at-enum-told .enum-told .given .1) _ ∙ ap Solved (sym (at-way-in .way-in .ensures)) in
-    let Q₁ = searched-past (at-past .past .ensures) (at-past-with .past-with .ensures)
-    (searched-as (one-task _ (replicate 104 0) (gr .nested) refl (with-len _ _ (at-past-with .past-with .ensures)) refl
+    let Q₁ = searched-past (at-past .past .ensures) (at-past-with .past-with .ensures .0)
+    (searched-as (one-task _ (replicate 104 0) (gr .nested) refl (with-len _ _ (at-past-with .past-with .ensures .0)) refl
     (at-right .right-alone .ensures)) (at-solve2 .solve2 .ensures .0)) in
     either-raise-asks _ _ _ fb turn _ R _ solved _ Q₁ (stuck-said (at-enum-told3 .enum-told3 .given .1) _) (at-if1 .if1 .left)
 
@@ -1249,8 +1255,8 @@ both-ways-loop-less t c =
     let R = searched-as (one-task _ (replicate 104 0) (gr .nested) refl (fb .len) refl (at-left .left-alone .ensures))
     (at-solve .solve .ensures .0) in
     let solved = solved-said (at-enum-told .enum-told .given .1) _ ∙ ap Solved (sym (at-way-in .way-in .ensures)) in
-    let Q₁ = searched-past (at-past .past .ensures) (at-past-with .past-with .ensures)
-    (searched-as (one-task _ (replicate 104 0) (gr .nested) refl (with-len _ _ (at-past-with .past-with .ensures)) refl
+    let Q₁ = searched-past (at-past .past .ensures) (at-past-with .past-with .ensures .0)
+    (searched-as (one-task _ (replicate 104 0) (gr .nested) refl (with-len _ _ (at-past-with .past-with .ensures .0)) refl
     (at-right .right-alone .ensures)) (at-solve2 .solve2 .ensures .0)) in
     either-falls _ _ _ fb turn _ R _ solved _ Q₁ (stuck-said (at-enum-told3 .enum-told3 .given .1) _) (at-if1 .if1 .left) _
     (at-raise .raise .ensures .0) (at-raise .raise .ensures .1)
@@ -1281,8 +1287,8 @@ both-ways-loop-again t c =
     let R = searched-as (one-task _ (replicate 104 0) (gr .nested) refl (fb .len) refl (at-left .left-alone .ensures))
     (at-solve .solve .ensures .0) in
     let solved = solved-said (at-enum-told .enum-told .given .1) _ ∙ ap Solved (sym (at-way-in .way-in .ensures)) in
-    let Q₁ = searched-past (at-past .past .ensures) (at-past-with .past-with .ensures)
-    (searched-as (one-task _ (replicate 104 0) (gr .nested) refl (with-len _ _ (at-past-with .past-with .ensures)) refl
+    let Q₁ = searched-past (at-past .past .ensures) (at-past-with .past-with .ensures .0)
+    (searched-as (one-task _ (replicate 104 0) (gr .nested) refl (with-len _ _ (at-past-with .past-with .ensures .0)) refl
     (at-right .right-alone .ensures)) (at-solve2 .solve2 .ensures .0)) in
     let kept = either-nodes-on _ _ _ fb turn _ R _ solved _ Q₁ in (
       either-again _ _ _ fb turn _ R _ solved _ Q₁ (stuck-said (at-enum-told3 .enum-told3 .given .1) _) (at-if1 .if1 .left) _
@@ -1342,8 +1348,8 @@ both-ways-returns-4 t c =
     let R = searched-as (one-task _ (replicate 104 0) (gr .nested) refl (fb .len) refl (at-left .left-alone .ensures))
     (at-solve .solve .ensures .0) in
     let solved = solved-said (at-enum-told .enum-told .given .1) _ ∙ ap Solved (sym (at-way-in .way-in .ensures)) in
-    let Q₁ = searched-past (at-past .past .ensures) (at-past-with .past-with .ensures)
-    (searched-as (one-task _ (replicate 104 0) (gr .nested) refl (with-len _ _ (at-past-with .past-with .ensures)) refl
+    let Q₁ = searched-past (at-past .past .ensures) (at-past-with .past-with .ensures .0)
+    (searched-as (one-task _ (replicate 104 0) (gr .nested) refl (with-len _ _ (at-past-with .past-with .ensures .0)) refl
     (at-right .right-alone .ensures)) (at-solve2 .solve2 .ensures .0)) in (
       searched-as (same-goal) (either-tired _ _ _ fb turn _ R _ solved _ Q₁),
       stays-tired (at-enum-told4 .enum-told4 .given .1) large₂ (at-solve2 .solve2 .ensures .1),
@@ -1462,7 +1468,8 @@ enter-push-requires t c κs =
 
 enter-sized-requires : (t : ℕ) → enter-lts.Need-sized-requires (enter-claims t) (enter-at t) enter.Post
 enter-sized-requires t c κs =
-    tt
+    let at-start = c .before .before .before .before .before .before .before .before .before in
+    at-start .pre .1 .0 .counted
 
 enter-kind-requires : (t : ℕ) → enter-lts.Need-kind-requires (enter-claims t) (enter-at t) enter.Post
 enter-kind-requires t c κs =
@@ -1483,9 +1490,9 @@ enter-choose-requires t c κs =
     let at-sized = c .before .before .before .before .before .before .before .before .before in
     let rd = at-start .pre .1 .0 in
     let q = rw (at-if1 .if1 .taken) at (at-start .pre .1 .1 .0) in
-    let asked = menu-call rd q (at-push .push .ensures) (sym (at-kind .kind .ensures .0) ∙ at-if2 .if2 .taken) _ (at-sized .sized .ensures) t
+    let asked = menu-call rd q (at-push .push .ensures) (sym (at-kind .kind .ensures .0) ∙ at-if2 .if2 .taken) _ (at-sized .sized .ensures .0) t
     (at-start .pre .0) in
-    (asked .0, (asked .1 .0, (asked .1 .1, equipped-at (ap (λ (x : Branch). x .count) (at-sized .sized .ensures)) (at-start .pre .1 .1 .1))))
+    (asked .0, (asked .1 .0, (asked .1 .1, equipped-at (ap (λ (x : Branch). x .count) (at-sized .sized .ensures .0)) (at-start .pre .1 .1 .1))))
 
 enter-same-length : (t : ℕ) → enter-lts.Need-same-length (enter-claims t) (enter-at t) enter.Post
 enter-same-length t c =
@@ -1509,7 +1516,7 @@ enter-returns t c =
     let rd = at-start .pre .1 .0 in
     let q = rw (at-if1 .if1 .taken) at (at-start .pre .1 .1 .0) in (
       rw (at-if1 .if1 .taken) (menu-told rd q (at-push .push .ensures) (sym (at-kind .kind .ensures .0) ∙ at-if2 .if2 .taken) _
-          (at-sized .sized .ensures) (at-choose .choose .ensures .0)),
+          (at-sized .sized .ensures .0) (at-choose .choose .ensures .0)),
       at-choose .choose .ensures .1,
     )
 
@@ -1523,9 +1530,9 @@ enter-solve-requires t c κs =
     let at-sized = c .before .before .before .before .before .before .before .before .before in
     let rd = at-start .pre .1 .0 in
     let q = rw (at-if1 .if1 .taken) at (at-start .pre .1 .1 .0) in
-    let asked = head-call rd q (at-push .push .ensures) (λ k. at-if2 .if2 .left (at-kind .kind .ensures .0 ∙ k)) _ (at-sized .sized .ensures) t
+    let asked = head-call rd q (at-push .push .ensures) (λ k. at-if2 .if2 .left (at-kind .kind .ensures .0 ∙ k)) _ (at-sized .sized .ensures .0) t
     (at-start .pre .0) in
-    (asked .0, (asked .1 .0, (asked .1 .1, equipped-at (ap (λ (x : Branch). x .count) (at-sized .sized .ensures)) (at-start .pre .1 .1 .1))))
+    (asked .0, (asked .1 .0, (asked .1 .1, equipped-at (ap (λ (x : Branch). x .count) (at-sized .sized .ensures .0)) (at-start .pre .1 .1 .1))))
 
 enter-same-length-3 : (t : ℕ) → enter-lts.Need-same-length-3 (enter-claims t) (enter-at t) enter.Post
 enter-same-length-3 t c =
@@ -1549,7 +1556,7 @@ enter-returns-2 t c =
     let rd = at-start .pre .1 .0 in
     let q = rw (at-if1 .if1 .taken) at (at-start .pre .1 .1 .0) in (
       rw (at-if1 .if1 .taken) (head-told rd q (at-push .push .ensures) (λ k. at-if2 .if2 .left (at-kind .kind .ensures .0 ∙ k)) _
-          (at-sized .sized .ensures) (at-solve .solve .ensures .0)),
+          (at-sized .sized .ensures .0) (at-solve .solve .ensures .0)),
       at-solve .solve .ensures .1,
     )
 
@@ -1567,7 +1574,7 @@ enter-longer-requires t c κs =
     let at-if1 = c .before .before .before .before .before .before .before .before .before in
     let rd = at-start .pre .1 .0 in
     let q = rw (at-if1 .if1 .left) at (at-start .pre .1 .1 .0) in
-    goal-room rd q .0
+    (goal-room rd q .0, rd .counted)
 
 enter-solve-requires-2 : (t : ℕ) → enter-lts.Need-solve-requires-2 (enter-claims t) (enter-at t) enter.Post
 enter-solve-requires-2 t c κs =
@@ -1577,8 +1584,8 @@ enter-solve-requires-2 t c κs =
     let at-longer = c in
     let rd = at-start .pre .1 .0 in
     let q = rw (at-if1 .if1 .left) at (at-start .pre .1 .1 .0) in
-    let asked = goal-call rd q _ (at-put .put .ensures) _ (at-longer .longer .ensures) t (at-start .pre .0) in
-    (asked .0, (asked .1 .0, (asked .1 .1, equipped-at (ap (λ (x : Branch). x .count) (at-longer .longer .ensures)) (at-start .pre .1 .1 .1))))
+    let asked = goal-call rd q _ (at-put .put .ensures) _ (at-longer .longer .ensures .0) t (at-start .pre .0) in
+    (asked .0, (asked .1 .0, (asked .1 .1, equipped-at (ap (λ (x : Branch). x .count) (at-longer .longer .ensures .0)) (at-start .pre .1 .1 .1))))
 
 enter-same-length-5 : (t : ℕ) → enter-lts.Need-same-length-5 (enter-claims t) (enter-at t) enter.Post
 enter-same-length-5 t c =
@@ -1599,12 +1606,14 @@ enter-returns-3 t c =
     let at-solve2 = c .before .before .before .before in
     let rd = at-start .pre .1 .0 in
     let q = rw (at-if1 .if1 .left) at (at-start .pre .1 .1 .0) in (
-      rw (at-if1 .if1 .left) (goal-told rd q _ (at-put .put .ensures) _ (at-longer .longer .ensures) (at-solve2 .solve2 .ensures .0)),
+      rw (at-if1 .if1 .left) (goal-told rd q _ (at-put .put .ensures) _ (at-longer .longer .ensures .0) (at-solve2 .solve2 .ensures .0)),
       at-solve2 .solve2 .ensures .1,
     )
 
 last-own-requires : (t : ℕ) → last-lts.Need-own-requires (last-claims t) (last-at t) last.Post
-last-own-requires t c κs = tt
+last-own-requires t c κs =
+    let start = c .before .before .before .before .before .before .before .before .before .before .before .before in
+    start .pre .1 .0 .counted
 
 last-part-requires : (t : ℕ) → last-lts.Need-part-requires (last-claims t) (last-at t) last.Post
 last-part-requires t c κs =
@@ -1614,7 +1623,7 @@ last-part-requires t c κs =
     let q = start .pre .1 .1 .0 in
     let eq = start .pre .1 .1 .1 in
     let number-is = start .pre .0 in
-    rw (at-own .own .ensures) (
+    rw (at-own .own .ensures .0) (
       omega (arith, number-is),
       (ready-own rd, ((goal-own q, fresh-own (start .args .b)), eq)),
     )
@@ -1637,7 +1646,7 @@ last-returns t c =
     let at-match = c in
     let at-part = at-match .before .before .before .before .before in
     let at-own = at-part .before in (
-      own-unsolved (searched-at (at-own .own .ensures) (at-part .part .ensures .0)) (unsolved _ (at-match .match .keys2) _),
+      own-unsolved (searched-at (at-own .own .ensures .0) (at-part .part .ensures .0)) (unsolved _ (at-match .match .keys2) _),
       at-part .part .ensures .1,
     )
 
@@ -1674,7 +1683,7 @@ last-returns-2 t c =
     let at-part = at-enum-told .before .before .before .before .before .before in
     let at-own = at-part .before in
     let solved = solved-said (at-enum-told .enum-told .given .1) _ ∙ ap Solved (sym (at-way-in .way-in .ensures)) in (
-      rw (at-put-way .put-way .ensures .0, at-joined .joined .ensures) (own-solved _ (searched-at (at-own .own .ensures) (at-part
+      rw (at-put-way .put-way .ensures .0, at-joined .joined .ensures) (own-solved _ (searched-at (at-own .own .ensures .0) (at-part
           .part .ensures .0)) solved),
       stays-from large-self (at-part .part .ensures .1) _ (at-put-way .put-way .ensures .1) (weary-solved _),
     )
@@ -1719,7 +1728,7 @@ lent-lent-requires t c κs =
     let fb = start .pre .1 .1 .0 .0 .1 in
     let kd = start .pre .1 .1 .0 .1 in
     let few = lent-count rd gr fb kd in
-    omega (arith, few, at-item .lent-item .ensures)
+    rw (at-item .lent-item .ensures) (omega (arith, few), ((item-low rd gr fb kd, item-free rd gr fb kd), rd .counted))
 
 lent-solve-requires : (t : ℕ) → lent-lts.Need-solve-requires (lent-claims t) (lent-at t) lent.Post
 lent-solve-requires t c κs =
@@ -1737,7 +1746,7 @@ lent-solve-requires t c κs =
     let kd = start .pre .1 .1 .0 .1 in
     let el = at-left .left .ensures .0 in
     let put = at-put .put .ensures in
-    let lent-is = at-lent .lent .ensures ∙ ap (lentB (start .args .b)) (at-item .lent-item .ensures) in
+    let lent-is = at-lent .lent .ensures .0 ∙ ap (lentB (start .args .b)) (at-item .lent-item .ensures) in
     let asked = lent-asks rd gr fb kd el (put .0) (put .1) _ refl lent-is (replicate 104 0)
     refl
     refl (at-right .right-alone .ensures) in (
@@ -1746,7 +1755,7 @@ lent-solve-requires t c κs =
         asked .1 .0,
         (
           asked .1 .1,
-          equipped-at (ap (λ (x : Branch). x .count) (at-lent .lent .ensures))
+          equipped-at (ap (λ (x : Branch). x .count) (at-lent .lent .ensures .0))
               (equipped-lent eq (goal-low (rd .sound) gr) kd (lent-count rd gr fb kd) (rd .entered .node-room) (rd .scoped) el (put .0)),
         ),
       ),
@@ -1781,9 +1790,9 @@ lent-returns t c =
     let kd = start .pre .1 .1 .0 .1 in
     let el = at-left .left .ensures .0 in
     let put = at-put .put .ensures in
-    let lent-is = at-lent .lent .ensures ∙ ap (lentB (start .args .b)) (at-item .lent-item .ensures) in
+    let lent-is = at-lent .lent .ensures .0 ∙ ap (lentB (start .args .b)) (at-item .lent-item .ensures) in
     let S = searched-at (lent-branch rd gr fb kd el (put .0) (put .1) _ refl lent-is)
-    (searched-as (one-task _ (replicate 104 0) (gr .nested) refl (ap (λ (x : Branch). x .len) (at-lent .lent .ensures))
+    (searched-as (one-task _ (replicate 104 0) (gr .nested) refl (ap (λ (x : Branch). x .len) (at-lent .lent .ensures .0))
     refl (at-right .right-alone .ensures)) (at-solve .solve .ensures .0)) in
     (lent-unsolved rd gr fb kd el (put .0) (put .1) S (unsolved _ (at-match .match .keys2) _), at-solve .solve .ensures .1)
 
@@ -1830,9 +1839,9 @@ lent-returns-2 t c =
     let kd = start .pre .1 .1 .0 .1 in
     let el = at-left .left .ensures .0 in
     let put = at-put .put .ensures in
-    let lent-is = at-lent .lent .ensures ∙ ap (lentB (start .args .b)) (at-item .lent-item .ensures) in
+    let lent-is = at-lent .lent .ensures .0 ∙ ap (lentB (start .args .b)) (at-item .lent-item .ensures) in
     let S = searched-at (lent-branch rd gr fb kd el (put .0) (put .1) _ refl lent-is)
-    (searched-as (one-task _ (replicate 104 0) (gr .nested) refl (ap (λ (x : Branch). x .len) (at-lent .lent .ensures))
+    (searched-as (one-task _ (replicate 104 0) (gr .nested) refl (ap (λ (x : Branch). x .len) (at-lent .lent .ensures .0))
     refl (at-right .right-alone .ensures)) (at-solve .solve .ensures .0)) in
     let solved = solved-said (at-enum-told .enum-told .given .1) _ ∙ ap Solved (sym (at-way-in .way-in .ensures)) in (
       rw (at-put-way .put-way .ensures .0, at-without .without .ensures, at-item .lent-item .ensures) (lent-solved rd gr fb kd el (put
@@ -1979,7 +1988,7 @@ one-of-dropped-requires : (t : ℕ) → one-of-lts.Need-dropped-requires (one-of
 one-of-dropped-requires t c κs =
     let at-start = c .before .before .before .before .before .before .before .before .before .before .before .before .before .before .before .before .before in
     let q = at-start .pre .1 .1 .0 in
-    q .some
+    (q .some, at-start .pre .1 .0 .counted)
 
 one-of-choose-requires : (t : ℕ) → one-of-lts.Need-choose-requires (one-of-claims t) (one-of-at t) one-of.Post
 one-of-choose-requires t c κs =
@@ -1992,8 +2001,8 @@ one-of-choose-requires t c κs =
     let rd = at-start .pre .1 .0 in
     let q = at-start .pre .1 .1 .0 in
     let asked = one-of-call rd q _ (at-node .node .ensures) _ (at-nest .nest .ensures) (λ k. at-if1 .if1 .left (at-kind .kind .ensures .0 ∙ k)) _
-    (at-dropped .dropped .ensures) t (at-start .pre .0) in
-    (asked .0, (asked .1 .0, (asked .1 .1, equipped-at (ap (λ (x : Branch). x .count) (at-dropped .dropped .ensures)) (at-start .pre .1 .1 .1))))
+    (at-dropped .dropped .ensures .0) t (at-start .pre .0) in
+    (asked .0, (asked .1 .0, (asked .1 .1, equipped-at (ap (λ (x : Branch). x .count) (at-dropped .dropped .ensures .0)) (at-start .pre .1 .1 .1))))
 
 one-of-same-length : (t : ℕ) → one-of-lts.Need-same-length (one-of-claims t) (one-of-at t) one-of.Post
 one-of-same-length t c =
@@ -2017,7 +2026,7 @@ one-of-returns-2 t c =
     let rd = at-start .pre .1 .0 in
     let q = at-start .pre .1 .1 .0 in (
       one-of-told rd q _ (at-node .node .ensures) _ (at-nest .nest .ensures) (λ k. at-if1 .if1 .left (at-kind .kind .ensures .0 ∙ k)) _
-          (at-dropped .dropped .ensures) (at-choose .choose .ensures .0),
+          (at-dropped .dropped .ensures .0) (at-choose .choose .ensures .0),
       at-choose .choose .ensures .1,
     )
 
@@ -2451,7 +2460,7 @@ side-chose-requires t c κs =
     let at-start = c .before .before .before .before .before .before .before .before .before .before .before .before .before .before .before .before .before .before .before .before in
     let rd = at-start .pre .1 .0 in
     let q = at-start .pre .1 .1 .0 in
-    choice-tape rd (q .0) (q .1)
+    (choice-tape rd (q .0) (q .1), rd .counted)
 
 side-enter-requires : (t : ℕ) → side-lts.Need-enter-requires (side-claims t) (side-at t) side.Post
 side-enter-requires t c κs =
@@ -2467,8 +2476,8 @@ side-enter-requires t c κs =
     let q = at-start .pre .1 .1 .0 in
     let h = sym (at-shut .shut .ensures) ∙ at-if2 .if2 .left in
     let asked = side-call rd (q .0) (q .1) (at-if1 .if1 .left) (at-side .side .ensures) _ _ (at-keeps .keeps .ensures) (at-past .past .ensures) _
-    (at-chose .chose .ensures) h t (at-start .pre .0) in
-    (asked .0, (asked .1 .0, (asked .1 .1, equipped-at (ap (λ (x : Branch). x .count) (at-chose .chose .ensures)) (at-start .pre .1 .1 .1))))
+    (at-chose .chose .ensures .0) h t (at-start .pre .0) in
+    (asked .0, (asked .1 .0, (asked .1 .1, equipped-at (ap (λ (x : Branch). x .count) (at-chose .chose .ensures .0)) (at-start .pre .1 .1 .1))))
 
 side-enum-told : (t : ℕ) → side-lts.Need-enum-told (side-claims t) (side-at t) side.Post
 side-enum-told t c =
@@ -2498,7 +2507,7 @@ side-returns-3 t c =
     let rd = at-start .pre .1 .0 in
     let q = at-start .pre .1 .1 .0 in (
       side-unsolved rd (q .0) (q .1) (at-if1 .if1 .left) (at-side .side .ensures) _ _ (at-keeps .keeps .ensures) (at-past .past .ensures) _
-          (at-chose .chose .ensures) (at-enter .enter .ensures .0) (unsolved _ (at-match .match .keys2) _),
+          (at-chose .chose .ensures .0) (at-enter .enter .ensures .0) (unsolved _ (at-match .match .keys2) _),
       at-enter .enter .ensures .1,
     )
 
@@ -2532,19 +2541,20 @@ side-returns-4 t c =
     let rd = at-start .pre .1 .0 in
     let q = at-start .pre .1 .1 .0 in (
       side-solved rd (q .0) (q .1) (at-if1 .if1 .left) (at-side .side .ensures) _ _ (at-keeps .keeps .ensures) (at-past .past .ensures) _
-          (at-chose .chose .ensures) (at-enter .enter .ensures .0) _ _ (solved-said (at-enum-told .enum-told .given .1) _) (at-follow .follow .ensures .0),
+          (at-chose .chose .ensures .0) (at-enter .enter .ensures .0) _ _ (solved-said (at-enum-told .enum-told .given .1) _) (at-follow .follow .ensures .0),
       stays-from large-self (at-enter .enter .ensures .1) _ (at-follow .follow .ensures .1) (weary-solved _),
     )
 
 solve-unwind-requires : (t : ℕ) → solve-lts.Need-unwind-requires (solve-claims t) (solve-at t) solve.Post
 solve-unwind-requires t c κs =
     let start = c .before .before .before .before .before .before .before in
-    ((start .pre .1 .0) .sound, (start .pre .1 .1 .0))
+    ((start .pre .1 .0) .sound, ((start .pre .1 .1 .0), (start .pre .1 .0) .counted))
 
 solve-closed-requires : (t : ℕ) → solve-lts.Need-closed-requires (solve-claims t) (solve-at t) solve.Post
 solve-closed-requires t c κs =
     let start = c .before .before .before .before .before .before .before .before .before .before .before in
-    (start .pre .1 .1 .1) .way-room
+    let at-unwind = c .before .before .before in
+    ((start .pre .1 .1 .1) .way-room, at-unwind .unwind .ensures .0 .counted)
 
 solve-returns : (t : ℕ) → solve-lts.Need-returns (solve-claims t) (solve-at t) solve.Post
 solve-returns t c =
@@ -2790,7 +2800,8 @@ use-clause-using-requires t c κs =
     let at-start = c .before .before .before .before .before .before .before .before .before .before .before .before .before .before in
     let rd = at-start .pre .1 .0 in
     let can = at-start .pre .1 .1 .0 .0 in
-    at-inside rd (can .step .next) can
+    let few = sound-front _ (rd .sound) .lines in
+    ((at-inside rd (can .step .next) can, omega (arith, c .byte2 .ensures .0, few)), rd .counted)
 
 use-clause-kind-requires : (t : ℕ) → use-clause-lts.Need-kind-requires (use-clause-claims t) (use-clause-at t) use-clause.Post
 use-clause-kind-requires t c κs =
@@ -2815,9 +2826,9 @@ use-clause-choose-requires t c κs =
     let rd = at-start .pre .1 .0 in
     let can = at-start .pre .1 .1 .0 .0 in
     let asked = use-menu-call rd (can .step .next) can _ _ _ _ _ _ refl (at-inner .inner .ensures) (at-start .pre .1 .1 .0 .1) refl
-    (at-byte .byte .ensures .0) (at-byte2 .byte2 .ensures .0) (at-push .push .ensures) _ (at-using .«using» .ensures)
+    (at-byte .byte .ensures .0) (at-byte2 .byte2 .ensures .0) (at-push .push .ensures) _ (at-using .«using» .ensures .0)
     (sym (at-kind .kind .ensures .0) ∙ at-if1 .if1 .taken) t (at-start .pre .0) in
-    (asked .0, (asked .1 .0, (asked .1 .1, equipped-at (using-count _ _ _ _ _ _ (at-using .«using» .ensures)) (at-start .pre .1 .1 .1))))
+    (asked .0, (asked .1 .0, (asked .1 .1, equipped-at (using-count _ _ _ _ _ _ (at-using .«using» .ensures .0)) (at-start .pre .1 .1 .1))))
 
 use-clause-same-length : (t : ℕ) → use-clause-lts.Need-same-length (use-clause-claims t) (use-clause-at t) use-clause.Post
 use-clause-same-length t c =
@@ -2843,7 +2854,7 @@ use-clause-returns t c =
     let rd = at-start .pre .1 .0 in
     let can = at-start .pre .1 .1 .0 .0 in (
       use-menu-told rd (can .step .next) can _ _ _ _ _ _ refl (at-inner .inner .ensures) (at-start .pre .1 .1 .0 .1) refl
-          (at-byte .byte .ensures .0) (at-byte2 .byte2 .ensures .0) (at-push .push .ensures) _ (at-using .«using» .ensures)
+          (at-byte .byte .ensures .0) (at-byte2 .byte2 .ensures .0) (at-push .push .ensures) _ (at-using .«using» .ensures .0)
           (sym (at-kind .kind .ensures .0) ∙ at-if1 .if1 .taken) (at-choose .choose .ensures .0),
       at-choose .choose .ensures .1,
     )
@@ -2861,9 +2872,9 @@ use-clause-solve-requires t c κs =
     let rd = at-start .pre .1 .0 in
     let can = at-start .pre .1 .1 .0 .0 in
     let asked = use-head-call rd (can .step .next) can _ _ _ _ _ _ refl (at-inner .inner .ensures) (at-start .pre .1 .1 .0 .1) refl
-    (at-byte .byte .ensures .0) (at-byte2 .byte2 .ensures .0) (at-push .push .ensures) _ (at-using .«using» .ensures)
+    (at-byte .byte .ensures .0) (at-byte2 .byte2 .ensures .0) (at-push .push .ensures) _ (at-using .«using» .ensures .0)
     (λ k. at-if1 .if1 .left (at-kind .kind .ensures .0 ∙ k)) t (at-start .pre .0) in
-    (asked .0, (asked .1 .0, (asked .1 .1, equipped-at (using-count _ _ _ _ _ _ (at-using .«using» .ensures)) (at-start .pre .1 .1 .1))))
+    (asked .0, (asked .1 .0, (asked .1 .1, equipped-at (using-count _ _ _ _ _ _ (at-using .«using» .ensures .0)) (at-start .pre .1 .1 .1))))
 
 use-clause-same-length-3 : (t : ℕ) → use-clause-lts.Need-same-length-3 (use-clause-claims t) (use-clause-at t) use-clause.Post
 use-clause-same-length-3 t c =
@@ -2889,7 +2900,7 @@ use-clause-returns-2 t c =
     let rd = at-start .pre .1 .0 in
     let can = at-start .pre .1 .1 .0 .0 in (
       use-head-told rd (can .step .next) can _ _ _ _ _ _ refl (at-inner .inner .ensures) (at-start .pre .1 .1 .0 .1) refl
-          (at-byte .byte .ensures .0) (at-byte2 .byte2 .ensures .0) (at-push .push .ensures) _ (at-using .«using» .ensures)
+          (at-byte .byte .ensures .0) (at-byte2 .byte2 .ensures .0) (at-push .push .ensures) _ (at-using .«using» .ensures .0)
           (λ k. at-if1 .if1 .left (at-kind .kind .ensures .0 ∙ k)) (at-solve .solve .ensures .0),
       at-solve .solve .ensures .1,
     )

@@ -28,7 +28,7 @@ use Rattle.branch.specs.declared.Way.{Way}
 use Rattle.branch.specs.declared.Floor.{Floor}
 use Rattle.branch.specs.declared.Outcome.{Outcome}
 use Rattle.branch.specs.declared.Outcome.the-variants.{Solved as IsSolved, Stuck as IsStuck, Tired as IsTired}
-use Rattle.branch.specs.Inner.Values.{Answer, Solved, Stuck, Tired, usingB, choseB, pastF, followed}
+use Rattle.branch.specs.Inner.Values.{Counted, Answer, Solved, Stuck, Tired, usingB, choseB, pastF, followed}
 use Rattle.segment.specs.Inner.Tasks.{nodeOf, nestOf, agendaOf, Laid}
 use Rattle.prune.specs.Inner.Prune.{Rooted, Stocked}
 use Rattle.choice.specs.Inner.Choice.{takableBy, givenAt, fromAt, keepsBy}
@@ -46,7 +46,8 @@ placeOf P f b tape =
       room = b .limit - b .at;
     }
 
--- What every function of the engine asks: a sound card, tables and tape in order, and room.
+-- What every function of the engine asks: a sound card, tables and tape in order, room, and a branch whose running count is what a scan of
+-- its strict items finds.
 pub record Ready (bs waits tape nodes heads : List ℕ) (f : Floor) (b : Branch) : Type 0 where
   pub sound : Sound bs
   pub waiting : Waiting bs waits
@@ -60,6 +61,7 @@ pub record Ready (bs waits tape nodes heads : List ℕ) (f : Floor) (b : Branch)
   pub from : f .from ≤ 256
   pub bounded : Bounded (scopeIn bs nodes (b .count)) (items (ruleCount bs) (b .strict) ∪ items (ruleCount bs) (b .lax))
   pub seen : Seen bs (b .seen) (take (b .at) tape)
+  pub counted : Counted b
 
 -- the node of the next task's goal, and the nesting left to it
 abbrev pub topNode : List ℕ → Branch → ℕ

@@ -1,12 +1,14 @@
 -- What the callees answer, put together.
 use Prim.Native.Nat.{_+_}
 use native.Mathlib.Omega.{arith}
-use mathlib.Core.Path.{_≡_, _∙_, ap, ap₂}
+use mathlib.Core.Path.{_≡_, refl, _∙_, ap, ap₂}
 use mathlib.Core.Bool.{false}
 use borrow.Author.Needs.{needs}
 use Rattle.card.specs.Format.{lineCount}
 use Rattle.card.proofs.CardChecked.{sound-front}
 use Rattle.lines.specs.Inner.Set.{fullS, cutS}
+use Rattle.lines.specs.Inner.Count.{countS}
+use Rattle.branch.proofs.CountsKept.{kept}
 use Rattle.scope.specs.Inner.Sets.{strictOf}
 use Rattle.moves.specs.Inner.Moves.{startB}
 use Rattle.moves.proofs.start.Statement.{statement}
@@ -43,13 +45,16 @@ cut-requires c κs = search needs
 empty-requires : tie.Need-empty-requires
 empty-requires c κs = search needs
 
-add-t9 : tie.Need-add-t9
-add-t9 c = search needs
+count-requires : tie.Need-count-requires
+count-requires c κs = search needs
+
+add-t10 : tie.Need-add-t10
+add-t10 c = search needs
 
 returns : tie.Need-returns
 unfolding startB
 returns c =
-    let at-empty = c in
+    let at-empty = c .before in
     let at-cut = at-empty .before in
     let at-full = at-cut .before in
     let at-strict-lines = at-full .before in
@@ -63,18 +68,20 @@ returns c =
     let strict = at-strict-lines .strict-lines .ensures in
     let lax : at-cut .cut .result ≡ cutS (fullS (lineCount bs)) (strictOf bs) =
     at-cut .cut .ensures ∙ ap₂ cutS (at-full .full .ensures ∙ ap fullS t) strict in
-    λ i.
+    kept {c = startB bs} refl
+    (λ i.
     record {
       at = 0;
       count = p i + t i;
       len = 1;
       limit = at-byte3 .byte3 .ensures .0 i;
+      due = (c .count .ensures ∙ ap countS strict) i;
       strict = strict i;
       lax = lax i;
       used = at-empty .empty .ensures i;
       seen = 0;
       slack = false;
-    }
+    })
 
 pub start-spec : {M : Type 1} → statement M
 start-spec =
@@ -87,5 +94,6 @@ start-spec =
     full-requires
     cut-requires
     empty-requires
-    add-t9
+    count-requires
+    add-t10
     returns)

@@ -8,6 +8,7 @@ use Rattle.calculus.specs.Steps.{leftChoice}
 use Rattle.card.specs.Format.{ruleCount, lineCount, stepLimit, byteAt, leftAt, rightAt}
 use Rattle.card.specs.Decode.{clauseOf, scopeOf}
 use Rattle.lines.specs.Inner.Set.{emptyS, fullS, cutS}
+use Rattle.lines.specs.Inner.Count.{countS}
 use Rattle.scope.specs.Inner.Sets.{strictOf}
 use Rattle.branch.specs.declared.Branch.{Branch}
 use Rattle.branch.specs.declared.Floor.{Floor}
@@ -31,6 +32,7 @@ startB bs =
       count = ruleCount bs + lineCount bs;
       len = 1;
       limit = stepLimit bs;
+      due = countS (strictOf bs);
       strict = strictOf bs;
       lax = cutS (fullS (lineCount bs)) (strictOf bs);
       used = emptyS;

@@ -45,13 +45,13 @@ solve-requires c κs =
     let start = at-shared .before in
     let q = start .pre .0 in
     let small = at-shared .shared-slice-known .given 10 in
-    let goal = at-goal (replicate 104 0) (at-start .start .ensures) (at-word .word .ensures .0) (at-byte .byte .ensures .0)
+    let goal = at-goal (replicate 104 0) (at-start .start .ensures .0) (at-word .word .ensures .0) (at-byte .byte .ensures .0)
     (at-put .put .ensures) refl in
     let told = asked (q .sound) goal _ _ _ _ (q .scope) (q .waiting) (q .entered) (q .tape-room) (omega arith) in (
       told .0,
       (
         told .1,
-        equipped-at (start-count _ (at-start .start .ensures))
+        equipped-at (start-count _ (at-start .start .ensures .0))
             (record { way-room = q .way-room; rooted = rooted-start (q .scope); stocked = start .pre .1 }),
       ),
     )
@@ -73,7 +73,7 @@ returns c =
     let start = at-shared .before in
     let q = start .pre .0 in
     let small = at-shared .shared-slice-known .given 10 in
-    let goal = at-goal (replicate 104 0) (at-start .start .ensures) (at-word .word .ensures .0) (at-byte .byte .ensures .0)
+    let goal = at-goal (replicate 104 0) (at-start .start .ensures .0) (at-word .word .ensures .0) (at-byte .byte .ensures .0)
     (at-put .put .ensures) refl in
     let stays = at-solve .solve .ensures .1 in (
       ran (q .sound) goal (at-solve .solve .ensures .0) (q .scope) (omega arith),

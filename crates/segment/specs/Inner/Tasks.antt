@@ -15,6 +15,7 @@ use Rattle.scope.specs.Inner.Sets.{items}
 use Rattle.agenda.specs.Inner.Agenda.{Agenda, Task, task, pushed, core}
 use Rattle.agenda.specs.Inner.Sought.{Place, holding, None, Least}
 use Rattle.branch.specs.declared.Branch.{Branch}
+use Rattle.branch.specs.Inner.Values.{Counted}
 use Rattle.segment.specs.declared.tasks.Pushed.{Pushed}
 
 -- a task in two bytes: the goal's node and the nesting left
@@ -80,12 +81,13 @@ pub record Turning (bs codes : List ℕ) (b : Branch) (k : ℕ) : Type 0 where
   pub kind : kindAt bs (nodeOf (getD codes (b .len - 1) 0)) ≡ k
   pub low : 2 ≤ k
   pub high : k ≤ 4
+  pub counted : Counted b
 
 -- the place p with the branch's items
 abbrev pub itemsAt : ℕ → Branch → Place → Place
 itemsAt P b p = holding p (items P (b .strict)) (items P (b .lax)) (p .room)
 
--- What is told of the agenda after is told of the agenda before, with its slack; nothing else of the branch has changed.
+-- What is told of the agenda after is told of the agenda before, with its slack; nothing else of the branch has changed, and its count holds.
 pub record Unwound (bs codes codes′ : List ℕ) (b b′ : Branch) : Type 0 where
   pub laid : Laid bs codes′ (b′ .len) (b′ .count)
   pub same-at : b′ .at ≡ b .at
@@ -100,6 +102,7 @@ pub record Unwound (bs codes codes′ : List ℕ) (b b′ : Branch) : Type 0 whe
   pub least : (P : ℕ) (eligible : List ℕ → ℕ → Bool) (es : Scope) (p : Place) (l : List ℕ) (U : Items) (v : Bool)
       → Least eligible es (agendaOf bs codes′ (b′ .len)) (itemsAt P b′ p) l U v
       → (w : Bool) × Least eligible es (agendaOf bs codes (b .len)) (itemsAt P b p) l U w × ((b′ .slack || v) ≡ (b .slack || w))
+  pub counted : Counted b′
 
 pub record Lighter (bs codes codes′ : List ℕ) (b b′ : Branch) : Type 0 where
   pub lighter : total bs codes′ (b′ .len) < total bs codes (b .len)

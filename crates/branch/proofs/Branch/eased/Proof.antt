@@ -1,35 +1,36 @@
--- What `empty` and `join` answer, put together.
-use Prim.Native.Nat.{_-_}
-use mathlib.Core.Path.{ap₂}
+-- One task fewer, and a rest in the segment.
+use mathlib.Core.Path.{ap}
 use mathlib.Core.Bool.{true}
+use Prim.Native.Nat.{_-_}
 use borrow.Author.Needs.{needs}
+use Rattle.branch.specs.declared.Branch.{Branch}
+use Rattle.branch.proofs.CountsKept.{kept, counted-eased}
 use Rattle.branch.proofs.Branch.eased.Statement.{statement}
 use Rattle.branch.proofs.Branch.eased.Tie as tie
+
+freed-requires : tie.Need-freed-requires
+freed-requires c κs = search needs
 
 sub-b : tie.Need-sub-b
 sub-b c = search needs
 
-empty-requires : tie.Need-empty-requires
-empty-requires c κs = search needs
-
-join-requires : tie.Need-join-requires
-join-requires c κs = search needs
-
 returns : tie.Need-returns
 returns c =
-    let b = c .before .before .before .before .args .self in
-    ap₂ (λ s l. record {
-      at = b .at;
-      count = b .count;
+    let b = c .before .before .args .self in
+    kept (counted-eased b)
+    (ap (λ (x : Branch). record {
+      at = x .at;
+      count = x .count;
       len = b .len - 1;
-      limit = b .limit;
-      strict = s;
-      lax = l;
-      used = b .used;
-      seen = b .seen;
+      limit = x .limit;
+      due = x .due;
+      strict = x .strict;
+      lax = x .lax;
+      used = x .used;
+      seen = x .seen;
       slack = true;
     })
-    (c .before .empty .ensures) (c .join .ensures)
+    (c .before .freed .ensures .0))
 
 pub eased-spec : {M : Type 1} → statement M
-eased-spec = tie.close (tie.spec sub-b empty-requires join-requires returns)
+eased-spec = tie.close (tie.spec freed-requires sub-b returns)

@@ -1,31 +1,22 @@
 -- A segment of its own in which nothing is strict.
+use mathlib.Core.Path.{ap, _∙_}
+use Rattle.branch.specs.declared.Branch.{Branch}
+use Rattle.branch.specs.Inner.Values.{ownB}
 use borrow.Author.Needs.{needs}
+use Rattle.branch.proofs.CountsKept.{kept, counted-lead}
 use Rattle.branch.proofs.Branch.lead.Statement.{statement}
 use Rattle.branch.proofs.Branch.lead.Tie as tie
 
+freed-requires : tie.Need-freed-requires
+freed-requires c κs = search needs
+
 own-requires : tie.Need-own-requires
-own-requires c κs = search needs
-
-empty-requires : tie.Need-empty-requires
-empty-requires c κs = search needs
-
-join-requires : tie.Need-join-requires
-join-requires c κs = search needs
+own-requires c κs = c .freed .ensures .1
 
 returns : tie.Need-returns
 returns c =
-    let own = c .before .before .own .ensures in
-    λ i. record {
-      at = own i .at;
-      count = own i .count;
-      len = own i .len;
-      limit = own i .limit;
-      strict = c .before .empty .ensures i;
-      lax = c .join .ensures i;
-      used = own i .used;
-      seen = own i .seen;
-      slack = own i .slack;
-    }
+    let b = c .before .before .args .self in
+    kept (counted-lead b) (c .own .ensures .0 ∙ ap (λ (x : Branch). ownB x) (c .before .freed .ensures .0))
 
 pub lead-spec : {M : Type 1} → statement M
-lead-spec = tie.close (tie.spec own-requires empty-requires join-requires returns)
+lead-spec = tie.close (tie.spec freed-requires own-requires returns)

@@ -10,19 +10,22 @@ empty-requires c κs = search needs
 
 returns : tie.Need-returns
 returns c =
-    let b = c .before .args .self in
-    ap (λ u. record {
-      at = b .at;
-      count = b .count;
-      len = 1;
-      limit = b .limit;
-      strict = b .strict;
-      lax = b .lax;
-      used = u;
-      seen = b .seen;
-      slack = false;
-    })
-    (c .empty .ensures)
+    let b = c .before .args .self in (
+      ap (λ u. record {
+        at = b .at;
+        count = b .count;
+        len = 1;
+        limit = b .limit;
+        due = b .due;
+        strict = b .strict;
+        lax = b .lax;
+        used = u;
+        seen = b .seen;
+        slack = false;
+      })
+          (c .empty .ensures),
+      c .before .pre,
+    )
 
 pub own-spec : {M : Type 1} → statement M
 own-spec = tie.close (tie.spec empty-requires returns)

@@ -1,23 +1,73 @@
--- By whether the entry is a rule, and whether it is a line.
-use Prim.Native.Nat.{_+_, _-_, _%_}
+-- A rule is used as an item past all others: nothing is taken. Then by whether the item is a line.
+use Prim.Native.Nat.{ℕ, _+_, _-_, _%_, _^_, _≤_, _<_}
 use native.Mathlib.Omega.{arith}
-use mathlib.Core.Path.{refl}
-use borrow.Author.Tests.{lt-ltb, le-ltb}
+use mathlib.Core.Path.{_≡_, refl, sym, ap, _∙_}
+use mathlib.Core.Bool.{Bool, true, false, cond}
+use borrow.Author.Tests.{lt-ltb, le-ltb, ltb-false}
 use lib.Bits.{bitOr}
+use lib.Dec.{ltb}
+use Rattle.lines.specs.declared.LineSet.{LineSet}
+use Rattle.lines.specs.Inner.Set.{addS, takeS}
 use Rattle.lines.proofs.Word.{shl-one}
-use Rattle.branch.specs.Inner.Values.{usingB}
+use Rattle.lines.proofs.MemberLaws.{member-past, add-past, take-past}
+use Rattle.branch.specs.declared.Branch.{Branch}
+use Rattle.branch.specs.Inner.Values.{itemOf, spentB, usingB}
+use Rattle.branch.proofs.CountsKept.{kept, counted-using}
 use borrow.Author.Needs.{needs}
 use Rattle.branch.proofs.Branch.using.Statement.{statement}
 use Rattle.branch.proofs.Branch.using.Tie as tie
 
+-- what is done with the item is done with e - P, and nothing for a rule
+module _ (P e : ℕ) where
+  taken : (s : LineSet) → takeS s (itemOf P e) ≡ cond (ltb e P) s (takeS s (e - P))
+  unfolding itemOf
+  taken s = go (ltb e P)
+    where
+      go : (v : Bool) → takeS s (cond v 192 (e - P)) ≡ cond v s (takeS s (e - P))
+      go true = take-past s 192 (omega arith)
+      go false = refl
+
+  added : (s : LineSet) → addS s (itemOf P e) ≡ cond (ltb e P) s (addS s (e - P))
+  unfolding itemOf
+  added s = go (ltb e P)
+    where
+      go : (v : Bool) → addS s (cond v 192 (e - P)) ≡ cond v s (addS s (e - P))
+      go true = add-past s 192 (omega arith)
+      go false = refl
+
+  left-due : (b : Branch) → spentB b (itemOf P e) ≡ cond (ltb e P) (b .due) (spentB b (e - P))
+  unfolding itemOf spentB
+  left-due b = go (ltb e P)
+    where
+      go : (v : Bool) → spentB b (cond v 192 (e - P)) ≡ cond v (b .due) (spentB b (e - P))
+      go true = ap (λ (x : Bool). cond x (b .due - 1) (b .due)) (member-past (b .strict) 192 (omega arith))
+      go false = refl
+
+  module _ (T seen : ℕ) where
+    abbrev lit : Bool → ℕ
+    lit v = cond v seen (cond (ltb (e - P) T) (bitOr seen (2 ^ ((e - P) % 64))) seen)
+
+    line-seen : T ≤ 64 → itemOf P e < T → bitOr seen (2 ^ (itemOf P e % 64)) ≡ lit (ltb e P)
+    unfolding itemOf
+    line-seen few h = go (ltb e P) h
+      where
+        go : (v : Bool) → cond v 192 (e - P) < T → bitOr seen (2 ^ (cond v 192 (e - P) % 64)) ≡ lit v
+        go true k = absurd (omega arith)
+        go false k = rw (lt-ltb (e - P) T k) refl
+
+    none-seen : T ≤ itemOf P e → seen ≡ lit (ltb e P)
+    unfolding itemOf
+    none-seen h = go (ltb e P) h
+      where
+        go : (v : Bool) → T ≤ cond v 192 (e - P) → seen ≡ lit v
+        go true k = refl
+        go false k = rw (le-ltb (e - P) T k) refl
+
 add-b : tie.Need-add-b
 add-b c = search needs
 
-returns : tie.Need-returns
-unfolding usingB
-returns c =
-    let start = c .before .before .before .before .before in
-    rw (lt-ltb (start .args .e) (start .args .rules) (c .if1 .taken)) refl
+item-of-requires : tie.Need-item-of-requires
+item-of-requires c κs = search needs
 
 take-requires : tie.Need-take-requires
 take-requires c κs = search needs
@@ -28,45 +78,59 @@ take-requires-2 c κs = search needs
 add-requires : tie.Need-add-requires
 add-requires c κs = search needs
 
+spent-requires : tie.Need-spent-requires
+spent-requires c κs = search needs
+
 shl-b : tie.Need-shl-b
 shl-b c = search needs
+
+returns : tie.Need-returns
+unfolding usingB
+returns c =
+    let at-spent = c .before in
+    let at-item = at-spent .before .before .before .before in
+    let start = at-item .before .before .before .before .before in
+    let a = start .args in
+    let b = a .self in
+    let item = at-item .item-of .ensures in
+    let low : itemOf (a .rules) (a .e) < a .lines = rw (sym item) (c .if1 .taken) in
+    let bit = shl-one 64 (at-item .item-of .result % 64) (omega arith) in
+    kept (counted-using b (a .rules) (a .lines) (a .e) (a .len) (start .pre .1))
+    (λ i. record {
+      at = b .at + 1;
+      count = b .count;
+      len = a .len;
+      limit = b .limit;
+      due = (at-spent .spent .ensures ∙ ap (spentB b) item ∙ left-due (a .rules) (a .e) b) i;
+      strict = (at-spent .before .before .before .take .ensures ∙ ap (takeS (b .strict)) item ∙ taken (a .rules) (a .e) (b .strict)) i;
+      lax = (at-spent .before .before .take2 .ensures ∙ ap (takeS (b .lax)) item ∙ taken (a .rules) (a .e) (b .lax)) i;
+      used = (at-spent .before .add .ensures ∙ ap (addS (b .used)) item ∙ added (a .rules) (a .e) (b .used)) i;
+      seen = (ap (bitOr (b .seen)) bit ∙ ap (λ (x : ℕ). bitOr (b .seen) (2 ^ (x % 64))) item
+          ∙ line-seen (a .rules) (a .e) (a .lines) (b .seen) (start .pre .0 .1) low) i;
+      slack = b .slack;
+    })
 
 returns-2 : tie.Need-returns-2
 unfolding usingB
 returns-2 c =
-    let start = c .before .before .before .before .before .before .before .before .before in
-    let b = start .args .self in
-    let item = le-ltb (start .args .e) (start .args .rules) (c .before .before .before .before .if1 .left) in
-    let bit = shl-one 64 ((start .args .e - start .args .rules) % 64) (omega arith) in
-    rw (item, lt-ltb _ (start .args .lines) (c .if2 .taken))
+    let at-spent = c .before in
+    let at-item = at-spent .before .before .before .before in
+    let start = at-item .before .before .before .before .before in
+    let a = start .args in
+    let b = a .self in
+    let item = at-item .item-of .ensures in
+    let high : a .lines ≤ itemOf (a .rules) (a .e) = rw (sym item) (c .if1 .left) in
+    kept (counted-using b (a .rules) (a .lines) (a .e) (a .len) (start .pre .1))
     (λ i. record {
       at = b .at + 1;
       count = b .count;
-      len = start .args .len;
+      len = a .len;
       limit = b .limit;
-      strict = c .before .before .before .take .ensures i;
-      lax = c .before .before .take2 .ensures i;
-      used = c .before .add .ensures i;
-      seen = bitOr (b .seen) (bit i);
-      slack = b .slack;
-    })
-
-returns-3 : tie.Need-returns-3
-unfolding usingB
-returns-3 c =
-    let start = c .before .before .before .before .before .before .before .before .before in
-    let b = start .args .self in
-    let item = le-ltb (start .args .e) (start .args .rules) (c .before .before .before .before .if1 .left) in
-    rw (item, le-ltb _ (start .args .lines) (c .if2 .left))
-    (λ i. record {
-      at = b .at + 1;
-      count = b .count;
-      len = start .args .len;
-      limit = b .limit;
-      strict = c .before .before .before .take .ensures i;
-      lax = c .before .before .take2 .ensures i;
-      used = c .before .add .ensures i;
-      seen = b .seen;
+      due = (at-spent .spent .ensures ∙ ap (spentB b) item ∙ left-due (a .rules) (a .e) b) i;
+      strict = (at-spent .before .before .before .take .ensures ∙ ap (takeS (b .strict)) item ∙ taken (a .rules) (a .e) (b .strict)) i;
+      lax = (at-spent .before .before .take2 .ensures ∙ ap (takeS (b .lax)) item ∙ taken (a .rules) (a .e) (b .lax)) i;
+      used = (at-spent .before .add .ensures ∙ ap (addS (b .used)) item ∙ added (a .rules) (a .e) (b .used)) i;
+      seen = none-seen (a .rules) (a .e) (a .lines) (b .seen) high i;
       slack = b .slack;
     })
 
@@ -75,10 +139,11 @@ using-spec =
     tie.close
     (tie.spec
     add-b
-    returns
+    item-of-requires
     take-requires
     take-requires-2
     add-requires
+    spent-requires
     shl-b
-    returns-2
-    returns-3)
+    returns
+    returns-2)

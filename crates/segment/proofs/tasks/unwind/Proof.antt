@@ -10,6 +10,7 @@ use Rattle.card.specs.Format.{nodeCount, kindAt}
 use Rattle.card.specs.Fault.{Sound}
 use Rattle.card.proofs.SoundNodes.{goal-lower, goal-kind, node-here}
 use Rattle.branch.specs.declared.Branch.{Branch}
+use Rattle.branch.specs.Inner.Values.{Counted}
 use Rattle.segment.specs.Inner.Tasks.{nodeOf, total, Laid, Turning, Unwound, Opened}
 use Rattle.segment.proofs.TasksAreAgendas.{laid-short}
 use Rattle.segment.proofs.TurnsTell.{unwound-self, unwound-trans}
@@ -31,11 +32,11 @@ module _ {bs codes : List ℕ} (b : Branch) (s : Sound bs) (l : Laid bs codes (b
       kind-is : kindAt bs (nodeOf (getD codes (b .len - 1) 0)) ≡ k
       kind-is = ap (kindAt bs) (sym e) ∙ sym q
 
-      turning : (k ≡ 1 → ⊥) → k ≤ 4 → Turning bs codes b k
-      turning n m =
+      turning : (k ≡ 1 → ⊥) → k ≤ 4 → Counted b → Turning bs codes b k
+      turning n m d =
           let f = l .fits (b .len - 1) (omega arith) .goal-node in
           let p = goal-kind bs (nodeCount bs) (nodeOf (getD codes (b .len - 1) 0)) f in
-          record { laid = l; some = omega arith; kind = kind-is; low = omega (arith, n, p .0, kind-is); high = m }
+          record { laid = l; some = omega arith; kind = kind-is; low = omega (arith, n, p .0, kind-is); high = m; counted = d }
 
       open-name : k ≡ 1 → Opened bs codes b
       unfolding Opened
@@ -56,7 +57,7 @@ abbrev μ-loop : tie.MeasureT-loop
 μ-loop card agenda₀ c₀ agenda c = total card agenda (c .len)
 
 loop-holds : tie.Need-loop-holds Inv-loop μ-loop
-loop-holds c = unwound-self (c .before .pre .1)
+loop-holds c = unwound-self (c .before .pre .1 .0) (c .before .pre .1 .1)
 
 sub-node : tie.Need-sub-node Inv-loop μ-loop
 sub-node c = search needs
@@ -106,7 +107,7 @@ turn-requires c κs =
     let kind = c .before .before .before .kind in (
       start .pre .0,
       turning (turn .c) (start .pre .0) (turn .inv .laid) some (node .result)
-          (node .ensures) (kind .result) (kind .ensures .0) (c .before .before .if2 .left) (c .before .if3 .left),
+          (node .ensures) (kind .result) (kind .ensures .0) (c .before .before .if2 .left) (c .before .if3 .left) (turn .inv .counted),
     )
 
 loop-less : tie.Need-loop-less Inv-loop μ-loop
