@@ -1,4 +1,5 @@
 -- Theorems about the definitions of specs/ that belong to no one function.
 pub mod SummariesGather
+pub mod CountsKept
 pub mod WalksTell
 pub mod StepsTell

@@ -137,9 +137,9 @@ module _ (P e : ℕ) (low : P ≤ e) (w : Summary) (l : List ℕ) where
       here : (w .slack || member (w .used) (e - P)) ≡ (w .slack || items P (w .used) (size es))
       here = ap (λ b. w .slack || b) (sym (ap (items P (w .used)) q ∙ items-at P (w .used) e low))
 
-  pub item-gathers : e - P < 192 → UsesItem e (gathered P (usingW w (e - P)) (e ∷ l)) (gathered P w l)
+  pub item-gathers : (due : ℕ) → e - P < 192 → UsesItem e (gathered P (usingW w (e - P) due) (e ∷ l)) (gathered P w l)
   unfolding gathered _∪_
-  item-gathers h = record {
+  item-gathers due h = record {
     lists = refl;
     more = record { plus = λ i. ap (λ I. I i) (items-add P (w .used) e low h) };
     slacks = refl;

@@ -3,7 +3,7 @@ use Prim.Native.Nat.{ℕ, suc, _+_, _-_, _≤_, _<_}
 use native.Mathlib.Omega.{arith}
 use native.Mathlib.Numerals.{add-one}
 use mathlib.Core.Path.{_≡_, refl, sym, _∙_, ap, ap₂, subst}
-use mathlib.Core.Bool.{Bool, true, false}
+use mathlib.Core.Bool.{Bool, true, false, cond}
 use mathlib.Core.List.{List, [], _∷_, _++_, append-assoc}
 use lib.ListN.{length, getD, take, drop, drop-of-length-le, length-drop, length-append}
 use lib.Seq.{drop-cons, getD-take, length-take-le}
@@ -13,16 +13,20 @@ use Rattle.calculus.specs.Walk.{goes, stops, _⨾_, goalWalk, clauseWalk}
 use Rattle.calculus.specs.Wanted.{Part, goal, meet, Both, Side}
 use Rattle.calculus.specs.Inner.Trace.{partWalk, Gathered, Ends, Tensors, Withs, Trace, trace-0, trace-⊸, trace-side, trace-rule, trace-item}
 use Rattle.calculus.proofs.WalkExact.{walk-both, walk-lent, walk-side, walk-none, walk-unfit, walk-deep, walk-use, along-walk, trace-along}
-use Rattle.lines.specs.Inner.Set.{Words}
+use Rattle.lines.specs.declared.LineSet.{LineSet}
+use Rattle.lines.specs.Inner.Set.{member, Words}
+use Rattle.lines.specs.Inner.Count.{bit}
+use Rattle.lines.proofs.CountLaws.{bit-one}
 use Rattle.card.specs.declared.Place.{Place}
 use Rattle.card.specs.declared.Refusal.{Refusal}
 use Rattle.card.specs.Verdict.{whereOf, step}
 use Rattle.summary.specs.declared.Branch.{Branch}
 use Rattle.summary.specs.declared.Summary.{Summary}
-use Rattle.summary.specs.Inner.Values.{onB, lentB, steppedB, endedW, tensorW, withW, withoutW, behindW, wrongF}
+use Rattle.summary.specs.Inner.Values.{Counted, onB, lentB, steppedB, endedW, tensorW, pickW, withW, withoutW, usingW, wrongF}
 use Rattle.summary.specs.Inner.Walks.{from, gathered, EndsWith, StopsWith, CannotChoose}
 use Rattle.summary.proofs.SummariesGather.{ended-gathers, never-gathers, tensor-gathers, with-gathers, lend-gathers, item-gathers}
 use Rattle.summary.proofs.SummariesGather.{rule-gathers}
+use Rattle.summary.proofs.CountsKept.{ended-counted, tensor-counted, with-counted, without-counted, using-counted}
 
 -- The given steps
 
@@ -42,33 +46,41 @@ ahead : (steps : List ℕ) (b : Branch) (n : ℕ) → b .given ≤ length steps 
 unfolding from
 ahead steps b n h = let l = length-take-le (b .given) steps h in omega (arith, length-drop n (take (b .given) steps))
 
+-- a use is nested one deeper
+nested : {n : ℕ} {es : Scope} {p : Part} {g : Gathered} → 1 ≤ n → Trace (suc (n - 1)) es p g → Trace n es p g
+nested {n} {es} {p} {g} h t = subst (λ m. Trace m es p g) (omega arith) t
+
 module _ {steps : List ℕ} {b : Branch} {es : Scope} where
   -- No step is taken
 
-  pub ends-here : {p : Part} (slack : Bool) → b .at ≤ b .given → ((w : Gathered) → Ends w slack → Trace (b .depth) es p w)
-      → EndsWith steps b es p (endedW b slack true)
-  ends-here slack h c = record {
+  pub ends-here : {strict : LineSet} {p : Part} (slack : Bool) → b .at ≤ b .given → ((w : Gathered) → Ends w slack → Trace (b .depth) es p w)
+      → EndsWith strict steps b es p (endedW b slack true)
+  ends-here {strict} slack h c = record {
     onward = omega arith;
     bounded = h;
     list = [];
     along = refl;
     trace = c (gathered (b .rules) (endedW b slack true) []) (ended-gathers (b .rules) b slack);
+    counted = ended-counted strict b slack true;
+    pace = omega arith;
   }
 
-  pub fails-here : b .at ≤ b .given → EndsWith steps b es (goal zeroᴳ) (endedW b false false)
-  fails-here h = record {
+  pub fails-here : {strict : LineSet} → b .at ≤ b .given → EndsWith strict steps b es (goal zeroᴳ) (endedW b false false)
+  fails-here {strict} h = record {
     onward = omega arith;
     bounded = h;
     list = [];
     along = refl;
     trace = trace-0 (never-gathers (b .rules) b);
+    counted = ended-counted strict b false false;
+    pace = omega arith;
   }
 
   -- what has ended has gone along its list
-  pub ends-walk : {p : Part} {w : Summary} → b .given ≤ length steps → EndsWith steps b es p w
+  pub ends-walk : {strict : LineSet} {p : Part} {w : Summary} → b .given ≤ length steps → EndsWith strict steps b es p w
       → partWalk (b .depth) p es (b .at) (from steps b (b .at)) ≡ goes (w .at) (from steps b (w .at))
   unfolding gathered
-  ends-walk {p} {w} g k =
+  ends-walk {p = p} {w = w} g k =
       ap (partWalk (b .depth) p es (b .at)) (sym (k .along))
       ∙ along-walk (trace-along (k .trace)) (b .at) (from steps b (w .at))
       ∙ ap (λ (i : ℕ). goes i (from steps b (w .at))) count
@@ -92,7 +104,8 @@ module _ {steps : List ℕ} {b : Branch} {es : Scope} where
       walk = walk-both (b .depth) parts es (b .at) (from steps b (b .at)) ∙ ap (λ x. x ⨾ partWalk (b .depth) q es) (s .walk);
     }
 
-    pub second-stops : {w : Summary} → b .given ≤ length steps → EndsWith steps b es p w → StopsWith steps (onB b (w .at)) es q f
+    pub second-stops : {strict : LineSet} {w : Summary} {met : ℕ} → b .given ≤ length steps → EndsWith strict steps b es p w
+        → StopsWith steps (onB b (w .at) met) es q f
         → StopsWith steps b es r f
     unfolding _⨾_ from
     second-stops g k s = record {
@@ -104,10 +117,12 @@ module _ {steps : List ℕ} {b : Branch} {es : Scope} where
           ∙ s .walk;
     }
 
-  module _ {p q r : Part} {w v : Summary} (k : EndsWith steps b es p w) (m : EndsWith steps (onB b (w .at)) es q v) where
-    both-end : (u : Summary) → u .at ≡ v .at → Trace (b .depth) es r (gathered (b .rules) u (k .list ++ m .list)) → EndsWith steps b es r u
+  module _ {strict : LineSet} {p q r : Part} {w v : Summary} {met : ℕ} (k : EndsWith strict steps b es p w)
+      (m : EndsWith strict steps (onB b (w .at) met) es q v) where
+    both-end : (u : Summary) → u .at ≡ v .at → Counted strict (b .met) u → u .met + b .at ≤ b .met + u .at
+        → Trace (b .depth) es r (gathered (b .rules) u (k .list ++ m .list)) → EndsWith strict steps b es r u
     unfolding from
-    both-end u e c = record {
+    both-end u e n s c = record {
       onward = let i = k .onward in let j = m .onward in omega arith;
       bounded = let j = m .bounded in omega arith;
       list = k .list ++ m .list;
@@ -117,31 +132,46 @@ module _ {steps : List ℕ} {b : Branch} {es : Scope} where
           ∙ ap (λ l. k .list ++ l) (m .along)
           ∙ k .along;
       trace = c;
+      counted = n;
+      pace = s;
     }
 
-    pub tensor-ends : Words (w .used) → Words (v .used)
+    -- the right part was walked from the left one's count
+    pub tensor-ends : met ≡ w .met → Words (w .used) → Words (v .used)
         → ((x y z : Gathered) → Tensors z x y → Trace (b .depth) es p x → Trace (b .depth) es q y → Trace (b .depth) es r z)
-        → EndsWith steps b es r (tensorW w v)
-    tensor-ends x y c =
-        both-end (tensorW w v) refl (c _ _ _ (tensor-gathers (b .rules) w v (k .list) (m .list) x y) (k .trace) (m .trace))
+        → EndsWith strict steps b es r (tensorW w v)
+    tensor-ends e x y c =
+        both-end (tensorW w v) refl (tensor-counted strict (b .met) w (k .counted) v (rw e at (m .counted)))
+        (let i = k .pace in let j = m .pace in omega (arith, i, j, e))
+        (c _ _ _ (tensor-gathers (b .rules) w v (k .list) (m .list) x y) (k .trace) (m .trace))
 
-    pub with-ends : Words (w .used) → Words (v .used)
+    -- the right side was walked from the same count
+    pub with-ends : met ≡ b .met → Words (w .used) → Words (v .used)
         → ((x y z : Gathered) → Withs es z x y → Trace (b .depth) es p x → Trace (b .depth) es q y → Trace (b .depth) es r z)
-        → EndsWith steps b es r (withW w v)
-    with-ends x y c =
-        both-end (withW w v) refl (c _ _ _ (with-gathers (b .rules) w v (k .list) (m .list) x y es) (k .trace) (m .trace))
+        → EndsWith strict steps b es r (withW w v)
+    unfolding pickW
+    with-ends e x y c =
+        both-end (withW w v) refl (with-counted strict (b .met) w (k .counted) v (rw e at (m .counted))) (by (w .slack))
+        (c _ _ _ (with-gathers (b .rules) w v (k .list) (m .list) x y es) (k .trace) (m .trace))
+      where
+        by : (slack : Bool) → cond slack (v .met) (w .met) + b .at ≤ b .met + v .at
+        by true = let i = k .onward in let j = m .pace in omega (arith, i, j, e)
+        by false = let i = k .pace in let j = m .onward in omega (arith, i, j)
 
   -- A lend
 
-  pub lend-ends : {D : Clause} {G : Goal} {w : Summary} → b .rules ≤ b .count → size es ≡ b .count
-      → EndsWith steps (lentB b) (lend es D) (goal G) w → EndsWith steps b es (goal (lolliᴳ D G)) (withoutW w (b .count - b .rules))
+  pub lend-ends : {strict : LineSet} {D : Clause} {G : Goal} {w : Summary} → b .rules ≤ b .count → size es ≡ b .count
+      → member strict (b .count - b .rules) ≡ false → EndsWith strict steps (lentB b) (lend es D) (goal G) w
+      → EndsWith strict steps b es (goal (lolliᴳ D G)) (withoutW w (b .count - b .rules))
   unfolding from
-  lend-ends {w} h q k = record {
+  lend-ends {strict = strict} {w = w} h q n k = record {
     onward = k .onward;
     bounded = k .bounded;
     list = k .list;
     along = k .along;
     trace = trace-⊸ (lend-gathers (b .rules) (b .count) h w (k .list) es q) (k .trace);
+    counted = without-counted strict (b .met) w (k .counted) (b .count - b .rules) n;
+    pace = k .pace;
   }
 
   pub lend-stops : {D : Clause} {G : Goal} {f : Refusal} → StopsWith steps (lentB b) (lend es D) (goal G) f
@@ -156,17 +186,19 @@ module _ {steps : List ℕ} {b : Branch} {es : Scope} where
   -- A choice
 
   module _ {p q : Part} {c : ℕ} (side : Side es p c q) (next : from steps b (b .at) ≡ c ∷ from steps b (b .at + 1)) where
-    pub side-ends : {w : Summary} → EndsWith steps (onB b (b .at + 1)) es q w → EndsWith steps b es p w
+    pub side-ends : {strict : LineSet} {w : Summary} → EndsWith strict steps (onB b (b .at + 1) (b .met)) es q w → EndsWith strict steps b es p w
     unfolding from
-    side-ends {w} k = record {
+    side-ends {w = w} k = record {
       onward = let o = k .onward in omega arith;
       bounded = k .bounded;
       list = c ∷ k .list;
       along = ap (λ l. c ∷ l) (k .along) ∙ sym next;
       trace = trace-side side (rule-gathers (b .rules) c w (k .list)) (k .trace);
+      counted = k .counted;
+      pace = let o = k .pace in omega arith;
     }
 
-    pub side-stops : {f : Refusal} → StopsWith steps (onB b (b .at + 1)) es q f → StopsWith steps b es p f
+    pub side-stops : {f : Refusal} → StopsWith steps (onB b (b .at + 1) (b .met)) es q f → StopsWith steps b es p f
     unfolding from
     side-stops s = record {
       index = s .index;
@@ -191,29 +223,32 @@ module _ {steps : List ℕ} {b : Branch} {es : Scope} where
   -- A use
 
   module _ {a e : ℕ} (deep : 1 ≤ b .depth) (next : from steps b (b .at) ≡ e ∷ from steps b (b .at + 1)) where
-    pub use-ends : {w : Summary} (gone : Bool) → linearAt es e ≡ gone → (gone ≡ true → b .rules ≤ e) → e - b .rules < 192
-        → EndsWith steps (steppedB b 1) es (meet a (clauseAt es e)) w → EndsWith steps b es (goal (atomᴳ a)) (behindW w gone (b .rules) e)
-    unfolding from behindW
-    use-ends {w} gone q low few k = record {
-      onward = let o = k .onward in at gone (λ u. b .at ≤ u .at) (omega arith) (omega arith);
-      bounded = at gone (λ u. u .at ≤ b .given) (k .bounded) (k .bounded);
-      list = e ∷ k .list;
-      along = at gone (λ u. (e ∷ k .list) ++ from steps b (u .at) ≡ from steps b (b .at)) further further;
-      trace = subst (λ n. Trace n es (goal (atomᴳ a)) (gathered (b .rules) (behindW w gone (b .rules) e) (e ∷ k .list))) (omega arith)
-          (by gone q low);
-    }
-      where
-        at : (g : Bool) (P : Summary → Type 0) → P (behindW w true (b .rules) e) → P w → P (behindW w g (b .rules) e)
-        at true P x y = x
-        at false P x y = y
+    module _ {strict : LineSet} {w : Summary} (k : EndsWith strict steps (steppedB b 1) es (meet a (clauseAt es e)) w) where
+      pub rule-ends : linearAt es e ≡ false → EndsWith strict steps b es (goal (atomᴳ a)) w
+      unfolding from
+      rule-ends q = record {
+        onward = let o = k .onward in omega arith;
+        bounded = k .bounded;
+        list = e ∷ k .list;
+        along = ap (λ l. e ∷ l) (k .along) ∙ sym next;
+        trace = nested deep (trace-rule q (rule-gathers (b .rules) e w (k .list)) (k .trace));
+        counted = k .counted;
+        pace = let o = k .pace in omega arith;
+      }
 
-        further : (e ∷ k .list) ++ from steps b (w .at) ≡ from steps b (b .at)
-        further = ap (λ l. e ∷ l) (k .along) ∙ sym next
-
-        by : (g : Bool) → linearAt es e ≡ g → (g ≡ true → b .rules ≤ e)
-            → Trace (suc (b .depth - 1)) es (goal (atomᴳ a)) (gathered (b .rules) (behindW w g (b .rules) e) (e ∷ k .list))
-        by true r l = trace-item r (item-gathers (b .rules) e (l refl) w (k .list) few) (k .trace)
-        by false r l = trace-rule r (rule-gathers (b .rules) e w (k .list)) (k .trace)
+      -- the step pays for a must line
+      pub item-ends : linearAt es e ≡ true → b .rules ≤ e → e - b .rules < 192 → (due : ℕ) → due ≡ bit (member strict (e - b .rules))
+          → EndsWith strict steps b es (goal (atomᴳ a)) (usingW w (e - b .rules) due)
+      unfolding from
+      item-ends q low few due ed = record {
+        onward = let o = k .onward in omega arith;
+        bounded = k .bounded;
+        list = e ∷ k .list;
+        along = ap (λ l. e ∷ l) (k .along) ∙ sym next;
+        trace = nested deep (trace-item q (item-gathers (b .rules) e low w (k .list) due few) (k .trace));
+        counted = using-counted strict (b .met) w (k .counted) (e - b .rules) due ed;
+        pace = let o = k .pace in let d = bit-one (member strict (e - b .rules)) in omega (arith, o, d, ed);
+      }
 
     pub use-stops : usable (es .fits) a (clauseAt es e) ≡ true → {f : Refusal}
         → StopsWith steps (steppedB b 1) es (meet a (clauseAt es e)) f → StopsWith steps b es (goal (atomᴳ a)) f

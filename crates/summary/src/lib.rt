@@ -9,30 +9,32 @@ use card::format::left;
 use card::format::right;
 use lines::LineSet;
 ghost use mathlib.Core.Path.{_≡_};
-ghost use mathlib.Core.Bool.{true};
 ghost use Prim.Native.Nat.{_+_, _*_, _≤_, _<_};
 ghost use lib.ListN.{length};
 ghost use Rattle.lines.specs.Inner.Set.{Words};
-ghost use Rattle.summary.specs.Inner.Values.{onB, lentB, steppedB, endedW, coverW, tensorW, withW, withoutW, usingW, behindW, wrongF};
+ghost use Rattle.summary.specs.Inner.Values.{onB, lentB, steppedB, endedW, coverW, pickW, tensorW, withW, withoutW, usingW, wrongF};
 ghost use Rattle.summary.specs.declared.Step.the-variants.{Wrong};
 ghost use Rattle.summary.specs.Inner.Walks.{Ready, Stepping, Siding};
 
-// Where a walk stands: P and how many steps are given; its place in the list, how many entries stand in scope, and the nesting left.
+// Where a walk stands: P and how many steps are given; its place in the list, how many entries stand in scope, and the nesting left; and
+// how many must lines were met (used) on the way here.
 pub struct Branch {
     pub rules: usize,
     pub given: usize,
     pub at: usize,
     pub count: usize,
     pub depth: usize,
+    pub met: usize,
 }
 
-// What a walk that has ended gathered: the place reached in the list, the outer items taken, whether some ⊤ can take more, and whether
-// all items divided.
+// What a walk that has ended gathered: the place reached in the list, the outer items taken, whether some ⊤ can take more, whether all
+// items divided, and the running count of the must lines met where the walk ended.
 pub struct Summary {
     pub at: usize,
     pub used: LineSet,
     pub slack: bool,
     pub alive: bool,
+    pub met: usize,
 }
 
 // What a walk answers: what it gathered, or its first wrong step.
@@ -48,9 +50,9 @@ pub enum Step {
 }
 
 impl Branch {
-    // Further on in the list.
-    pub fn on(self, at: usize) -> Branch
-        ensures { λ r. ⌜ r ≡ onB self at ⌝ }
+    // Further on in the list, behind as many must lines.
+    pub fn on(self, at: usize, met: usize) -> Branch
+        ensures { λ r. ⌜ r ≡ onB self at met ⌝ }
     {
         Branch {
             rules: self.rules,
@@ -58,6 +60,7 @@ impl Branch {
             at,
             count: self.count,
             depth: self.depth,
+            met,
         }
     }
 
@@ -72,6 +75,7 @@ impl Branch {
             at: self.at,
             count: self.count + 1,
             depth: self.depth,
+            met: self.met,
         }
     }
 
@@ -86,6 +90,7 @@ impl Branch {
             at: self.at + 1,
             count: self.count,
             depth: self.depth - nested,
+            met: self.met,
         }
     }
 
@@ -98,12 +103,14 @@ impl Branch {
             used: LineSet::empty(),
             slack,
             alive,
+            met: self.met,
         }
     }
 }
 
 impl Summary {
-    // Both parts of a ⊗: their shares are apart. The words of both sets are those of the machine.
+    // Both parts of a ⊗: their shares are apart, and the right one was walked from the left one's count. The words of both sets are those of
+    // the machine.
     pub fn tensor(self, w: Summary) -> Summary
         ensures { λ r. ⌜ r ≡ tensorW self w ⌝ }
         ensures { λ _. ⌜ Words (self .used) × Words (w .used) ⌝ }
@@ -115,6 +122,7 @@ impl Summary {
             used: used.join(w.used),
             slack: either(self.slack, w.slack),
             alive: both(both(self.alive, w.alive), apart),
+            met: w.met,
         }
     }
 
@@ -124,6 +132,16 @@ impl Summary {
     {
         let other = w.used;
         either(self.slack, other.cut(self.used).is_empty())
+    }
+
+    // The count of both sides of a &, each walked from the same count: that of a side without slack, which takes all that the other takes.
+    fn pick(self, w: Summary) -> usize
+        ensures { λ r. ⌜ r ≡ pickW self w ⌝ }
+    {
+        if self.slack {
+            return w.met;
+        }
+        self.met
     }
 
     // Both sides of a &: each covers the other. The words of both sets are those of the machine.
@@ -138,6 +156,7 @@ impl Summary {
             used: used.join(w.used),
             slack: both(self.slack, w.slack),
             alive: both(both(self.alive, w.alive), agree),
+            met: self.pick(w),
         }
     }
 
@@ -152,12 +171,14 @@ impl Summary {
             used: used.take(item),
             slack: self.slack,
             alive: both(self.alive, gone),
+            met: self.met,
         }
     }
 
-    // Behind the use of a line or lent clause: its conditions did not take it.
-    fn using(self, item: usize) -> Summary
-        ensures { λ r. ⌜ r ≡ usingW self item ⌝ }
+    // Behind the use of a line or lent clause: its conditions did not take it. `due` is 1 where it is a must line, else 0.
+    pub fn using(self, item: usize, due: usize) -> Summary
+        requires { ⌜ self .met + due ≤ 256 ⌝ }
+        ensures { λ r. ⌜ r ≡ usingW self item due ⌝ }
     {
         let used = self.used;
         let free = !used.has(item);
@@ -166,18 +187,8 @@ impl Summary {
             used: used.add(item),
             slack: self.slack,
             alive: both(self.alive, free),
+            met: self.met + due,
         }
-    }
-
-    // Behind the use of an entry: a rule stays.
-    pub fn behind(self, gone: bool, rules: usize, e: usize) -> Summary
-        requires { ⌜ (gone ≡ true → rules ≤ e) ⌝ }
-        ensures { λ r. ⌜ r ≡ behindW self gone rules e ⌝ }
-    {
-        if gone {
-            return self.using(e - rules);
-        }
-        self
     }
 }
 

@@ -18,6 +18,7 @@ use Rattle.calculus.proofs.TraceExact.{trace-unique, listed-accounts}
 use Rattle.calculus.proofs.WalkExact.{job-walk, divides-accounts}
 use Rattle.lines.specs.declared.LineSet.{LineSet}
 use Rattle.lines.specs.Inner.Set.{isEmptyS, fullS, cutS, Words}
+use Rattle.lines.specs.Inner.Count.{countS}
 use Rattle.card.specs.Format.{nodeCount, ruleCount, lineCount, goalNode, stepLimit}
 use Rattle.card.specs.declared.Refusal.{Refusal}
 use Rattle.card.specs.declared.Checked.{Checked}
@@ -36,11 +37,12 @@ use Rattle.summary.specs.declared.Branch.{Branch}
 use Rattle.summary.specs.declared.Summary.{Summary}
 use Rattle.summary.specs.declared.Walked.{Walked}
 use Rattle.summary.specs.declared.Walked.the-variants.{Ended, Astray}
-use Rattle.summary.specs.Inner.Values.{startB, onB}
+use Rattle.summary.specs.Inner.Values.{Counted, startB, onB}
 use Rattle.summary.specs.Inner.Walks.{from, gathered, EndsWith, StopsWith, Tells, Ready, GoalReady, GoalWalks}
 use Rattle.trace.specs.Steps.{walkFault, stepsFault}
 use Rattle.trace.specs.Inner.Listing.{Covered, Ending, early, bare, whole, foundBy, Following, strays, divides-not, follows}
 use Rattle.summary.proofs.SummariesGather.{within-says}
+use Rattle.summary.proofs.CountsKept.{all-met}
 use Rattle.summary.proofs.WalksTell.{from-next, ends-walk}
 
 -- The test of the items
@@ -76,17 +78,17 @@ module _ {bs : List ℕ} (s : Sound bs) (w : Summary) where
       pub slack-covers : w .slack ≡ true → Says true (Covered bs w)
       slack-covers v = (λ h. record { alive = alive; within = lies; all-strict = inl v }, λ c. refl)
 
-      pub strict-covers : w .slack ≡ false → (y : LineSet) → y ≡ strictOf bs → Words y → (r : Bool) → r ≡ isEmptyS (cutS y (w .used))
-          → Says r (Covered bs w)
+      pub strict-covers : w .slack ≡ false → Counted (strictOf bs) 0 w → (all : ℕ) → all ≡ countS (strictOf bs)
+          → Says (eqb (w .met) all) (Covered bs w)
       unfolding jobOf
-      strict-covers v y ey t r er = (
-        λ h. record { alive = alive; within = lies; all-strict = inr (all .0 h) },
-        λ c. all .1 (must (c .all-strict)),
+      strict-covers v n all ea = (
+        λ h. record { alive = alive; within = lies; all-strict = inr (every .0 h) },
+        λ c. every .1 (must (c .all-strict)),
       )
         where
-          all : Says r (Within (linesWith bs 1) (items (ruleCount bs) (w .used)))
-          all = rw er (subst (λ I. Says (isEmptyS (cutS y (w .used))) (Within I (items (ruleCount bs) (w .used))))
-              (ap (items (ruleCount bs)) ey ∙ strict-items s) (within-says (ruleCount bs) y (w .used) t p))
+          every : Says (eqb (w .met) all) (Within (linesWith bs 1) (items (ruleCount bs) (w .used)))
+          every = rw ea (subst (λ I. Says (eqb (w .met) (countS (strictOf bs))) (Within I (items (ruleCount bs) (w .used))))
+              (strict-items s) (all-met (strictOf bs) w alive v n (ruleCount bs)))
 
           must : (w .slack ≡ true) ⊎ Within (linesWith bs 1) (items (ruleCount bs) (w .used))
               → Within (linesWith bs 1) (items (ruleCount bs) (w .used))
@@ -142,6 +144,7 @@ module _ {bs steps nodes : List ℕ} {linear : List Bool} {k : ℕ} (s : Sound b
           entered = entered;
           scoped = omega arith;
           few = let l = f .lines in omega arith;
+          met = omega arith;
         },
         record {
           goal-node = sound-root s;
@@ -155,11 +158,11 @@ module _ {bs steps nodes : List ℕ} {linear : List Bool} {k : ℕ} (s : Sound b
   module _ (b : Branch) (eb : b ≡ startB bs k) (node : ℕ) (en : node ≡ goalNode bs) {nodes′ : List ℕ} {linear′ : List Bool} {r : Walked}
       (W : GoalWalks bs steps nodes nodes′ linear linear′ b node r) where
     -- what the walk tells, at the job's goal in its scope
-    walk-told : Tells steps (startB bs k) (jobOf bs .scope) (goal (jobOf bs .goal)) r
+    walk-told : Tells (strictOf bs) steps (startB bs k) (jobOf bs .scope) (goal (jobOf bs .goal)) r
     unfolding jobOf startB
     walk-told =
         let F : GoalWalks bs steps nodes nodes′ linear linear′ (startB bs k) (goalNode bs) r = rw (eb, en) at W in
-        subst (λ es. Tells steps (startB bs k) es (goal (goalAt bs (goalNode bs))) r) scope (F .tells)
+        subst (λ es. Tells (strictOf bs) steps (startB bs k) es (goal (goalAt bs (goalNode bs))) r) scope (F .tells)
 
     -- where the walk of the given steps has come to
     walk-is : partWalk (jobOf bs .depth) (goal (jobOf bs .goal)) (jobOf bs .scope) 0 (take k steps) ≡ jobWalk (jobOf bs) (take k steps)
@@ -173,7 +176,7 @@ module _ {bs steps nodes : List ℕ} {linear : List Bool} {k : ℕ} (s : Sound b
         )
 
     module _ (w : Summary) (e : r ≡ Ended w) where
-      ended : EndsWith steps (startB bs k) (jobOf bs .scope) (goal (jobOf bs .goal)) w
+      ended : EndsWith (strictOf bs) steps (startB bs k) (jobOf bs .scope) (goal (jobOf bs .goal)) w
       unfolding Tells
       ended = rw e at walk-told
 
@@ -185,6 +188,10 @@ module _ {bs steps nodes : List ℕ} {linear : List Bool} {k : ℕ} (s : Sound b
       pub end-short : w .at ≤ 255
       unfolding startB
       end-short = let u = ended .bounded in omega arith
+
+      pub end-counted : Counted (strictOf bs) 0 w
+      unfolding startB
+      end-counted = ended .counted
 
       -- some walk of the list, at whatever nesting, is this one
       same-walk : {n : ℕ} (g : Gathered) → Trace n (jobOf bs .scope) (goal (jobOf bs .goal)) g → g .list ≡ take k steps
@@ -201,7 +208,7 @@ module _ {bs steps nodes : List ℕ} {linear : List Bool} {k : ℕ} (s : Sound b
           under h = omega arith
 
           next : from steps (startB bs k) (w .at) ≡ getD steps (w .at) 0 ∷ from steps (startB bs k) (w .at + 1)
-          next = from-next steps (onB (startB bs k) (w .at)) (under (ended .bounded)) long
+          next = from-next steps (onB (startB bs k) (w .at) 0) (under (ended .bounded)) long
 
       module _ (at : w .at ≡ k) where
         none-left : from steps (startB bs k) (w .at) ≡ []

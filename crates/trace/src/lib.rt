@@ -19,7 +19,9 @@ ghost use Rattle.card.specs.Format.{stepLimit};
 ghost use Rattle.card.specs.Verdict.{told, refuse, whereOf};
 ghost use Rattle.card.specs.Fault.{Sound};
 ghost use Rattle.lines.specs.Inner.Set.{isEmptyS, cutS, Words};
-ghost use Rattle.summary.specs.Inner.Values.{startB};
+ghost use Rattle.lines.specs.Inner.Count.{countS};
+ghost use Rattle.scope.specs.Inner.Sets.{strictOf};
+ghost use Rattle.summary.specs.Inner.Values.{startB, Counted};
 ghost use Rattle.trace.specs.Inner.Listing.{Covered, Ending, foundBy, Following};
 
 // Where the walk of the card's goal begins.
@@ -36,6 +38,7 @@ fn start(card: &[u8], k: usize) -> Branch
         at: 0,
         count: p + t,
         depth,
+        met: 0,
     }
 }
 
@@ -47,9 +50,11 @@ fn within(s: LineSet, t: LineSet) -> bool
     s.cut(t).is_empty()
 }
 
-// The items divided, they lie within the lines, and there is slack or every must line is among them.
-fn covers(card: &[u8], w: Summary) -> bool
+// The items divided, they lie within the lines, and there is slack or every must line is among them: all of them are met.
+fn covers(card: &[u8], w: Summary, all: usize) -> bool
     requires { ⌜ Sound (now card) ⌝ }
+    requires { ⌜ Counted (strictOf (now card)) 0 w ⌝ }
+    requires { ⌜ all ≡ countS (strictOf (now card)) ⌝ }
     ensures { λ r. ⌜ Says r (Covered (now (card .entry)) w) ⌝ }
 {
     if !w.alive {
@@ -63,7 +68,7 @@ fn covers(card: &[u8], w: Summary) -> bool
     if w.slack {
         return true;
     }
-    within(scope::strict_lines(card), w.used)
+    w.met == all
 }
 
 // 18 where the walk ended before the last of the k steps: the first that it did not want.
@@ -75,17 +80,19 @@ fn length_check(w: Summary, k: usize) -> Checked
     refuse(at != k, 18, Place::Step(at as u16))
 }
 
-// What is wrong with a list whose walk has ended: 18, then 19 where the items do not divide.
-fn end_check(card: &[u8], w: Summary, k: usize) -> Checked
+// What is wrong with a list whose walk has ended: 18, then 19 where the items do not divide. `all` is how many must lines there are.
+fn end_check(card: &[u8], w: Summary, k: usize, all: usize) -> Checked
     requires { ⌜ Sound (now card) ⌝ }
     requires { ⌜ w .at ≤ 255 ⌝ }
+    requires { ⌜ Counted (strictOf (now card)) 0 w ⌝ }
+    requires { ⌜ all ≡ countS (strictOf (now card)) ⌝ }
     ensures { λ r. ⌜ Ending (now (card .entry)) w k (told r) ⌝ }
 {
     let length = length_check(w, k);
     let Checked::Sound = length else {
         return length;
     };
-    refuse(!covers(card, w), 19, Place::Steps)
+    refuse(!covers(card, w, all), 19, Place::Steps)
 }
 
 // What the walk itself found: nothing where it ended.
@@ -114,5 +121,6 @@ pub fn steps_check(card: &[u8], steps: &[u8], k: usize) -> Checked
     let Walked::Ended(w) = walked else {
         return found(walked);
     };
-    end_check(card, w, k)
+    let strict = scope::strict_lines(card);
+    end_check(card, w, k, strict.count())
 }

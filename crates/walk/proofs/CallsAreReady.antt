@@ -3,7 +3,7 @@ use Prim.Native.Nat.{ℕ, _+_, _-_, _*_, _≤_, _<_}
 use native.Mathlib.Omega.{arith}
 use native.Mathlib.Numerals.{add-one}
 use mathlib.Core.Path.{_≡_, refl, sym, _∙_, ap, subst}
-use mathlib.Core.Logic.{⊎-elim}
+use mathlib.Core.Logic.{_⊎_, inl, ⊎-elim}
 use mathlib.Core.Bool.{Bool, true, false, false≢true}
 use mathlib.Core.List.{List}
 use lib.ListN.{length, getD, set}
@@ -12,17 +12,21 @@ use Rattle.calculus.specs.Derivation.{Scope, clauseAt, lend}
 use Rattle.calculus.specs.Wanted.{Part, goal, meet, Both, parts-⊗, parts-&, parts-⊸, Side, side-⊕₁, side-⊕₂, side-&₁, side-&₂}
 use Rattle.calculus.specs.Inner.Trace.{Gathered, Ends, Tensors, Withs, Trace, trace-⊗, trace-&}
 use Rattle.calculus.specs.Inner.Trace.{trace-head, trace-recipe}
-use Rattle.lines.specs.Inner.Set.{Words}
+use Rattle.lines.specs.Inner.Set.{member, Words}
+use Rattle.lines.specs.Inner.Count.{bit}
+use Rattle.lines.proofs.CountLaws.{bit-one}
 use Rattle.card.specs.Format.{nodeCount, ruleCount, kindAt, leftAt, rightAt}
 use Rattle.card.specs.Fault.{goalPart, clausePart, heightAt}
 use Rattle.card.specs.Decode.{goalAt, clauseOf, scopeOf}
 use Rattle.card.proofs.CardChecked.{sound-front}
-use Rattle.card.proofs.NodesDecoded.{reads-name, reads-never}
+use Rattle.card.proofs.NodesDecoded.{reads-name, reads-never, line-within}
 use Rattle.card.proofs.SoundNodes.{goal-lower, goal-kind, goal-above, clause-lower, clause-above, clause-kind, node-here, height-low}
 use Rattle.card.proofs.SoundNodes.{height-pos, height-parts, parts-below, both-parts, either-parts, lend-parts, recipe-parts}
 use Rattle.card.proofs.SoundNodes.{one-of-parts, menu-parts, sound-both, sound-either, sound-lend, sound-recipe, sound-one-of}
 use Rattle.card.proofs.SoundNodes.{sound-menu, usable-name, usable-rest, usable-recipe}
+use Rattle.scope.specs.Inner.Sets.{strictOf}
 use Rattle.scope.specs.Inner.Tables.{scopeIn, Kept}
+use Rattle.scope.proofs.SetsAreItems.{items-at, strict-items}
 use Rattle.scope.proofs.TablesAreScopes.{scope-size, scope-clause, scope-linear, scope-kept, lend-scope, entered-kept, entered-more}
 use Rattle.scope.proofs.TablesAreScopes.{kept-self, kept-trans, kept-again, kept-set}
 use Rattle.card.specs.declared.Refusal.{Refusal}
@@ -32,11 +36,11 @@ use Rattle.summary.specs.declared.Walked.{Walked}
 use Rattle.summary.specs.declared.Walked.the-variants.{Ended, Astray}
 use Rattle.summary.specs.declared.Step.{Step}
 use Rattle.summary.specs.declared.Step.the-variants.{Taken, Wrong}
-use Rattle.summary.specs.Inner.Values.{onB, lentB, steppedB, endedW, tensorW, withW, withoutW, behindW}
+use Rattle.summary.specs.Inner.Values.{onB, lentB, steppedB, endedW, tensorW, withW, withoutW, usingW}
 use Rattle.summary.specs.Inner.Walks.{EndsWith, StopsWith, Tells, Ready, GoalReady, ClauseReady, CanUse, Stepping, PartWalks}
 use Rattle.summary.specs.Inner.Walks.{Chosen, CanChoose, Siding}
 use Rattle.summary.proofs.WalksTell.{ends-here, fails-here, first-stops, second-stops, tensor-ends, with-ends, lend-ends, lend-stops}
-use Rattle.summary.proofs.WalksTell.{side-ends, side-stops, one-of-stops, menu-stops, use-ends, use-stops}
+use Rattle.summary.proofs.WalksTell.{side-ends, side-stops, one-of-stops, menu-stops, rule-ends, item-ends, use-stops}
 
 -- a number from 1 to 6, each of which it is not
 none-high : (k : ℕ) → k ≤ 6 → (k ≡ 4 → ⊥) → (k ≡ 5 → ⊥) → (k ≡ 6 → ⊥) → k ≤ 3
@@ -61,8 +65,20 @@ module _ {bs steps nodes : List ℕ} {linear : List Bool} {b : Branch} (R : Read
   pub rules-below : b .rules ≤ b .count
   rules-below = let s = R .scoped in let r = R .rules in omega arith
 
+  -- a clause lent here is no must line
+  pub lent-lax : member (strictOf bs) (b .count - b .rules) ≡ false
+  lent-lax = rw (R .rules) (at (member (strictOf bs) (b .count - ruleCount bs)) refl)
+    where
+      at : (x : Bool) → member (strictOf bs) (b .count - ruleCount bs) ≡ x → x ≡ false
+      at false e = refl
+      at true e =
+          let low = R .scoped in
+          let i = items-at (ruleCount bs) (strictOf bs) (b .count) (omega arith) in
+          let l = line-within bs 1 (b .count) (sym (ap (λ I. I (b .count)) (strict-items (R .sound))) ∙ i ∙ e) in
+          absurd (omega (arith, l .1, low))
+
   -- an answer that leaves the tables alone
-  at-once : {p : Part} {r : Walked} → Tells steps b es p r → PartWalks bs steps nodes nodes linear linear b p r
+  at-once : {p : Part} {r : Walked} → Tells (strictOf bs) steps b es p r → PartWalks bs steps nodes nodes linear linear b p r
   at-once t = record { tells = t; node-kept = kept-self (b .count) nodes; linear-kept = kept-self (b .count) linear }
 
   -- Behind a first part
@@ -78,15 +94,21 @@ module _ {bs steps nodes : List ℕ} {linear : List Bool} {b : Branch} (R : Read
           )
 
     module _ {w : Summary} (W : PartWalks bs steps nodes nodes₁ linear linear₁ b p (Ended w)) where
-      ends : EndsWith steps b es p w
+      ends : EndsWith (strictOf bs) steps b es p w
       unfolding Tells
       ends = W .tells
 
       same-scope : scopeIn bs nodes₁ linear₁ (b .count) ≡ es
       same-scope = scope-kept bs nodes nodes₁ linear linear₁ (b .count) (W .node-kept) (W .linear-kept)
 
-      pub ready-on : Ready bs steps nodes₁ linear₁ (onB b (w .at))
-      ready-on = record {
+      -- no more must lines are met there than steps, counted from where the walk ended or from where it began
+      met-low : (met : ℕ) → (met ≡ w .met) ⊎ (met ≡ b .met) → met ≤ w .at
+      met-low met =
+          ⊎-elim (λ e. let s = ends .pace in let m = R .met in omega (arith, e, s, m))
+          (λ e. let o = ends .onward in let m = R .met in omega (arith, e, o, m))
+
+      pub ready-on : (met : ℕ) → met ≤ w .at → Ready bs steps nodes₁ linear₁ (onB b (w .at) met)
+      ready-on met low = record {
         sound = R .sound;
         rules = R .rules;
         given = R .given;
@@ -95,29 +117,30 @@ module _ {bs steps nodes : List ℕ} {linear : List Bool} {b : Branch} (R : Read
         entered = entered-kept (R .entered) (W .node-kept) (W .linear-kept);
         scoped = R .scoped;
         few = R .few;
+        met = low;
       }
 
-      pub lighter : weight (onB b (w .at)) ≤ weight b
-      lighter = let o = ends .onward in omega arith
+      pub lighter : (met : ℕ) → weight (onB b (w .at) met) ≤ weight b
+      lighter met = let o = ends .onward in omega arith
 
-      module _ {q : Part} {nodes₂ : List ℕ} {linear₂ : List Bool} where
+      module _ {met : ℕ} {q : Part} {nodes₂ : List ℕ} {linear₂ : List Bool} where
         pub second-lost : {r : Part} {f : Refusal} → Both r p q
-            → PartWalks bs steps nodes₁ nodes₂ linear₁ linear₂ (onB b (w .at)) q (Astray f)
+            → PartWalks bs steps nodes₁ nodes₂ linear₁ linear₂ (onB b (w .at) met) q (Astray f)
             → PartWalks bs steps nodes nodes₂ linear linear₂ b r (Astray f)
         unfolding Tells
         second-lost {f} parts X = record {
-          tells = second-stops parts (R .given) ends (subst (λ s. StopsWith steps (onB b (w .at)) s q f) same-scope (X .tells));
+          tells = second-stops parts (R .given) ends (subst (λ s. StopsWith steps (onB b (w .at) met) s q f) same-scope (X .tells));
           node-kept = kept-again (b .count) (W .node-kept) (X .node-kept);
           linear-kept = kept-again (b .count) (W .linear-kept) (X .linear-kept);
         }
 
-        module _ {v : Summary} (X : PartWalks bs steps nodes₁ nodes₂ linear₁ linear₂ (onB b (w .at)) q (Ended v))
+        module _ {v : Summary} (X : PartWalks bs steps nodes₁ nodes₂ linear₁ linear₂ (onB b (w .at) met) q (Ended v))
           where
-            then-ends : EndsWith steps (onB b (w .at)) es q v
+            then-ends : EndsWith (strictOf bs) steps (onB b (w .at) met) es q v
             unfolding Tells
-            then-ends = subst (λ s. EndsWith steps (onB b (w .at)) s q v) same-scope (X .tells)
+            then-ends = subst (λ s. EndsWith (strictOf bs) steps (onB b (w .at) met) s q v) same-scope (X .tells)
 
-            both-kept : {r : Part} {u : Summary} → EndsWith steps b es r u → PartWalks bs steps nodes nodes₂ linear linear₂ b r (Ended u)
+            both-kept : {r : Part} {u : Summary} → EndsWith (strictOf bs) steps b es r u → PartWalks bs steps nodes nodes₂ linear linear₂ b r (Ended u)
             unfolding Tells
             both-kept t = record {
               tells = t;
@@ -125,19 +148,19 @@ module _ {bs steps nodes : List ℕ} {linear : List Bool} {b : Branch} (R : Read
               linear-kept = kept-again (b .count) (W .linear-kept) (X .linear-kept);
             }
 
-            pub tensor-done : {r : Part} → Words (w .used) → Words (v .used)
+            pub tensor-done : {r : Part} → met ≡ w .met → Words (w .used) → Words (v .used)
                 → ((f g h : Gathered) → Tensors h f g → Trace (b .depth) es p f → Trace (b .depth) es q g → Trace (b .depth) es r h)
                 → PartWalks bs steps nodes nodes₂ linear linear₂ b r (Ended (tensorW w v))
-            tensor-done x y c = both-kept (tensor-ends ends then-ends x y c)
+            tensor-done e x y c = both-kept (tensor-ends ends then-ends e x y c)
 
-            pub with-done : {r : Part} → Words (w .used) → Words (v .used)
+            pub with-done : {r : Part} → met ≡ b .met → Words (w .used) → Words (v .used)
                 → ((f g h : Gathered) → Withs es h f g → Trace (b .depth) es p f → Trace (b .depth) es q g → Trace (b .depth) es r h)
                 → PartWalks bs steps nodes nodes₂ linear linear₂ b r (Ended (withW w v))
-            with-done x y c = both-kept (with-ends ends then-ends x y c)
+            with-done e x y c = both-kept (with-ends ends then-ends e x y c)
 
   -- the same, of the values of a run: what it was given, what it answered, and what was made of both
   module _ {nodes₁ nodes₂ : List ℕ} {linear₁ linear₂ : List Bool} {p q : Part} (w : Summary) {x : Walked} (ex : x ≡ Ended w)
-      (W : PartWalks bs steps nodes nodes₁ linear linear₁ b p x) (b₂ : Branch) (eb : b₂ ≡ onB b (w .at)) {y : Walked}
+      (W : PartWalks bs steps nodes nodes₁ linear linear₁ b p x) (met : ℕ) (b₂ : Branch) (eb : b₂ ≡ onB b (w .at) met) {y : Walked}
       (X : PartWalks bs steps nodes₁ nodes₂ linear₁ linear₂ b₂ q y) where
     first-run : PartWalks bs steps nodes nodes₁ linear linear₁ b p (Ended w)
     first-run = rw ex at W
@@ -145,19 +168,20 @@ module _ {bs steps nodes : List ℕ} {linear : List Bool} {b : Branch} (R : Read
     pub run-lost : {r : Part} {f : Refusal} → Both r p q → y ≡ Astray f → PartWalks bs steps nodes nodes₂ linear linear₂ b r y
     run-lost parts ey = rw ey (second-lost first-run parts (rw (eb, ey) at X))
 
-    module _ (v : Summary) (ey : y ≡ Ended v) (m : Words (w .used)) (n : Words (v .used)) (u : Summary) where
-      second-run : PartWalks bs steps nodes₁ nodes₂ linear₁ linear₂ (onB b (w .at)) q (Ended v)
+    module _ (v : Summary) (ey : y ≡ Ended v) where
+      second-run : PartWalks bs steps nodes₁ nodes₂ linear₁ linear₂ (onB b (w .at) met) q (Ended v)
       second-run = rw (eb, ey) at X
 
-      pub run-tensor : {r : Part} → u ≡ tensorW w v
-          → ((f g h : Gathered) → Tensors h f g → Trace (b .depth) es p f → Trace (b .depth) es q g → Trace (b .depth) es r h)
-          → PartWalks bs steps nodes nodes₂ linear linear₂ b r (Ended u)
-      run-tensor eu c = rw eu (tensor-done first-run second-run m n c)
+      module _ (m : Words (w .used)) (n : Words (v .used)) (u : Summary) where
+        pub run-tensor : {r : Part} → met ≡ w .met → u ≡ tensorW w v
+            → ((f g h : Gathered) → Tensors h f g → Trace (b .depth) es p f → Trace (b .depth) es q g → Trace (b .depth) es r h)
+            → PartWalks bs steps nodes nodes₂ linear linear₂ b r (Ended u)
+        run-tensor em eu c = rw eu (tensor-done first-run second-run em m n c)
 
-      pub run-with : {r : Part} → u ≡ withW w v
-          → ((f g h : Gathered) → Withs es h f g → Trace (b .depth) es p f → Trace (b .depth) es q g → Trace (b .depth) es r h)
-          → PartWalks bs steps nodes nodes₂ linear linear₂ b r (Ended u)
-      run-with eu c = rw eu (with-done first-run second-run m n c)
+        pub run-with : {r : Part} → met ≡ b .met → u ≡ withW w v
+            → ((f g h : Gathered) → Withs es h f g → Trace (b .depth) es p f → Trace (b .depth) es q g → Trace (b .depth) es r h)
+            → PartWalks bs steps nodes nodes₂ linear linear₂ b r (Ended u)
+        run-with em eu c = rw eu (with-done first-run second-run em m n c)
 
   -- Behind a choice
 
@@ -167,10 +191,10 @@ module _ {bs steps nodes : List ℕ} {linear : List Bool} {b : Branch} (R : Read
 
     module _ (b₁ : Branch) (eb : b₁ ≡ steppedB b 0) where
       -- a choice adds no nesting
-      as-on : b₁ ≡ onB b (b .at + 1)
+      as-on : b₁ ≡ onB b (b .at + 1) (b .met)
       as-on =
           let z : b .depth - 0 ≡ b .depth = omega arith in
-          eb ∙ ap (λ d. record { rules = b .rules; given = b .given; at = b .at + 1; count = b .count; depth = d }) z
+          eb ∙ ap (λ d. record { rules = b .rules; given = b .given; at = b .at + 1; count = b .count; depth = d; met = b .met }) z
 
       ready-stepped : Ready bs steps nodes linear b₁
       ready-stepped = rw as-on (record {
@@ -182,6 +206,7 @@ module _ {bs steps nodes : List ℕ} {linear : List Bool} {b : Branch} (R : Read
         entered = R .entered;
         scoped = R .scoped;
         few = R .few;
+        met = let m = R .met in omega arith;
       })
 
       lighter-stepped : weight b₁ ≤ weight b
@@ -191,10 +216,10 @@ module _ {bs steps nodes : List ℕ} {linear : List Bool} {b : Branch} (R : Read
           → PartWalks bs steps nodes nodes₂ linear linear₂ b₁ q x → PartWalks bs steps nodes nodes₂ linear linear₂ b p x
       unfolding Tells
       side-done {p} {q} {nodes₂} {linear₂} x o X =
-          let F : PartWalks bs steps nodes nodes₂ linear linear₂ (onB b (b .at + 1)) q x = rw as-on at X in
+          let F : PartWalks bs steps nodes nodes₂ linear linear₂ (onB b (b .at + 1) (b .met)) q x = rw as-on at X in
           record { tells = by x (F .tells); node-kept = F .node-kept; linear-kept = F .linear-kept }
         where
-          by : (x : Walked) → Tells steps (onB b (b .at + 1)) es q x → Tells steps b es p x
+          by : (x : Walked) → Tells (strictOf bs) steps (onB b (b .at + 1) (b .met)) es q x → Tells (strictOf bs) steps b es p x
           by (Ended w) k = side-ends o (U .next) k
           by (Astray f) k = side-stops o (U .next) k
 
@@ -246,12 +271,13 @@ module _ {bs steps nodes : List ℕ} {linear : List Bool} {b : Branch} (R : Read
 
         pub right-call : {nodes₁ : List ℕ} {linear₁ : List Bool} {p : Part} (w : Summary) {x : Walked} → x ≡ Ended w
             → PartWalks bs steps nodes nodes₁ linear linear₁ b p x
-            → (t : ℕ) → weight b + 4 * node + 2 ≡ t → (r : ℕ) → r ≡ rightAt bs node → (b₂ : Branch) → b₂ ≡ onB b (w .at)
+            → (t : ℕ) → weight b + 4 * node + 2 ≡ t → (r : ℕ) → r ≡ rightAt bs node → (met : ℕ) → (met ≡ w .met) ⊎ (met ≡ b .met)
+            → (b₂ : Branch) → b₂ ≡ onB b (w .at) met
             → (weight b₂ + 4 * r + 3 < t) × (Ready bs steps nodes₁ linear₁ b₂ × GoalReady bs b₂ r)
-        right-call {nodes₁} {linear₁} {p} w e W t m r er b₂ eb = rw (er, eb) (
+        right-call {nodes₁} {linear₁} {p} w e W t m r er met em b₂ eb = rw (er, eb) (
             let F : PartWalks bs steps nodes nodes₁ linear linear₁ b p (Ended w) = rw e at W in (
-              let low = lower in let k = lighter F in omega arith,
-              (ready-on F, part-ready (rightAt bs node) (onB b (w .at)) second (heights .1) refl refl refl),
+              let low = lower in let k = lighter F met in omega arith,
+              (ready-on F met (met-low F met em), part-ready (rightAt bs node) (onB b (w .at) met) second (heights .1) refl refl refl),
             )
             )
 
@@ -315,9 +341,11 @@ module _ {bs steps nodes : List ℕ} {linear : List Bool} {b : Branch} (R : Read
           short = R .short;
           at = R .at;
           entered =
-              rw (add-one (b .count)) (entered-more c true (R .entered) (put-room .0) (rw ec lent-clause) (λ q. R .scoped));
+              rw (add-one (b .count)) (entered-more c true (R .entered) (put-room .0) (rw ec lent-clause)
+              (λ q. let s = R .scoped in omega arith));
           scoped = let s = R .scoped in omega arith;
           few = let l = lend-room in omega arith;
+          met = R .met;
         }
 
         lent-scope : scopeIn bs (set nodes (b .count) c) (set linear (b .count) true) (b .count + 1) ≡ lend es (clauseOf bs c)
@@ -369,8 +397,8 @@ module _ {bs steps nodes : List ℕ} {linear : List Bool} {b : Branch} (R : Read
               → PartWalks bs steps nodes nodes₂ linear linear₂ b (goal (goalAt bs node)) (Ended u)
           unfolding Tells
           lend-done w u e q = rw (q, as-lend) (record {
-            tells = lend-ends rules-below (scope-size bs nodes linear (b .count))
-                (subst (λ s. EndsWith steps (lentB b) s (goal (goalAt bs (rightAt bs node))) w) lent-scope
+            tells = lend-ends rules-below (scope-size bs nodes linear (b .count)) lent-lax
+                (subst (λ s. EndsWith (strictOf bs) steps (lentB b) s (goal (goalAt bs (rightAt bs node))) w) lent-scope
                 (let t = inner .tells in rw e at t));
             node-kept = node-back;
             linear-kept = linear-back;
@@ -414,7 +442,7 @@ module _ {bs steps nodes : List ℕ} {linear : List Bool} {b : Branch} (R : Read
                   let w = lighter-stepped one-of-takes b₁ eb in omega (arith, p .1 .0, w),
                   (
                     ready-stepped one-of-takes b₁ eb,
-                    rw (as-on one-of-takes b₁ eb) (part-ready m (onB b (b .at + 1)) (p .0) (p .1 .1) refl refl refl),
+                    rw (as-on one-of-takes b₁ eb) (part-ready m (onB b (b .at + 1) (b .met)) (p .0) (p .1 .1) refl refl refl),
                   ),
                 )
 
@@ -501,13 +529,13 @@ module _ {bs steps nodes : List ℕ} {linear : List Bool} {b : Branch} (R : Read
 
       pub condition-call : {nodes₁ : List ℕ} {linear₁ : List Bool} {p : Part} (w : Summary) {x : Walked} → x ≡ Ended w
           → PartWalks bs steps nodes nodes₁ linear linear₁ b p x
-          → (t : ℕ) → weight b + 4 * node + 2 ≡ t → (l : ℕ) → l ≡ leftAt bs node → (b₂ : Branch) → b₂ ≡ onB b (w .at)
+          → (t : ℕ) → weight b + 4 * node + 2 ≡ t → (l : ℕ) → l ≡ leftAt bs node → (b₂ : Branch) → b₂ ≡ onB b (w .at) (w .met)
           → (weight b₂ + 4 * l + 3 < t) × (Ready bs steps nodes₁ linear₁ b₂ × GoalReady bs b₂ l)
       condition-call {nodes₁} {linear₁} {p} w e W t m l el b₂ eb = rw (el, eb) (
           let F : PartWalks bs steps nodes nodes₁ linear linear₁ b p (Ended w) = rw e at W in (
-            let low = lower-7 in let k = lighter F in omega arith,
+            let low = lower-7 in let k = lighter F (w .met) in omega arith,
             (
-              ready-on F,
+              ready-on F (w .met) (met-low F (w .met) (inl refl)),
               record {
                 goal-node =
                     goal-above bs node (leftAt bs node) (nodeCount bs) (let k = clause-below in omega arith)
@@ -603,10 +631,14 @@ module _ {bs steps nodes : List ℕ} {linear : List Bool} {b : Branch} (R : Read
           entered = R .entered;
           scoped = R .scoped;
           few = R .few;
+          met = let m = R .met in omega arith;
         },
         record { clause-node = entry-clause; fitting = U .fitting; deep = let d = U .deep in omega arith },
       ),
     )
+
+    pub item-low : getD linear e false ≡ true → b .rules ≤ e
+    item-low gone = let l = R .entered .items e (U .inside) gone in let r = R .rules in omega arith
 
     module _ (node : ℕ) (en : node ≡ getD nodes e 0) (b₁ : Branch) (eb : b₁ ≡ steppedB b 1) {nodes₂ : List ℕ} {linear₂ : List Bool}
         {x : Walked} (X : PartWalks bs steps nodes nodes₂ linear linear₂ b₁ (meet name (clauseOf bs node)) x) where
@@ -624,19 +656,29 @@ module _ {bs steps nodes : List ℕ} {linear : List Bool} {b : Branch} (R : Read
           fits : usable (es .fits) name (clauseAt es e) ≡ true
           fits = ap (usable (scopeOf bs .fits) name) (scope-clause bs nodes linear (b .count) e (U .inside)) ∙ U .fitting
 
-      pub use-done : (w u : Summary) → x ≡ Ended w → (gone : Bool) → gone ≡ getD linear e false → u ≡ behindW w gone (b .rules) e
-          → PartWalks bs steps nodes nodes₂ linear linear₂ b (goal (atomᴳ name)) (Ended u)
-      unfolding Tells
-      use-done w u q gone eg f = rw f (record {
-        tells = use-ends (U .deep) (U .next) gone (scope-linear bs nodes linear (b .count) e (U .inside) ∙ sym eg)
-            (λ h. item-low h) (let i = U .inside in let k = R .few in let r = R .rules in omega arith)
-            (let t = conditions .tells in rw q at t);
-        node-kept = conditions .node-kept;
-        linear-kept = conditions .linear-kept;
-      })
-        where
-          item-low : gone ≡ true → b .rules ≤ e
-          item-low h = let l = R .entered .items e (U .inside) (sym eg ∙ h) in let r = R .rules in omega arith
+      module _ (w : Summary) (q : x ≡ Ended w) where
+        use-ended : EndsWith (strictOf bs) steps (steppedB b 1) es (meet name (clauseAt es e)) w
+        unfolding Tells
+        use-ended = let t = conditions .tells in rw q at t
 
-    pub behind-low : (gone : Bool) → gone ≡ getD linear e false → gone ≡ true → b .rules ≤ e
-    behind-low gone eg h = let l = R .entered .items e (U .inside) (sym eg ∙ h) in let r = R .rules in omega arith
+        use-kept : {u : Summary} → EndsWith (strictOf bs) steps b es (goal (atomᴳ name)) u
+            → PartWalks bs steps nodes nodes₂ linear linear₂ b (goal (atomᴳ name)) (Ended u)
+        unfolding Tells
+        use-kept t = record { tells = t; node-kept = conditions .node-kept; linear-kept = conditions .linear-kept }
+
+        pub rule-done : getD linear e false ≡ false → PartWalks bs steps nodes nodes₂ linear linear₂ b (goal (atomᴳ name)) (Ended w)
+        rule-done stays =
+            use-kept (rule-ends (U .deep) (U .next) use-ended (scope-linear bs nodes linear (b .count) e (U .inside) ∙ stays))
+
+        module _ (due : ℕ) (ed : due ≡ bit (member (strictOf bs) (e - b .rules))) where
+          pub met-room : w .met + due ≤ 256
+          met-room =
+              let d = bit-one (member (strictOf bs) (e - b .rules)) in
+              let s = use-ended .pace in let u = use-ended .bounded in let m = R .met in let k = R .short in
+              omega (arith, d, s, u, m, k, ed)
+
+          pub item-done : getD linear e false ≡ true → (u : Summary) → u ≡ usingW w (e - b .rules) due
+              → PartWalks bs steps nodes nodes₂ linear linear₂ b (goal (atomᴳ name)) (Ended u)
+          item-done gone u f =
+              rw f (use-kept (item-ends (U .deep) (U .next) use-ended (scope-linear bs nodes linear (b .count) e (U .inside) ∙ gone)
+              (item-low gone) (let i = U .inside in let k = R .few in let r = R .rules in omega arith) due ed))

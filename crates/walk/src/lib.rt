@@ -1,7 +1,9 @@
 // One pass along a given list (02, #102 and #103). It goes by clauses and does not mind items: it ends, or stops at its first wrong step; on
 // the way it gathers the list's summary and whether the items divided, and never breaks off because they did not.
+use card::format::byte;
 use card::format::kind;
 use card::format::left;
+use card::format::line_byte;
 use card::format::right;
 use summary::Branch;
 use summary::Step;
@@ -11,6 +13,10 @@ use summary::next_step;
 ghost use mathlib.Core.Path.{_≡_};
 ghost use Prim.Native.Nat.{_+_, _*_, _≤_};
 ghost use Rattle.card.specs.Format.{kindAt};
+ghost use Rattle.card.specs.Fault.{Sound};
+ghost use Rattle.lines.specs.Inner.Set.{member};
+ghost use Rattle.lines.specs.Inner.Count.{bit};
+ghost use Rattle.scope.specs.Inner.Sets.{strictOf};
 ghost use Rattle.summary.specs.Inner.Walks.{Ready, GoalReady, ClauseReady, CanUse, GoalWalks, ClauseWalks, UseWalks};
 
 // A goal.
@@ -61,7 +67,7 @@ fn walk_tensor(
         return first;
     };
     let r = right(card, node);
-    let second = walk(card, steps, nodes, linear, b.on(w.at), r);
+    let second = walk(card, steps, nodes, linear, b.on(w.at, w.met), r);
     let Walked::Ended(v) = second else {
         return second;
     };
@@ -89,7 +95,7 @@ fn walk_with(
         return first;
     };
     let r = right(card, node);
-    let second = walk(card, steps, nodes, linear, b.on(w.at), r);
+    let second = walk(card, steps, nodes, linear, b.on(w.at, b.met), r);
     let Walked::Ended(v) = second else {
         return second;
     };
@@ -167,6 +173,17 @@ fn walk_atom(
     }
 }
 
+// 1 where the item is a must line, else 0.
+fn due(card: &[u8], item: usize) -> usize
+    requires { ⌜ Sound (now card) ⌝ }
+    ensures { λ r. ⌜ r ≡ bit (member (strictOf (now (card .entry))) item) ⌝ }
+{
+    if item < byte(card, 4) {
+        return line_byte(card, item);
+    }
+    0
+}
+
 // The use of an entry for a name.
 fn use_clause(
     card: &[u8],
@@ -189,7 +206,11 @@ fn use_clause(
     let Walked::Ended(w) = inner else {
         return inner;
     };
-    Walked::Ended(w.behind(gone, b.rules, e))
+    if gone {
+        let item = e - b.rules;
+        return Walked::Ended(w.using(item, due(card, item)));
+    }
+    Walked::Ended(w)
 }
 
 // The conditions of a clause in use for a name, the one nearest the head first.
@@ -220,7 +241,7 @@ fn conditions(
         return first;
     };
     let l = left(card, node);
-    let second = walk(card, steps, nodes, linear, b.on(w.at), l);
+    let second = walk(card, steps, nodes, linear, b.on(w.at, w.met), l);
     let Walked::Ended(v) = second else {
         return second;
     };

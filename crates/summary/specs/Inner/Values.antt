@@ -1,29 +1,47 @@
 -- What each change of a branch and of a summary is.
 use Prim.Native.Nat.{ℕ, _+_, _-_}
-use mathlib.Core.Bool.{Bool, not, cond, _&&_, _||_}
+use mathlib.Core.Bool.{Bool, true, false, not, cond, _&&_, _||_}
 use mathlib.Core.List.{List}
+use mathlib.Core.Path.{_≡_}
 use Rattle.card.specs.Format.{ruleCount, lineCount, depthLimit}
+use Rattle.lines.specs.declared.LineSet.{LineSet}
 use Rattle.lines.specs.Inner.Set.{member, isEmptyS, emptyS, addS, takeS, cutS, meetS, joinS}
+use Rattle.lines.specs.Inner.Count.{countS}
 use Rattle.card.specs.declared.Place.{Place}
 use Rattle.card.specs.declared.Refusal.{Refusal}
 use Rattle.summary.specs.declared.Branch.{Branch}
 use Rattle.summary.specs.declared.Summary.{Summary}
 
+-- how many of the must lines are used, by a scan
+abbrev pub scanned : LineSet → LineSet → ℕ
+scanned strict used = countS (meetS strict used)
+
+-- the running count goes on by what a scan of the must lines taken finds, where the items divided and no ⊤ takes more
+abbrev pub Counted : LineSet → ℕ → Summary → Type 0
+Counted strict before w = w .alive ≡ true → w .slack ≡ false → w .met ≡ before + scanned strict (w .used)
+
 -- Where the walk of the card's goal along k steps begins.
 unfoldable pub startB : List ℕ → ℕ → Branch
-startB bs k = record { rules = ruleCount bs; given = k; at = 0; count = ruleCount bs + lineCount bs; depth = depthLimit bs }
+startB bs k = record {
+  rules = ruleCount bs;
+  given = k;
+  at = 0;
+  count = ruleCount bs + lineCount bs;
+  depth = depthLimit bs;
+  met = 0;
+}
 
-abbrev pub onB : Branch → ℕ → Branch
-onB b at = record { rules = b .rules; given = b .given; at = at; count = b .count; depth = b .depth }
+abbrev pub onB : Branch → ℕ → ℕ → Branch
+onB b at met = record { rules = b .rules; given = b .given; at = at; count = b .count; depth = b .depth; met = met }
 
 abbrev pub lentB : Branch → Branch
-lentB b = record { rules = b .rules; given = b .given; at = b .at; count = b .count + 1; depth = b .depth }
+lentB b = record { rules = b .rules; given = b .given; at = b .at; count = b .count + 1; depth = b .depth; met = b .met }
 
 abbrev pub steppedB : Branch → ℕ → Branch
-steppedB b n = record { rules = b .rules; given = b .given; at = b .at + 1; count = b .count; depth = b .depth - n }
+steppedB b n = record { rules = b .rules; given = b .given; at = b .at + 1; count = b .count; depth = b .depth - n; met = b .met }
 
 abbrev pub endedW : Branch → Bool → Bool → Summary
-endedW b slack alive = record { at = b .at; used = emptyS; slack = slack; alive = alive }
+endedW b slack alive = record { at = b .at; used = emptyS; slack = slack; alive = alive; met = b .met }
 
 abbrev pub tensorW : Summary → Summary → Summary
 tensorW w v = record {
@@ -31,10 +49,15 @@ tensorW w v = record {
   used = joinS (w .used) (v .used);
   slack = w .slack || v .slack;
   alive = w .alive && v .alive && isEmptyS (meetS (w .used) (v .used));
+  met = v .met;
 }
 
 abbrev pub coverW : Summary → Summary → Bool
 coverW w v = w .slack || isEmptyS (cutS (v .used) (w .used))
+
+-- the count of a side without slack
+unfoldable pub pickW : Summary → Summary → ℕ
+pickW w v = cond (w .slack) (v .met) (w .met)
 
 abbrev pub withW : Summary → Summary → Summary
 withW w v = record {
@@ -42,6 +65,7 @@ withW w v = record {
   used = joinS (w .used) (v .used);
   slack = w .slack && v .slack;
   alive = w .alive && v .alive && (coverW w v && coverW v w);
+  met = pickW w v;
 }
 
 abbrev pub withoutW : Summary → ℕ → Summary
@@ -50,18 +74,17 @@ withoutW w item = record {
   used = takeS (w .used) item;
   slack = w .slack;
   alive = w .alive && (w .slack || member (w .used) item);
+  met = w .met;
 }
 
-abbrev pub usingW : Summary → ℕ → Summary
-usingW w item = record {
+abbrev pub usingW : Summary → ℕ → ℕ → Summary
+usingW w item due = record {
   at = w .at;
   used = addS (w .used) item;
   slack = w .slack;
   alive = w .alive && not (member (w .used) item);
+  met = w .met + due;
 }
-
-unfoldable pub behindW : Summary → Bool → ℕ → ℕ → Summary
-behindW w gone rules e = cond gone (usingW w (e - rules)) w
 
 abbrev pub wrongF : ℕ → Place → Refusal
 wrongF number place = record { number = number; place = place }

@@ -11,12 +11,13 @@ use Rattle.calculus.specs.Steps.{leftChoice, rightChoice}
 use Rattle.calculus.specs.Walk.{Walk, stops, choiceWalk}
 use Rattle.calculus.specs.Wanted.{Part, goal, meet}
 use Rattle.calculus.specs.Inner.Trace.{partWalk, Gathered, Trace}
+use Rattle.lines.specs.declared.LineSet.{LineSet}
 use Rattle.card.specs.declared.Refusal.{Refusal}
 use Rattle.card.specs.Verdict.{whereOf, step}
-use Rattle.card.specs.Format.{ruleCount, nodeCount, leftAt, rightAt}
+use Rattle.card.specs.Format.{ruleCount, lineCount, nodeCount, leftAt, rightAt}
 use Rattle.card.specs.Fault.{Sound, goalPart, clausePart, heightAt}
 use Rattle.card.specs.Decode.{goalAt, clauseOf, scopeOf}
-use Rattle.scope.specs.Inner.Sets.{items}
+use Rattle.scope.specs.Inner.Sets.{items, strictOf}
 use Rattle.scope.specs.Inner.Tables.{scopeIn, Entered, Kept}
 use Rattle.summary.specs.declared.Branch.{Branch}
 use Rattle.summary.specs.declared.Summary.{Summary}
@@ -24,6 +25,7 @@ use Rattle.summary.specs.declared.Walked.{Walked}
 use Rattle.summary.specs.declared.Walked.the-variants.{Ended, Astray}
 use Rattle.summary.specs.declared.Step.{Step}
 use Rattle.summary.specs.declared.Step.the-variants.{Taken, Wrong}
+use Rattle.summary.specs.Inner.Values.{Counted}
 
 -- the given steps from a place on
 unfoldable pub from : List ℕ → Branch → ℕ → List ℕ
@@ -33,13 +35,15 @@ from steps b at = drop at (take (b .given) steps)
 unfoldable pub gathered : ℕ → Summary → List ℕ → Gathered
 gathered P w l = record { list = l; used = items P (w .used); slack = w .slack; alive = w .alive }
 
--- The walk of the part p ended with the summary w.
-pub record EndsWith (steps : List ℕ) (b : Branch) (es : Scope) (p : Part) (w : Summary) : Type 0 where
+-- The walk of the part p ended with the summary w; no must line was met without a step.
+pub record EndsWith (strict : LineSet) (steps : List ℕ) (b : Branch) (es : Scope) (p : Part) (w : Summary) : Type 0 where
   pub onward : b .at ≤ w .at
   pub bounded : w .at ≤ b .given
   pub list : List ℕ
   pub along : list ++ from steps b (w .at) ≡ from steps b (b .at)
   pub trace : Trace (b .depth) es p (gathered (b .rules) w list)
+  pub counted : Counted strict (b .met) w
+  pub pace : w .met + b .at ≤ b .met + w .at
 
 -- The walk of the part p stops, with the refusal's number at the step that is its place.
 pub record StopsWith (steps : List ℕ) (b : Branch) (es : Scope) (p : Part) (f : Refusal) : Type 0 where
@@ -48,11 +52,11 @@ pub record StopsWith (steps : List ℕ) (b : Branch) (es : Scope) (p : Part) (f 
   pub walk : partWalk (b .depth) p es (b .at) (from steps b (b .at)) ≡ stops (f .number) index
 
 -- What each answer says.
-unfoldable pub Tells : List ℕ → Branch → Scope → Part → Walked → Type 0
-Tells steps b es p (Ended w) = EndsWith steps b es p w
-Tells steps b es p (Astray f) = StopsWith steps b es p f
+unfoldable pub Tells : LineSet → List ℕ → Branch → Scope → Part → Walked → Type 0
+Tells strict steps b es p (Ended w) = EndsWith strict steps b es p w
+Tells strict steps b es p (Astray f) = StopsWith steps b es p f
 
--- What every function of the walk asks: a sound card, steps and tables in order, and room.
+-- What every function of the walk asks: a sound card, steps and tables in order, room, and no more must lines met than steps.
 pub record Ready (bs steps nodes : List ℕ) (linear : List Bool) (b : Branch) : Type 0 where
   pub sound : Sound bs
   pub rules : b .rules ≡ ruleCount bs
@@ -60,8 +64,9 @@ pub record Ready (bs steps nodes : List ℕ) (linear : List Bool) (b : Branch) :
   pub short : b .given ≤ 255
   pub at : b .at ≤ b .given
   pub entered : Entered bs nodes linear (b .count)
-  pub scoped : ruleCount bs ≤ b .count
+  pub scoped : ruleCount bs + lineCount bs ≤ b .count
   pub few : b .count ≤ ruleCount bs + 168
+  pub met : b .met ≤ b .at
 
 -- The node is a goal of the card, and no more clauses can be lent below it than there is room for.
 pub record GoalReady (bs : List ℕ) (b : Branch) (node : ℕ) : Type 0 where
@@ -113,7 +118,7 @@ Siding bs steps b node first second (Wrong f) = CannotChoose steps b first secon
 -- What every function of the walk promises: what it tells of the part, and that the entries in scope are kept. Behind them the tables are
 -- free: as many places as before.
 pub record PartWalks (bs steps nodes nodes′ : List ℕ) (linear linear′ : List Bool) (b : Branch) (p : Part) (r : Walked) : Type 0 where
-  pub tells : Tells steps b (scopeIn bs nodes linear (b .count)) p r
+  pub tells : Tells (strictOf bs) steps b (scopeIn bs nodes linear (b .count)) p r
   pub node-kept : Kept (b .count) nodes nodes′
   pub linear-kept : Kept (b .count) linear linear′
 

@@ -11,17 +11,17 @@ use Rattle.trace.proofs.covers.Tie as tie
 returns : tie.Need-returns
 returns c =
     let start = c .before .before .before in
-    not-alive (start .pre) (start .args .w) (not-true _ (c .if1 .taken))
+    not-alive (start .pre .0) (start .args .w) (not-true _ (c .if1 .taken))
 
 byte-requires : tie.Need-byte-requires
 byte-requires c κs =
     let start = c .before .before .before in
-    let f = sound-front (start .args .card .now) (start .pre) in search needs
+    let f = sound-front (start .args .card .now) (start .pre .0) in search needs
 
 full-requires : tie.Need-full-requires
 full-requires c κs =
     let start = c .before .before .before .before in
-    let f = sound-front (start .args .card .now) (start .pre) in search needs
+    let f = sound-front (start .args .card .now) (start .pre .0) in search needs
 
 within-requires : tie.Need-within-requires
 within-requires c κs = search needs
@@ -32,7 +32,7 @@ returns-2 c =
     let at-full = at-within .before in
     let at-byte = at-full .before in
     let start = at-byte .before .before .before .before in
-    not-inside (start .pre) (start .args .w) _ (at-full .full .ensures ∙ ap fullS (at-byte .byte .ensures .0))
+    not-inside (start .pre .0) (start .args .w) _ (at-full .full .ensures ∙ ap fullS (at-byte .byte .ensures .0))
     (at-within .within .ensures .1 .0) (at-within .within .ensures .1 .1) _ (at-within .within .ensures .0) (not-true _ (c .if2 .taken))
 
 returns-3 : tie.Need-returns-3
@@ -43,30 +43,22 @@ returns-3 c =
     let at-byte = at-full .before in
     let at-else1 = at-byte .before in
     let start = at-else1 .before .before .before in
-    slack-covers (start .pre) (start .args .w) _ (at-full .full .ensures ∙ ap fullS (at-byte .byte .ensures .0))
+    slack-covers (start .pre .0) (start .args .w) _ (at-full .full .ensures ∙ ap fullS (at-byte .byte .ensures .0))
     (at-within .within .ensures .1 .0) (at-within .within .ensures .1 .1) _ (at-within .within .ensures .0) (not-false _
     (at-else1 .if1 .left)) (not-false _ (at-else2 .if2 .left)) (c .if3 .taken)
 
-strict-lines-requires : tie.Need-strict-lines-requires
-strict-lines-requires c κs = search needs
-
-within-requires-2 : tie.Need-within-requires-2
-within-requires-2 c κs = search needs
-
 returns-4 : tie.Need-returns-4
 returns-4 c =
-    let at-strict-lines = c .before in
-    let at-else3 = at-strict-lines .before in
+    let at-else3 = c .before in
     let at-else2 = at-else3 .before in
     let at-within = at-else2 .before in
     let at-full = at-within .before in
     let at-byte = at-full .before in
     let at-else1 = at-byte .before in
     let start = at-else1 .before .before .before in
-    strict-covers (start .pre) (start .args .w) _ (at-full .full .ensures ∙ ap fullS (at-byte .byte .ensures .0))
+    strict-covers (start .pre .0) (start .args .w) _ (at-full .full .ensures ∙ ap fullS (at-byte .byte .ensures .0))
     (at-within .within .ensures .1 .0) (at-within .within .ensures .1 .1) _ (at-within .within .ensures .0) (not-false _
-    (at-else1 .if1 .left)) (not-false _ (at-else2 .if2 .left)) (at-else3 .if3 .left) _ (at-strict-lines .strict-lines .ensures)
-    (c .within2 .ensures .1 .0) _ (c .within2 .ensures .0)
+    (at-else1 .if1 .left)) (not-false _ (at-else2 .if2 .left)) (at-else3 .if3 .left) (start .pre .1 .0) _ (start .pre .1 .1)
 
 pub covers-spec : {M : Type 1} → statement M
 covers-spec =
@@ -78,6 +70,4 @@ covers-spec =
     within-requires
     returns-2
     returns-3
-    strict-lines-requires
-    within-requires-2
     returns-4)

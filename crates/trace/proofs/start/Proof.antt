@@ -29,7 +29,9 @@ unfolding startB
 returns c =
     let p = c .before .before .byte .ensures .0 in
     let t = c .before .byte2 .ensures .0 in
-    λ i. record { rules = p i; given = c .before .before .before .before .args .k; at = 0; count = p i + t i; depth = c .byte3 .ensures .0 i }
+    let depth = c .byte3 .ensures .0 in
+    let k = c .before .before .before .before .args .k in
+    λ i. record { rules = p i; given = k; at = 0; count = p i + t i; depth = depth i; met = 0 }
 
 pub start-spec : {M : Type 1} → statement M
 start-spec = tie.close (tie.spec byte-requires byte-requires-2 byte-requires-3 add-t6 returns)

@@ -1,9 +1,10 @@
 -- The walk of the goal, then the tests of its end and of its items.
 use Prim.Native.Nat.{_≤_}
 use native.Mathlib.Omega.{arith}
-use mathlib.Core.Path.{refl}
+use mathlib.Core.Path.{refl, _∙_, ap}
 use Rattle.card.proofs.CardChecked.{sound-front}
-use Rattle.trace.proofs.FollowsExactly.{start-call, end-short, end-found, stray-found}
+use Rattle.lines.specs.Inner.Count.{countS}
+use Rattle.trace.proofs.FollowsExactly.{start-call, end-short, end-counted, end-found, stray-found}
 use Rattle.trace.proofs.steps_check.Statement.{statement}
 use Rattle.trace.proofs.steps_check.Tie as tie
 
@@ -66,21 +67,37 @@ returns c =
     (at-enter w .enter .ensures .1) _ (at-start w .start .ensures) _ (at-word w .word .ensures .0) (w .walk .ensures)
     (c .before .enum-told .given .1))
 
+strict-lines-requires : tie.Need-strict-lines-requires
+strict-lines-requires c κs = entry (c .before .before .before) .pre .0
+
+count-requires : tie.Need-count-requires
+count-requires c κs = tt
+
 end-check-requires : tie.Need-end-check-requires
 end-check-requires c κs =
-    let w = c .before .before .before in (
+    let at-walked = c .before .before .before in
+    let w = at-walked .before .before in (
       entry w .pre .0,
-      end-short (entry w .pre .0) (entry w .pre .1 .0) (entry w .pre .1 .1) (short (known w)) (at-enter w .enter .ensures .0)
-          (at-enter w .enter .ensures .1) _ (at-start w .start .ensures) _ (at-word w .word .ensures .0) (w .walk .ensures) _
-          (c .before .walked .given .1),
+      (
+        end-short (entry w .pre .0) (entry w .pre .1 .0) (entry w .pre .1 .1) (short (known w)) (at-enter w .enter .ensures .0)
+            (at-enter w .enter .ensures .1) _ (at-start w .start .ensures) _ (at-word w .word .ensures .0) (w .walk .ensures) _
+            (at-walked .walked .given .1),
+        (
+          end-counted (entry w .pre .0) (entry w .pre .1 .0) (entry w .pre .1 .1) (short (known w)) (at-enter w .enter .ensures .0)
+              (at-enter w .enter .ensures .1) _ (at-start w .start .ensures) _ (at-word w .word .ensures .0) (w .walk .ensures) _
+              (at-walked .walked .given .1),
+          c .count .ensures ∙ ap countS (c .before .strict-lines .ensures),
+        ),
+      ),
     )
 
 returns-2 : tie.Need-returns-2
 returns-2 c =
-    let w = c .before .before .before .before in
+    let at-walked = c .before .before .before .before in
+    let w = at-walked .before .before in
     end-found (entry w .pre .0) (entry w .pre .1 .0) (entry w .pre .1 .1) (short (known w)) (at-enter w .enter .ensures .0)
     (at-enter w .enter .ensures .1) _ (at-start w .start .ensures) _ (at-word w .word .ensures .0) (w .walk .ensures) _
-    (c .before .before .walked .given .1) (c .end-check .ensures)
+    (at-walked .walked .given .1) (c .end-check .ensures)
 
 pub steps-check-spec : {M : Type 1} → statement M
 steps-check-spec =
@@ -94,5 +111,7 @@ steps-check-spec =
     enum-told
     found-requires
     returns
+    strict-lines-requires
+    count-requires
     end-check-requires
     returns-2)

@@ -2,6 +2,7 @@
 use mathlib.Core.Path.{_≡_, refl, sym, ap, _∙_}
 use native.Mathlib.Omega.{arith}
 use Prim.Native.Nat.{_+_, _*_}
+use mathlib.Core.Logic.{inl, inr}
 use mathlib.Core.Bool.{Bool, true, false}
 use Rattle.calculus.specs.Formula.{topᴳ, oneᴳ, usable}
 use Rattle.calculus.specs.Inner.Trace.{trace-1, trace-⊤}
@@ -10,12 +11,12 @@ use Rattle.card.specs.Decode.{clauseOf, scopeOf}
 use Rattle.card.proofs.CardChecked.{sound-front}
 use Rattle.card.proofs.NodesDecoded.{reads-rest, reads-done}
 use Rattle.card.proofs.SoundNodes.{clause-lower}
-use Rattle.walk.proofs.CallsAreReady.{Fitting, weight, rules-below, first-lost, run-lost, run-tensor, run-with, goal-here, done-ends}
-use Rattle.walk.proofs.CallsAreReady.{never-ends, left-call, right-call, kind-nine, tensor-parts, with-parts, tensor-both}
+use Rattle.walk.proofs.CallsAreReady.{Fitting, weight, rules-below, first-lost, run-lost, run-tensor, run-with, goal-here}
+use Rattle.walk.proofs.CallsAreReady.{done-ends, never-ends, left-call, right-call, kind-nine, tensor-parts, with-parts, tensor-both}
 use Rattle.walk.proofs.CallsAreReady.{tensor-joins, with-both, with-joins, put-room, lend-call, lend-lost, lend-done, one-of-lost}
 use Rattle.walk.proofs.CallsAreReady.{one-of-room, one-of-call, one-of-done, atom-lost, atom-call, atom-done, clause-here, head-ends}
 use Rattle.walk.proofs.CallsAreReady.{kind-seven, recipe-both, recipe-joins, recipe-call, condition-call, menu-clauses}
-use Rattle.walk.proofs.CallsAreReady.{menu-lost, menu-room, menu-call, menu-done, use-call, use-lost, use-done, behind-low}
+use Rattle.walk.proofs.CallsAreReady.{menu-lost, menu-room, menu-call, menu-done, use-call, use-lost, rule-done, met-room, item-done, item-low}
 use Prim.Native.Nat.{ℕ, _<_}
 use borrow.Fn.Kinds.{In}
 use borrow.Fn.PlainCycle.{Measures, is, falls, and}
@@ -55,12 +56,13 @@ use Rattle.summary.proofs.Branch.ended.Reads as ended-reads
 use Rattle.summary.proofs.Branch.lent.Reads as lent-reads
 use Rattle.summary.proofs.Branch.on.Reads as on-reads
 use Rattle.summary.proofs.Branch.stepped.Reads as stepped-reads
-use Rattle.summary.proofs.Summary.behind.Reads as behind-reads
 use Rattle.summary.proofs.Summary.beside.Reads as beside-reads
 use Rattle.summary.proofs.Summary.tensor.Reads as tensor-reads
+use Rattle.summary.proofs.Summary.using.Reads as using-reads
 use Rattle.summary.proofs.Summary.without.Reads as without-reads
 use Rattle.summary.proofs.next_side.Reads as next-side-reads
 use Rattle.summary.proofs.next_step.Reads as next-step-reads
+use Rattle.walk.proofs.due.Reads as due-reads
 use Rattle.walk.proofs.+conditions+menu+use_clause+walk+walk_atom+walk_lend+walk_one_of+walk_tensor+walk_with.{
   statement,
 }
@@ -193,8 +195,10 @@ use-clause-claims t = (
   stepped-reads.Learnt,
   conditions-below t,
   conditions.Post,
-  behind-reads.Asked,
-  behind-reads.Learnt,
+  due-reads.Asked,
+  due-reads.Learnt,
+  using-reads.Asked,
+  using-reads.Learnt,
 )
 
 abbrev walk-claims : ℕ → walk-lts.Claims
@@ -375,7 +379,7 @@ conditions-returns-4 t c =
     let at-right = at-conditions .before .before .before in
     let at-else2 = at-right .before in
     let start = at-else2 .before .before .before .before .before in
-    run-lost (start .pre .1 .0) _ (at-first .first .given .1) (at-conditions .conditions .ensures) _ (at-on .on .ensures) (at-walk .walk
+    run-lost (start .pre .1 .0) _ (at-first .first .given .1) (at-conditions .conditions .ensures) _ _ (at-on .on .ensures) (at-walk .walk
     .ensures) (recipe-both (start .pre .1 .0) _ _ (start .pre .1 .1) (is-recipe t at-else2) _
     (at-right .right .ensures .0) _ (at-left .left .ensures .0)) (c .enum-told2 .given .1)
 
@@ -393,8 +397,8 @@ conditions-returns-5 t c =
     let at-right = at-conditions .before .before .before in
     let at-else2 = at-right .before in
     let start = at-else2 .before .before .before .before .before in
-    run-tensor (start .pre .1 .0) _ (at-first .first .given .1) (at-conditions .conditions .ensures) _ (at-on .on .ensures) (at-walk
-    .walk .ensures) _ (at-second .second .given .1) (c .tensor .ensures .1 .0) (c .tensor .ensures .1 .1) _ (c .tensor .ensures .0)
+    run-tensor (start .pre .1 .0) _ (at-first .first .given .1) (at-conditions .conditions .ensures) _ _ (at-on .on .ensures) (at-walk
+    .walk .ensures) _ (at-second .second .given .1) (c .tensor .ensures .1 .0) (c .tensor .ensures .1 .1) _ refl (c .tensor .ensures .0)
     (recipe-joins (start .pre .1 .0) _ _ (start .pre .1 .1) (is-recipe t at-else2) _ (at-right .right
     .ensures .0) _ (at-left .left .ensures .0))
 
@@ -536,19 +540,51 @@ use-clause-returns t c =
     use-lost (start .pre .1 .0) _ _ (start .pre .1 .1 .0) _ refl _ (at-stepped .stepped .ensures) (at-conditions .conditions .ensures) (c
     .enum-told .given .1)
 
-use-clause-behind-requires : (t : ℕ) → use-clause-lts.Need-behind-requires (use-clause-claims t) (use-clause-at t) use-clause.Post
-use-clause-behind-requires t c κs =
-    let start = c .before .before .before .before .before .before .before .before .before .before .before in
-    behind-low (start .pre .1 .0) _ _ (start .pre .1 .1 .0) _ refl
+use-clause-sub-item : (t : ℕ) → use-clause-lts.Need-sub-item (use-clause-claims t) (use-clause-at t) use-clause.Post
+use-clause-sub-item t c =
+    let at-then1 = c .before in
+    let at-inner = at-then1 .before .before in
+    let at-conditions = at-inner .before .before in
+    let at-stepped = at-conditions .before in
+    let start = at-stepped .before .before .before .before .before .before .before in
+    item-low (start .pre .1 .0) _ _ (start .pre .1 .1 .0) (at-then1 .if1 .taken)
+
+use-clause-due-requires : (t : ℕ) → use-clause-lts.Need-due-requires (use-clause-claims t) (use-clause-at t) use-clause.Post
+use-clause-due-requires t c κs =
+    let at-inner = c .before .before .before in
+    let at-conditions = at-inner .before .before in
+    let at-stepped = at-conditions .before in
+    let start = at-stepped .before .before .before .before .before .before .before in
+    start .pre .1 .0 .sound
+
+use-clause-using-requires : (t : ℕ) → use-clause-lts.Need-using-requires (use-clause-claims t) (use-clause-at t) use-clause.Post
+use-clause-using-requires t c κs =
+    let at-inner = c .before .before .before .before in
+    let at-conditions = at-inner .before .before in
+    let at-stepped = at-conditions .before in
+    let start = at-stepped .before .before .before .before .before .before .before in
+    met-room (start .pre .1 .0) _ _ (start .pre .1 .1 .0) _ refl _ (at-stepped .stepped .ensures) (at-conditions .conditions .ensures) _
+    (at-inner .inner .given .1) _ (c .due .ensures)
 
 use-clause-returns-2 : (t : ℕ) → use-clause-lts.Need-returns-2 (use-clause-claims t) (use-clause-at t) use-clause.Post
 use-clause-returns-2 t c =
+    let at-due = c .before in
+    let at-then1 = at-due .before .before in
+    let at-inner = at-then1 .before .before in
+    let at-conditions = at-inner .before .before in
+    let at-stepped = at-conditions .before in
+    let start = at-stepped .before .before .before .before .before .before .before in
+    item-done (start .pre .1 .0) _ _ (start .pre .1 .1 .0) _ refl _ (at-stepped .stepped .ensures) (at-conditions .conditions .ensures) _
+    (at-inner .inner .given .1) _ (at-due .due .ensures) (at-then1 .if1 .taken) _ (c .«using» .ensures)
+
+use-clause-returns-3 : (t : ℕ) → use-clause-lts.Need-returns-3 (use-clause-claims t) (use-clause-at t) use-clause.Post
+use-clause-returns-3 t c =
     let at-inner = c .before .before in
     let at-conditions = at-inner .before .before in
     let at-stepped = at-conditions .before in
     let start = at-stepped .before .before .before .before .before .before .before in
-    use-done (start .pre .1 .0) _ _ (start .pre .1 .1 .0) _ refl _ (at-stepped .stepped .ensures) (at-conditions .conditions .ensures) _ _
-    (at-inner .inner .given .1) _ refl (c .behind .ensures)
+    rule-done (start .pre .1 .0) _ _ (start .pre .1 .1 .0) _ refl _ (at-stepped .stepped .ensures) (at-conditions .conditions .ensures) _
+    (at-inner .inner .given .1) (c .if1 .left)
 
 walk-kind-requires : (t : ℕ) → walk-lts.Need-kind-requires (walk-claims t) (walk-at t) walk.Post
 walk-kind-requires t c κs =
@@ -840,7 +876,7 @@ walk-tensor-walk-requires-2 t c κs =
     let start = at-walk .before .before .before .before .before .before in
     let parts = tensor-parts (start .pre .1 .0) _ (start .pre .1 .1 .0) (start .pre .1 .1 .1) in
     right-call (start .pre .1 .0) _ (start .pre .1 .1 .0) (parts .0) (parts .1) (parts .2) (parts .3) _ (at-first .first .given .1) (at-walk .walk
-    .ensures) t (start .pre .0) _ (at-right .right .ensures .0) _ (c .on .ensures)
+    .ensures) t (start .pre .0) _ (at-right .right .ensures .0) _ (inl refl) _ (c .on .ensures)
 
 walk-tensor-enum-known-second : (t : ℕ) → walk-tensor-lts.Need-enum-known-second (walk-tensor-claims t) (walk-tensor-at t) walk-tensor.Post
 walk-tensor-enum-known-second t c = c .match2 .keys1
@@ -857,7 +893,7 @@ walk-tensor-returns-2 t c =
     let at-walk = at-first .before .before in
     let at-left = at-walk .before .before .before in
     let start = at-left .before .before .before in
-    run-lost (start .pre .1 .0) _ (at-first .first .given .1) (at-walk .walk .ensures) _ (at-on .on .ensures) (at-walk2 .walk2 .ensures)
+    run-lost (start .pre .1 .0) _ (at-first .first .given .1) (at-walk .walk .ensures) _ _ (at-on .on .ensures) (at-walk2 .walk2 .ensures)
     (tensor-both (start .pre .1 .0) _ (start .pre .1 .1 .0) _ (at-left .left .ensures .0) _ (at-right .right .ensures .0) (start .pre
     .1 .1 .1)) (c .enum-told2 .given .1)
 
@@ -874,8 +910,8 @@ walk-tensor-returns-3 t c =
     let at-walk = at-first .before .before in
     let at-left = at-walk .before .before .before in
     let start = at-left .before .before .before in
-    run-tensor (start .pre .1 .0) _ (at-first .first .given .1) (at-walk .walk .ensures) _ (at-on .on .ensures) (at-walk2 .walk2
-    .ensures) _ (at-second .second .given .1) (c .tensor .ensures .1 .0) (c .tensor .ensures .1 .1) _ (c .tensor .ensures .0)
+    run-tensor (start .pre .1 .0) _ (at-first .first .given .1) (at-walk .walk .ensures) _ _ (at-on .on .ensures) (at-walk2 .walk2
+    .ensures) _ (at-second .second .given .1) (c .tensor .ensures .1 .0) (c .tensor .ensures .1 .1) _ refl (c .tensor .ensures .0)
     (tensor-joins (start .pre .1 .0) _ (start .pre .1 .1 .0) _ (at-left .left .ensures .0) _ (at-right .right .ensures .0) (start .pre .1
     .1 .1))
 
@@ -921,7 +957,7 @@ walk-with-walk-requires-2 t c κs =
     let start = at-walk .before .before .before .before .before .before in
     let parts = with-parts (start .pre .1 .0) _ (start .pre .1 .1 .0) (start .pre .1 .1 .1) in
     right-call (start .pre .1 .0) _ (start .pre .1 .1 .0) (parts .0) (parts .1) (parts .2) (parts .3) _ (at-first .first .given .1) (at-walk .walk
-    .ensures) t (start .pre .0) _ (at-right .right .ensures .0) _ (c .on .ensures)
+    .ensures) t (start .pre .0) _ (at-right .right .ensures .0) _ (inr refl) _ (c .on .ensures)
 
 walk-with-enum-known-second : (t : ℕ) → walk-with-lts.Need-enum-known-second (walk-with-claims t) (walk-with-at t) walk-with.Post
 walk-with-enum-known-second t c = c .match2 .keys1
@@ -938,7 +974,7 @@ walk-with-returns-2 t c =
     let at-walk = at-first .before .before in
     let at-left = at-walk .before .before .before in
     let start = at-left .before .before .before in
-    run-lost (start .pre .1 .0) _ (at-first .first .given .1) (at-walk .walk .ensures) _ (at-on .on .ensures) (at-walk2 .walk2 .ensures)
+    run-lost (start .pre .1 .0) _ (at-first .first .given .1) (at-walk .walk .ensures) _ _ (at-on .on .ensures) (at-walk2 .walk2 .ensures)
     (with-both (start .pre .1 .0) _ (start .pre .1 .1 .0) _ (at-left .left .ensures .0) _ (at-right .right .ensures .0) (start .pre .1
     .1 .1)) (c .enum-told2 .given .1)
 
@@ -955,8 +991,8 @@ walk-with-returns-3 t c =
     let at-walk = at-first .before .before in
     let at-left = at-walk .before .before .before in
     let start = at-left .before .before .before in
-    run-with (start .pre .1 .0) _ (at-first .first .given .1) (at-walk .walk .ensures) _ (at-on .on .ensures) (at-walk2 .walk2 .ensures)
-    _ (at-second .second .given .1) (c .beside .ensures .1 .0) (c .beside .ensures .1 .1) _ (c .beside .ensures .0) (with-joins (start
+    run-with (start .pre .1 .0) _ (at-first .first .given .1) (at-walk .walk .ensures) _ _ (at-on .on .ensures) (at-walk2 .walk2 .ensures)
+    _ (at-second .second .given .1) (c .beside .ensures .1 .0) (c .beside .ensures .1 .1) _ refl (c .beside .ensures .0) (with-joins (start
     .pre .1 .0) _ (start .pre .1 .1 .0) _ (at-left .left .ensures .0) _ (at-right .right .ensures .0) (start .pre .1 .1 .1))
 
 pub +conditions+menu+use-clause+walk+walk-atom+walk-lend+walk-one-of+walk-tensor+walk-with-spec :
@@ -1019,8 +1055,11 @@ pub +conditions+menu+use-clause+walk+walk-atom+walk-lend+walk-one-of+walk-tensor
     (use-clause-enum-known-inner t)
     (use-clause-enum-told t)
     (use-clause-returns t)
-    (use-clause-behind-requires t)
-    (use-clause-returns-2 t))
+    (use-clause-sub-item t)
+    (use-clause-due-requires t)
+    (use-clause-using-requires t)
+    (use-clause-returns-2 t)
+    (use-clause-returns-3 t))
     (λ t. walk-lts.spec (walk-claims t)
     (walk-at t)
     walk.Post

@@ -27,6 +27,9 @@ both-requires-3 c κs = search needs
 both-requires-4 : tie.Need-both-requires-4
 both-requires-4 c κs = search needs
 
+pick-requires : tie.Need-pick-requires
+pick-requires c κs = search needs
+
 words-self : (s : tie.Start) → Words (s .args .self .used)
 words-self s = search needs
 
@@ -35,14 +38,18 @@ words-other s = search needs
 
 returns : tie.Need-returns
 returns c =
-    let start = c .before .before .before .before .before .before .before .before in
-    let v = start .args .w in
-    let joined = c .before .before .before in
+    let whole = c .before in
+    let joined = whole .before .before .before in
     let both = joined .before in
+    let start = both .before .before .before .before in
+    let v = start .args .w in
     let agree = both .both .ensures ∙ ap₂ _&&_ (both .before .before .covers .ensures) (both .before .covers2 .ensures) in
-    let alive = c .both4 .ensures ∙ ap₂ _&&_ (c .before .both3 .ensures) agree in
-    let slack = c .before .before .both2 .ensures in
-    (λ i. record { at = v .at; used = joined .join .ensures i; slack = slack i; alive = alive i }, (words-self start, words-other start))
+    let alive = whole .both4 .ensures ∙ ap₂ _&&_ (whole .before .both3 .ensures) agree in
+    let slack = whole .before .before .both2 .ensures in
+    let met = c .pick .ensures in (
+      λ i. record { at = v .at; used = joined .join .ensures i; slack = slack i; alive = alive i; met = met i },
+      (words-self start, words-other start),
+    )
 
 pub beside-spec : {M : Type 1} → statement M
 beside-spec =
@@ -55,4 +62,5 @@ beside-spec =
     both-requires-2
     both-requires-3
     both-requires-4
+    pick-requires
     returns)

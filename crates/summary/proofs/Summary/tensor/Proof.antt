@@ -32,14 +32,14 @@ words-other s = search needs
 
 returns : tie.Need-returns
 returns c =
-    let start = c .before .before .before .before .before .before .before in
-    let v = start .args .w in
     let joined = c .before .before .before in
     let empty = joined .before in
-    let apart = empty .is-empty .ensures ∙ ap isEmptyS (empty .before .meet .ensures) in
-    let alive = c .both2 .ensures ∙ ap₂ _&&_ (c .before .both .ensures) apart in
+    let start = empty .before .before .before in
+    let v = start .args .w in
+    let shares = empty .is-empty .ensures ∙ ap isEmptyS (empty .before .meet .ensures) in
+    let alive = c .both2 .ensures ∙ ap₂ _&&_ (c .before .both .ensures) shares in
     let slack = c .before .before .either .ensures in (
-      λ i. record { at = v .at; used = joined .join .ensures i; slack = slack i; alive = alive i },
+      λ i. record { at = v .at; used = joined .join .ensures i; slack = slack i; alive = alive i; met = v .met },
       (words-self start, words-other start),
     )
 

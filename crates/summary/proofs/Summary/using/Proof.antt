@@ -1,4 +1,5 @@
--- What `has`, `add` and `both` answer, put together.
+-- What the callees answer, put together.
+use Prim.Native.Nat.{_+_}
 use mathlib.Core.Path.{_∙_, ap}
 use mathlib.Core.Bool.{not, _&&_}
 use borrow.Author.Needs.{needs}
@@ -14,12 +15,17 @@ add-requires c κs = search needs
 both-requires : tie.Need-both-requires
 both-requires c κs = search needs
 
+add-t8 : tie.Need-add-t8
+add-t8 c = search needs
+
 returns : tie.Need-returns
 returns c =
-    let w = c .before .before .before .before .args .self in
-    let free = ap (λ b. w .alive && not b) (c .before .before .has .ensures) in
-    let alive = c .both .ensures ∙ free in
-    λ i. record { at = w .at; used = c .before .add .ensures i; slack = w .slack; alive = alive i }
+    let whole = c .before in
+    let at-has = whole .before .before in
+    let a = at-has .before .before .args in
+    let w = a .self in
+    let alive = whole .both .ensures ∙ ap (λ b. w .alive && not b) (at-has .has .ensures) in
+    λ i. record { at = w .at; used = whole .before .add .ensures i; slack = w .slack; alive = alive i; met = w .met + a .due }
 
 pub using-spec : {M : Type 1} → statement M
-using-spec = tie.close (tie.spec has-requires add-requires both-requires returns)
+using-spec = tie.close (tie.spec has-requires add-requires both-requires add-t8 returns)
