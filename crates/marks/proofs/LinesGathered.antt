@@ -1,6 +1,6 @@
 -- Laws of the lines gathered: no step, one step more, and the marks by the set.
-use Prim.Native.Nat.{ℕ, _+_, _<_}
-use native.Mathlib.Decide.{decLt, ℕ-discrete}
+use Prim.Native.Nat.{ℕ, _+_, _≤_, _<_}
+use native.Mathlib.Decide.{ℕ-discrete}
 use native.Mathlib.Omega.{arith}
 use mathlib.Core.Path.{_≡_, sym, _∙_, ap}
 use mathlib.Core.Bool.{Bool, _||_, or-false, or-comm}
@@ -13,7 +13,7 @@ use Rattle.card.specs.Format.{ruleCount}
 use Rattle.card.specs.Sheet.{markOf}
 use Rattle.lines.specs.declared.LineSet.{LineSet}
 use Rattle.lines.specs.Inner.Set.{member, emptyS, addS}
-use Rattle.lines.proofs.MemberLaws.{member-empty, member-add, add-past}
+use Rattle.lines.proofs.MemberLaws.{member-empty, member-add}
 use Rattle.marks.specs.Marks.{markFault}
 use Rattle.marks.specs.Inner.Used.{Gathers, markBy, faultBy}
 
@@ -42,17 +42,17 @@ module _ {l : List ℕ} {rules : ℕ} {s : LineSet} (g : Gathers l rules s) (e :
   pub gathers-rule : e < rules → Gathers (l ++ (e ∷ [])) rules s
   gathers-rule k = gathers-beside (λ x h p. omega arith)
 
-  -- a step behind the rules has item i; from 192 on the set has no place for it
-  pub gathers-item : (i : ℕ) → e ≡ rules + i → Gathers (l ++ (e ∷ [])) rules (addS s i)
-  gathers-item i q = go (decLt i 192)
+  -- an item past the lines of a card
+  pub gathers-past : (i : ℕ) → e ≡ rules + i → 64 ≤ i → Gathers (l ++ (e ∷ [])) rules s
+  gathers-past i q k = gathers-beside (λ x h p. omega arith)
+
+  -- a step behind the rules has item i
+  pub gathers-item : (i : ℕ) → e ≡ rules + i → i < 64 → Gathers (l ++ (e ∷ [])) rules (addS s i)
+  gathers-item i q k = gathers-more (λ x h. member-add s i x (omega arith) ∙ ap (λ (b : Bool). b || member s x) (same x (ℕ-discrete x i)))
     where
       same : (x : ℕ) → Dec (x ≡ i) → eqb x i ≡ eqb (rules + x) e
       same x (yes p) = eq-eqb x i p ∙ sym (eq-eqb (rules + x) e (omega arith))
       same x (no d) = ne-eqb x i d ∙ sym (ne-eqb (rules + x) e (λ p. d (omega arith)))
-
-      go : Dec (i < 192) → Gathers (l ++ (e ∷ [])) rules (addS s i)
-      go (yes d) = gathers-more (λ x h. member-add s i x d ∙ ap (λ (b : Bool). b || member s x) (same x (ℕ-discrete x i)))
-      go (no d) = rw (add-past s i (omega arith)) (gathers-beside (λ x h p. omega arith))
 
 module _ (bs : List ℕ) {l : List ℕ} {s : LineSet} (g : Gathers l (ruleCount bs) s) (i : ℕ) (h : i < 64) where
   pub mark-by : markBy bs s i ≡ markOf bs l i

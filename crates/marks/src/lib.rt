@@ -6,8 +6,8 @@ use card::format::line_byte;
 use card::refuse;
 use lines::LineSet;
 ghost use mathlib.Core.Path.{_≡_};
-ghost use mathlib.Core.List.{_++_};
-ghost use Prim.Native.Nat.{_≤_, _<_};
+ghost use mathlib.Core.List.{List, [], _∷_, _++_};
+ghost use Prim.Native.Nat.{ℕ, _≤_, _<_};
 ghost use lib.ListN.{length, take, drop};
 ghost use Rattle.card.specs.Format.{lineCount};
 ghost use Rattle.card.specs.Verdict.{told, firstOf};
@@ -15,6 +15,20 @@ ghost use Rattle.card.specs.Inner.Checks.{Framed};
 ghost use Rattle.card.specs.Sheet.{marksOf};
 ghost use Rattle.marks.specs.Marks.{markFault};
 ghost use Rattle.marks.specs.Inner.Used.{Gathers, markBy, faultBy};
+
+// The set with the line that the step is. A rule is none, nor is anything past 64 items: a choice, or a lent clause.
+fn with_line(set: LineSet, rules: usize, step: usize) -> LineSet
+    ensures { λ r. ⌜ ((l : List ℕ) → Gathers l rules set → Gathers (l ++ (step ∷ [])) rules r) ⌝ }
+{
+    if step < rules {
+        return set;
+    }
+    let item = step - rules;
+    if 64 <= item {
+        return set;
+    }
+    set.add(item)
+}
 
 // The lines that stand in the list: item i for entry rules + i. What is no line has an item past the lines, or none.
 fn listed(steps: &[u8], k: usize, rules: usize) -> LineSet
@@ -24,10 +38,7 @@ fn listed(steps: &[u8], k: usize, rules: usize) -> LineSet
     let mut set = LineSet::empty();
     let mut at = 0;
     while at < k {
-        let step = byte(steps, at);
-        if rules <= step {
-            set = set.add(step - rules);
-        }
+        set = with_line(set, rules, byte(steps, at));
         at += 1;
     }
     set

@@ -3,13 +3,12 @@ use Prim.Native.Nat.{_≤_, _+_, _-_}
 use native.Mathlib.Numerals.{add-one}
 use native.Mathlib.Omega.{arith}
 use mathlib.Core.Path.{_≡_}
-use mathlib.Core.Logic.{⊎-elim}
 use mathlib.Core.List.{[], _∷_, _++_}
 use lib.ListN.{take}
 use lib.Seq.{take-suc}
 use borrow.Author.Needs.{needs}
 use Rattle.marks.specs.Inner.Used.{Gathers}
-use Rattle.marks.proofs.LinesGathered.{gathers-none, gathers-rule, gathers-item}
+use Rattle.marks.proofs.LinesGathered.{gathers-none}
 use Rattle.marks.proofs.listed.Statement.{statement}
 use Rattle.marks.proofs.listed.Tie as tie
 
@@ -28,8 +27,8 @@ loop-holds c = (rw (c .empty .ensures) (gathers-none _), omega arith)
 byte-requires : tie.Need-byte-requires Inv-loop μ-loop
 byte-requires c κs = omega arith
 
-add-requires : tie.Need-add-requires Inv-loop μ-loop
-add-requires c κs = search needs
+with-line-requires : tie.Need-with-line-requires Inv-loop μ-loop
+with-line-requires c κs = search needs
 
 add-at : tie.Need-add-at Inv-loop μ-loop
 add-at c = omega arith
@@ -43,13 +42,8 @@ loop-again c =
     let steps = turn .before .before .before .args .steps .now in
     let step = c .before .byte in
     let more : take (turn .loop .at + 1) steps ≡ take (turn .loop .at) steps ++ (step .result ∷ []) =
-    rw (add-one, step .ensures .0) (take-suc steps (turn .loop .at) 0 (omega arith)) in (
-      rw more (⊎-elim
-          (λ w. rw (w .2, w .1 .ensures) (gathers-item (turn .loop .inv .0) (step .result) _ (omega (arith, w .0 .taken))))
-          (λ w. rw (w .1) (gathers-rule (turn .loop .inv .0) (step .result) (omega (arith, w .0 .left))))
-          (c .if1 .came)),
-      omega arith,
-    )
+    rw (add-one, step .ensures .0) (take-suc steps (turn .loop .at) 0 (omega arith)) in
+    (rw more (c .with-line .ensures _ (turn .loop .inv .0)), omega arith)
 
 returns : tie.Need-returns Inv-loop μ-loop
 returns c =
@@ -65,7 +59,7 @@ listed-spec =
     empty-requires
     loop-holds
     byte-requires
-    add-requires
+    with-line-requires
     add-at
     loop-less
     loop-again
