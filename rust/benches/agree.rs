@@ -8,7 +8,7 @@ mod families;
 
 use archives::{all_choose, Asked, ARCHIVES};
 use cards::{any_card_of, Draft, Random, ALL, SEVEN};
-use families::{choices, deep, kits, recursive, FAMILIES};
+use families::{choices, deep, dones, kits, recursive, FAMILIES};
 use std::time::Duration;
 
 const BEFORE_LIMIT: Duration = Duration::from_millis(100);
@@ -51,7 +51,8 @@ fn random(n: usize, seed: u64, card: fn(&mut Random) -> Vec<u8>) -> Vec<Vec<u8>>
 }
 
 fn all_families() -> Vec<Vec<u8>> {
-    let sizes = FAMILIES.iter().flat_map(|f| f.sizes.iter().map(|&n| (f.card)(n).bytes()));
+    let sizes =
+        FAMILIES.iter().chain(dones::DONES).flat_map(|f| f.sizes.iter().map(|&n| (f.card)(n).bytes()));
     sizes.chain(deep::cards().iter().map(|c| c.1.bytes())).collect()
 }
 

@@ -8,6 +8,7 @@ mod families;
 
 use archives::{all_choose, Answer, Archive, Asked, ARCHIVES, ROOM};
 use families::choices::CHOOSING;
+use families::dones::DONES;
 use families::{Family, FAMILIES, HARD};
 use std::hint::black_box;
 use std::time::{Duration, Instant};
@@ -37,15 +38,21 @@ fn main() {
     let rows = table(&mut asked, FAMILIES);
     println!("\nHard cards, not up to full size:\n");
     let hard = table(&mut asked, HARD);
-    summary(&rows, &hard);
+    println!("\nCards with many \"done\"s:\n");
+    let dones = table(&mut asked, DONES);
     println!("\nCards with choices:\n");
-    match all_choose() {
-        true => drop(table(&mut asked, CHOOSING)),
-        false => println!("The planner before does not know them."),
+    let choosing = match all_choose() {
+        true => table(&mut asked, CHOOSING),
+        false => Vec::new(),
+    };
+    if choosing.is_empty() {
+        println!("The planner before does not know them.");
     }
+    summary(&[&rows, &hard, &dones, &choosing]);
 }
 
-type Row = (&'static Family, usize, Times);
+/// A card of a family, the times of its planning and, where it is planned, of the reading of its sheet.
+type Row = (&'static Family, usize, Times, Option<Times>);
 
 /// Prints the times of the families' cards.
 fn table(asked: &mut [Asked], families: &'static [Family]) -> Vec<Row> {
@@ -57,13 +64,25 @@ fn table(asked: &mut [Asked], families: &'static [Family]) -> Vec<Row> {
             let card = (family.card)(n).bytes();
             let answers: Vec<Option<Answer>> = asked.iter_mut().map(|a| a.ask(&card, LIMIT)).collect();
             check(family, n, &answers);
-            let times = times(&card, &answers);
-            print_row(family, n, &answers, &times, last);
-            last = times.now().map(|t| (n, t));
-            rows.push((family, n, times));
+            let planning = times(&card, &mut vec![0; ROOM], &answers, Archive::plan);
+            print_row(family, n, &answers, &planning, last);
+            last = planning.now().map(|t| (n, t));
+            let reading = answers.iter().flatten().next().and_then(|a| reading_times(&card, a, &answers));
+            rows.push((family, n, planning, reading));
         }
     }
     rows
+}
+
+/// The times of the reading of the card's sheet, if it has one; both readers accept it.
+fn reading_times(card: &[u8], answer: &Answer, answers: &[Option<Answer>]) -> Option<Times> {
+    if answer.number >> 24 != 0 {
+        return None;
+    }
+    let length = u16::from_be_bytes([answer.sheet[0], answer.sheet[1]]);
+    let mut sheet = answer.sheet[..usize::from(length)].to_vec();
+    ARCHIVES.iter().for_each(|archive| assert_eq!(archive.read(card, &sheet), answer.number));
+    Some(times(card, &mut sheet, answers, |archive, card, sheet| archive.read(card, sheet)))
 }
 
 fn about() -> String {
@@ -97,18 +116,17 @@ fn check(family: &Family, n: usize, answers: &[Option<Answer>]) {
 
 /// The time of one call of each archive that answers. Where the stack begins sets how its cells fall on lines and pages, which can make a call
 /// a quarter slower; so all are timed at many places.
-fn times(card: &[u8], answers: &[Option<Answer>]) -> Times {
-    let mut sheet = vec![0; ROOM];
+fn times(card: &[u8], sheet: &mut [u8], answers: &[Option<Answer>], call: Call) -> Times {
     let answering: Vec<usize> = (0..answers.len()).filter(|&i| answers[i].is_some()).collect();
     // the second call is warm, and says how many there are to a turn
-    let mut warm = |i: &usize| [(); 2].map(|()| turn(ARCHIVES[*i], card, &mut sheet, 1))[1];
+    let mut warm = |i: &usize| [(); 2].map(|()| turn(ARCHIVES[*i], call, card, sheet, 1))[1];
     let once: Vec<f64> = answering.iter().map(&mut warm).collect();
     let calls = once.iter().map(|&ns| (50_000.0 / ns.max(1.0)).ceil() as usize).min().unwrap_or(0);
     let places = if once.iter().any(|&ns| ns > 5e6) { 1 } else { PLACES };
     let mut found: Vec<Vec<f64>> = vec![Vec::new(); answers.len()];
     for place in 0..places {
         deeper(place, &mut || {
-            for (i, least) in least_of_turns(&answering, card, &mut sheet, calls) {
+            for (i, least) in least_of_turns(&answering, call, card, sheet, calls) {
                 found[i].push(least);
             }
         });
@@ -121,11 +139,17 @@ fn times(card: &[u8], answers: &[Option<Answer>]) -> Times {
 }
 
 /// The least time of each archive at this place, by turns: what is more was disturbed.
-fn least_of_turns(answering: &[usize], card: &[u8], sheet: &mut [u8], calls: usize) -> Vec<(usize, f64)> {
+fn least_of_turns(
+    answering: &[usize],
+    call: Call,
+    card: &[u8],
+    sheet: &mut [u8],
+    calls: usize,
+) -> Vec<(usize, f64)> {
     let mut least: Vec<(usize, f64)> = answering.iter().map(|&i| (i, f64::INFINITY)).collect();
     for _ in 0..TURNS {
         for (i, time) in &mut least {
-            *time = time.min(turn(ARCHIVES[*i], card, sheet, calls));
+            *time = time.min(turn(ARCHIVES[*i], call, card, sheet, calls));
         }
     }
     least
@@ -142,10 +166,13 @@ fn deeper(frames: usize, f: &mut dyn FnMut()) {
     black_box(&frame);
 }
 
-fn turn(archive: Archive, card: &[u8], sheet: &mut [u8], calls: usize) -> f64 {
+/// A call of an archive that is timed.
+type Call = fn(Archive, &[u8], &mut [u8]) -> u32;
+
+fn turn(archive: Archive, call: Call, card: &[u8], sheet: &mut [u8], calls: usize) -> f64 {
     let start = Instant::now();
     for _ in 0..calls {
-        black_box(archive.plan(black_box(card), sheet));
+        black_box(call(archive, black_box(card), sheet));
     }
     start.elapsed().as_nanos() as f64 / calls as f64
 }
@@ -198,8 +225,8 @@ fn print_row(
 }
 
 /// Ratios of these rows: their mean, the worst, and how many are above 1.05.
-fn ratios(of: &str, rows: &[&Row]) {
-    let known: Vec<(f64, &Row)> = rows.iter().filter_map(|&row| Some((row.2.ratio?, row))).collect();
+fn ratios(of: &str, rows: &[(&Row, Option<f64>)]) {
+    let known: Vec<(f64, &Row)> = rows.iter().filter_map(|&(row, ratio)| Some((ratio?, row))).collect();
     if let (Some(mean), Some((worst, row))) =
         (mean(known.iter().map(|r| r.0)), known.iter().max_by(|a, b| a.0.total_cmp(&b.0)))
     {
@@ -213,18 +240,50 @@ fn ratios(of: &str, rows: &[&Row]) {
     }
 }
 
-/// The ratios of straight plans and of all cards, and the cards that take longest now.
-fn summary(rows: &[Row], hard: &[Row]) {
+fn planning(row: &Row) -> (&Row, Option<f64>) {
+    (row, row.2.ratio)
+}
+
+fn reading(row: &Row) -> (&Row, Option<f64>) {
+    (row, row.3.as_ref().and_then(|times| times.ratio))
+}
+
+/// The families whose rows have a mean ratio above 1.03, and the one that has the greatest.
+fn by_family(of: &str, rows: &[(&Row, Option<f64>)]) {
+    let mut means: Vec<(f64, &str)> = rows
+        .chunk_by(|a, b| a.0 .0.name == b.0 .0.name)
+        .filter_map(|of| Some((mean(of.iter().filter_map(|row| row.1))?, of[0].0 .0.name)))
+        .collect();
+    means.sort_by(|a, b| b.0.total_cmp(&a.0));
+    if let Some((worst, name)) = means.first() {
+        let above = means.iter().filter(|m| m.0 > 1.03).count();
+        println!(
+            "{of}: {} families, the worst by its mean {worst:.3} ({name}), {above} above 1.03",
+            means.len()
+        );
+        means.iter().take(above).for_each(|(ratio, name)| println!("  {name} {ratio:.3}"));
+    }
+}
+
+/// The ratios of straight plans, of each table and by family, those of reading, and the cards that take longest now.
+fn summary(tables: &[&[Row]; 4]) {
+    let [rows, hard, dones, choosing] = tables;
+    let all: Vec<&Row> = tables.iter().flat_map(|rows| rows.iter()).collect();
     println!();
-    ratios("Straight plans (*)", &rows.iter().filter(|r| r.0.straight).collect::<Vec<_>>());
-    ratios("All of both tables", &rows.iter().chain(hard).collect::<Vec<_>>());
+    ratios("Straight plans (*)", &rows.iter().filter(|r| r.0.straight).map(planning).collect::<Vec<_>>());
+    ratios("First two tables", &rows.iter().chain(*hard).map(planning).collect::<Vec<_>>());
+    ratios("Many \"done\"s", &dones.iter().map(planning).collect::<Vec<_>>());
+    ratios("Choices", &choosing.iter().map(planning).collect::<Vec<_>>());
+    by_family("All tables", &all.iter().map(|&row| planning(row)).collect::<Vec<_>>());
+    ratios("Reading the sheets", &all.iter().map(|&row| reading(row)).collect::<Vec<_>>());
+    by_family("Reading the sheets", &all.iter().map(|&row| reading(row)).collect::<Vec<_>>());
     let slow: Vec<String> = rows
         .iter()
         .filter(|r| r.2.now().is_none_or(|t| t > 1e6))
         .map(|r| format!("{} {}", r.0.name, r.1))
         .collect();
     println!(
-        "\n{} of {} cards of the first take over 1 ms now{}",
+        "\n{} of {} cards of the first table take over 1 ms now{}",
         slow.len(),
         rows.len(),
         if slow.is_empty() { "." } else { ":" }

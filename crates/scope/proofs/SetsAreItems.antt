@@ -11,6 +11,7 @@ use borrow.Author.Tests.{le-leb, leb-true, leb-false, lt-ltb, le-ltb, ltb-true, 
 use Rattle.calculus.specs.Items.{Items, ∅, _∪_, _∖_, only, Empty}
 use Rattle.lines.specs.declared.LineSet.{LineSet}
 use Rattle.lines.specs.Inner.Set.{member, isEmptyS, emptyS, fullS, addS, takeS, cutS, meetS, joinS, Words}
+use Rattle.lines.specs.Inner.Count.{bit}
 use Rattle.lines.proofs.MemberLaws.{member-past, member-empty, member-full, member-join, member-meet, member-cut, member-add, member-take}
 use Rattle.lines.proofs.MemberLaws.{empty-none, none-empty}
 use Rattle.card.specs.Format.{ruleCount, lineCount, nodeCount, lineNode, lineByte}
@@ -212,3 +213,20 @@ module _ {bs : List ℕ} (s : Sound bs) where
       part e h =
           let w = line-within bs 1 e (sym (ap (λ I. I e) strict-items) ∙ h) in
           in-full e (w .0) (w .1)
+
+  -- a line's must/may byte counts it among the must lines or not, and what is past the lines is none
+  pub strict-byte : (i : ℕ) → i < lineCount bs → lineByte bs i ≡ bit (member (strictOf bs) i)
+  unfolding strictOf bit
+  strict-byte i h = by (lineByte bs i) refl (byte-known s i h)
+    where
+      in-lines : member (strictBelow bs (lineCount bs)) i ≡ eqb (lineByte bs i) 1
+      in-lines = strict-member bs (lineCount bs) i lines-few ∙ rw (lt-ltb i (lineCount bs) h) refl
+
+      by : (x : ℕ) → lineByte bs i ≡ x → x ≤ 1 → lineByte bs i ≡ bit (member (strictBelow bs (lineCount bs)) i)
+      by zero e k = rw (in-lines, e) refl
+      by (suc zero) e k = rw (in-lines, e) refl
+      by (suc (suc x)) e k = absurd (omega arith)
+
+  pub strict-past : (i : ℕ) → lineCount bs ≤ i → member (strictOf bs) i ≡ false
+  unfolding strictOf
+  strict-past i h = strict-member bs (lineCount bs) i lines-few ∙ rw (le-ltb i (lineCount bs) h) refl

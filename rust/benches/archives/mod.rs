@@ -7,34 +7,46 @@ mod asked;
 pub use asked::{Answer, Asked, ROOM};
 use kit_planner as _; // links this tree's archive
 
-type Call = unsafe extern "C" fn(*const u8, usize, *mut u8, usize) -> u32;
+type Plan = unsafe extern "C" fn(*const u8, usize, *mut u8, usize) -> u32;
+type Read = unsafe extern "C" fn(*const u8, usize, *const u8, usize) -> u32;
 
 #[cfg(pair)]
 extern "C" {
     fn before_kit_plan(card: *const u8, card_len: usize, sheet: *mut u8, sheet_len: usize) -> u32;
+    fn before_kit_read(card: *const u8, card_len: usize, sheet: *const u8, sheet_len: usize) -> u32;
     fn now_kit_plan(card: *const u8, card_len: usize, sheet: *mut u8, sheet_len: usize) -> u32;
+    fn now_kit_read(card: *const u8, card_len: usize, sheet: *const u8, sheet_len: usize) -> u32;
 }
 
 #[cfg(not(pair))]
 extern "C" {
     fn kit_plan(card: *const u8, card_len: usize, sheet: *mut u8, sheet_len: usize) -> u32;
+    fn kit_read(card: *const u8, card_len: usize, sheet: *const u8, sheet_len: usize) -> u32;
 }
 
-/// An archive by its call.
+/// An archive by its calls.
 #[derive(Clone, Copy)]
-pub struct Archive(Call);
+pub struct Archive(Plan, Read);
 
 /// The archives there are, the earlier first.
 #[cfg(pair)]
-pub const ARCHIVES: &[Archive] = &[Archive(before_kit_plan), Archive(now_kit_plan)];
+pub const ARCHIVES: &[Archive] =
+    &[Archive(before_kit_plan, before_kit_read), Archive(now_kit_plan, now_kit_read)];
 #[cfg(not(pair))]
-pub const ARCHIVES: &[Archive] = &[Archive(kit_plan)];
+pub const ARCHIVES: &[Archive] = &[Archive(kit_plan, kit_read)];
 
 impl Archive {
-    /// The answer as the call's number.
+    /// The planner's answer as the call's number.
     pub fn plan(self, card: &[u8], sheet: &mut [u8]) -> u32 {
         // SAFETY: both are whole slices, and the buffer is borrowed by `&mut`.
         unsafe { self.0(card.as_ptr(), card.len(), sheet.as_mut_ptr(), sheet.len()) }
+    }
+
+    /// The reader's answer as the call's number.
+    #[allow(dead_code)]
+    pub fn read(self, card: &[u8], sheet: &[u8]) -> u32 {
+        // SAFETY: both are whole slices.
+        unsafe { self.1(card.as_ptr(), card.len(), sheet.as_ptr(), sheet.len()) }
     }
 }
 

@@ -2,6 +2,7 @@
 #![allow(dead_code)]
 pub mod choices;
 pub mod deep;
+pub mod dones;
 pub mod kits;
 pub mod recursive;
 
