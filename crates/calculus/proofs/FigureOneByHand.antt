@@ -5,10 +5,10 @@ use mathlib.Core.Bool.{Bool, true, false, not, _&&_, _||_, true≢false, false�
 use mathlib.Core.List.{List, [], _∷_}
 use lib.Dec.{eqb}
 use Rattle.calculus.specs.Formula.{Goal, atomᴳ, oneᴳ, zeroᴳ, tensor, oplus, atomᴰ, lolliᴰ, withᴰ, matched, residual, usable}
-use Rattle.calculus.specs.Items.{Items, _∖_, only, Empty}
-use Rattle.calculus.specs.Derivation.{Scope, entryAt, clauseAt, linearAt, residualAt, Derives, res-1, res-⊗, res-⊕₁, res-⊕₂}
+use Rattle.calculus.specs.Items.{Items, ∅, _∪_, _∩_, _∖_, only, Empty}
+use Rattle.calculus.specs.Derivation.{Scope, entryAt, clauseAt, linearAt, residualAt, Derives, res-1, res-⊤, res-⊗, res-&, res-⊕₁, res-⊕₂}
 use Rattle.calculus.specs.Derivation.{res-atm-int, res-atm-lin}
-use Rattle.calculus.specs.Steps.{steps, nesting, Turn, Need, plain, row, left, choice, under, turn-choice, turn-side, chosen, needs}
+use Rattle.calculus.specs.Steps.{steps, stands, surely, nesting, Turn, Need, plain, row, left, choice, under, turn-choice, turn-side, chosen, needs}
 
 -- "the recipe with left a and right (b gives c) meets b, then a"
 nearest-first : residual eqb 3 (lolliᴰ (atomᴳ 1) (lolliᴰ (atomᴳ 2) (atomᴰ 3))) ≡ tensor (tensor oneᴳ (atomᴳ 2)) (atomᴳ 1)
@@ -87,3 +87,16 @@ module _ (es : Scope) (I : Items) (G H : Goal) (e : Empty I) where
   by-order : needs (row 0) two-choices ≡ need (choice 0 ∷ []) 254 ∷ need (choice 1 ∷ []) 255 ∷ []
   unfolding needs under turn-choice turn-side chosen
   by-order = refl
+
+-- "So must a with goal 'a either way rest'": the line stands in the list and is not surely used; used on both sides it is
+one-side : surely (res-& line-is-gone res-⊤) 0 ≡ false
+unfolding surely _∩_ _∪_ ∅ only line-is-gone
+one-side = refl
+
+in-list : stands 0 (steps (res-& line-is-gone res-⊤)) ≡ true
+unfolding stands steps line-is-gone
+in-list = refl
+
+both-sides : surely (res-& line-is-gone line-is-gone) 0 ≡ true
+unfolding surely _∩_ _∪_ ∅ only line-is-gone
+both-sides = refl

@@ -53,7 +53,7 @@ fitting (trace-recipe s x y) = fitting x
 -- The summary of a walk
 
 -- the goal that is derived at a part: for the conditions of a clause, its residual
-abbrev goalAt : Scope → Part → Goal
+abbrev pub goalAt : Scope → Part → Goal
 goalAt es (goal G) = G
 goalAt es (meet a D) = residual (es .fits) a D
 

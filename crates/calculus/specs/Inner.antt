@@ -2,6 +2,8 @@
 pub mod Summary
 pub mod Window
 pub mod Trace
+pub mod Surely
+pub mod Plain
 pub mod Renaming
 pub mod Height
 pub mod Enumeration

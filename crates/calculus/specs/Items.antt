@@ -16,6 +16,11 @@ infixl 40 _∪_
 unfoldable pub _∪_ : Items → Items → Items
 (I ∪ J) i = I i || J i
 
+-- the items of both
+infixl 45 _∩_
+unfoldable pub _∩_ : Items → Items → Items
+(I ∩ J) i = I i && J i
+
 -- the items of the first that are not in the second
 infixl 45 _∖_
 unfoldable pub _∖_ : Items → Items → Items

@@ -7,4 +7,5 @@ pub mod Job
 pub mod Walk
 pub mod Wanted
 pub mod Ways
+pub mod Runs
 pub mod Inner

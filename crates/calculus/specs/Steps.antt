@@ -6,7 +6,7 @@ use mathlib.Core.Bool.{Bool, false, cond, _||_}
 use mathlib.Core.List.{List, [], _∷_, _++_, map, List·Memᴰ}
 use lib.Dec.{eqb, ltb}
 use Rattle.calculus.specs.Formula.{Goal}
-use Rattle.calculus.specs.Items.{Items}
+use Rattle.calculus.specs.Items.{Items, ∅, _∪_, _∩_, only}
 use Rattle.calculus.specs.Derivation.{Scope, Derives, res-1, res-⊤, res-⊗, res-&, res-⊕₁, res-⊕₂, res-⊸, res-atm-int, res-atm-lin}
 
 -- "A choice writes 254 for left or 255 for right".
@@ -50,6 +50,19 @@ entriesUsed (res-atm-lin e n h d) = e ∷ entriesUsed d
 unfoldable pub stands : ℕ → List ℕ → Bool
 stands e [] = false
 stands e (x ∷ l) = eqb e x || stands e l
+
+-- 02, #105: "A name's step surely uses an item that is its entry or surely used in its conditions; 'both' one that either part surely uses;
+-- 'either way' only one that each does; lend or a choice what the goal taken does." A rule is no item.
+unfoldable pub surely : {es : Scope} {I : Items} {G : Goal} → Derives es I G → Items
+surely (res-1 n) = ∅
+surely res-⊤ = ∅
+surely (res-⊗ s l r) = surely l ∪ surely r
+surely (res-& l r) = surely l ∩ surely r
+surely (res-⊕₁ d) = surely d
+surely (res-⊕₂ d) = surely d
+surely (res-⊸ f d) = surely d
+surely (res-atm-int e n d) = surely d
+surely (res-atm-lin e n h d) = only e ∪ surely d
 
 -- "A step's nesting is 1 plus the number of uses it stands inside": the greatest nesting of any step. Of a choice, "d doesn't bind it and it
 -- adds no nesting".
