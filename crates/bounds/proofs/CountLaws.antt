@@ -4,7 +4,7 @@ use native.Mathlib.Omega.{arith}
 use native.Mathlib.Decide.{decLt}
 use native.Mathlib.Numerals.{add-one}
 use mathlib.Core.Path.{_≡_, refl, sym, ap, ap₂, _∙_}
-use mathlib.Core.Bool.{Bool, true, false, not, _&&_, _||_, false≢true}
+use mathlib.Core.Bool.{true, false, not, _&&_, _||_, false≢true}
 use Rattle.calculus.specs.Formula.{Clause}
 use Rattle.calculus.specs.Items.{Items, only, Empty, Splits, Within}
 use Rattle.calculus.specs.Derivation.{Scope, Entry, size, entryAt, clauseAt, linearAt, lend}

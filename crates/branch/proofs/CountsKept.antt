@@ -6,12 +6,12 @@ use mathlib.Core.Path.{_≡_, refl, sym, ap, subst, _∙_}
 use mathlib.Core.Bool.{Bool, true, false, cond}
 use lib.Dec.{ltb}
 use Rattle.lines.specs.declared.LineSet.{LineSet}
-use Rattle.lines.specs.Inner.Set.{member, isEmptyS, emptyS, addS, takeS, cutS, joinS, Words}
+use Rattle.lines.specs.Inner.Set.{member, isEmptyS, emptyS, takeS, cutS, joinS, Words}
 use Rattle.lines.specs.Inner.Count.{countS}
 use Rattle.lines.proofs.CountLaws.{count-empty, count-add, count-take, count-keep, count-none, empty-count}
 use Rattle.branch.specs.declared.Branch.{Branch}
 use Rattle.branch.specs.declared.Way.{Way}
-use Rattle.branch.specs.Inner.Values.{Counted, freedB, easedB, leadB, pastTensorB, pastWithB, lentB, spentB, usingB}
+use Rattle.branch.specs.Inner.Values.{Counted, freedB, pastTensorB, pastWithB, lentB, spentB, usingB}
 
 -- what a change is, and that the branch is counted past it
 pub kept : {b c : Branch} → Counted c → b ≡ c → (b ≡ c) × Counted b
@@ -20,12 +20,6 @@ kept k e = (e, subst Counted (sym e) k)
 -- ⊤ takes the remainder; a part with more behind it has to use nothing
 pub counted-freed : (b : Branch) → Counted (freedB b)
 counted-freed b = sym count-empty
-
-pub counted-eased : (b : Branch) → Counted (easedB b)
-counted-eased b = sym count-empty
-
-pub counted-lead : (b : Branch) → Counted (leadB b)
-counted-lead b = sym count-empty
 
 -- the parts get theirs from what they are handed
 by-slack : (v : Bool) (s t : LineSet) → cond v (countS s) (countS t) ≡ countS (cond v s t)

@@ -9,4 +9,7 @@ pub mod NodesDecoded
 pub mod SampleCards
 pub mod FaultsInRange
 pub mod SoundNodes
+pub mod EachNode
 pub mod StepsFitAByte
+pub mod MarksByLines
+pub mod SureByKinds

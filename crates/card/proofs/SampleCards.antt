@@ -5,7 +5,7 @@ use mathlib.Core.Path.{_≡_, refl, sym, _∙_}
 use mathlib.Core.Bool.{true, false}
 use mathlib.Core.List.{List, [], _∷_}
 use borrow.Author.Tests.{le-ltb, le-leb}
-use Rattle.calculus.specs.Items.{Items, ∅, Empty}
+use Rattle.calculus.specs.Items.{Items, ∅, _∪_, only, Empty}
 use Rattle.calculus.specs.Derivation.{Scope, Derives, res-1}
 use Rattle.calculus.specs.Steps.{stands, steps, nesting}
 use Rattle.calculus.specs.Job.{Listed}
@@ -39,8 +39,9 @@ sample-recipe : clauseOf sample 2 ≡ lolliᴰ (atomᴳ 10) (atomᴰ 20)
 unfolding clauseOf readAt readStep readBy held kinds kindOf grow
 sample-recipe = refl
 
-sample-sheet : sheetOf sample (1 ∷ 0 ∷ []) ≡ sampleSheet
-unfolding sheetOf word marksOf markOf stands listing
+-- its list uses line 1 and, in a condition, line 0
+sample-sheet : sheetOf sample (only 1 ∪ only 0) (1 ∷ 0 ∷ []) ≡ sampleSheet
+unfolding sheetOf word marksOf markOf stands listing _∪_ only
 sample-sheet = refl
 
 -- The definitions are not empty: an empty tray with goal done has the empty list.

@@ -1,23 +1,20 @@
 -- "At most 103 stand in scope, so a number fits a byte": the entries of a sound card's derivations are below P + T + 103, and never meet a
 -- choice.
-use Prim.Native.Nat.{ℕ, zero, suc, _+_, _*_, _-_, _≤_, _<_, max}
+use Prim.Native.Nat.{ℕ, zero, suc, _+_, _*_, _≤_, _<_, max}
 use native.Mathlib.Omega.{arith}
-use native.Mathlib.Nat.{eq-or-lt-of-le}
-use native.Mathlib.Decide.{decLt}
 use mathlib.Core.Path.{_≡_, refl, sym, ap, _∙_}
-use mathlib.Core.Logic.{⊎-elim}
 use mathlib.Core.Bool.{true, cond}
 use mathlib.Core.List.{List, [], _∷_, map}
 use lib.ListN.{getD}
 use borrow.Author.Tests.{lt-ltb}
-use Rattle.calculus.specs.Derivation.{Entry, size, entryAt, clauseAt}
+use Rattle.calculus.specs.Derivation.{size}
 use Rattle.calculus.specs.Steps.{steps, entriesUsed, nesting, renumber, stands, leftChoice}
 use Rattle.calculus.specs.Job.{Derivable}
 use Rattle.calculus.specs.Inner.Height.{heightᴳ, heightᴰ, lends, Low}
 use Rattle.calculus.specs.Inner.Renaming.{over}
 use Rattle.calculus.proofs.RenamingKeeps.{over-steps}
 use Rattle.calculus.proofs.StepsBounded.{lends-fewer, entries-below, over-same}
-use Rattle.card.specs.Format.{nodeCount, ruleCount, lineCount, goalNode, kindAt, leftAt, rightAt, ruleNode, lineNode}
+use Rattle.card.specs.Format.{nodeCount, ruleCount, lineCount, goalNode, kindAt, leftAt, rightAt}
 use Rattle.card.specs.Format.{grow}
 use Rattle.card.specs.declared.kinds.Field.{Field}
 use Rattle.card.specs.declared.kinds.Field.the-variants.{Unused, Name, GoalPart, ClausePart, Unknown}
@@ -25,13 +22,13 @@ use Rattle.card.specs.Kinds.{Held, Kind, unknown, kinds, kindOf}
 use Rattle.card.specs.Fault.{Sound, partHeight, heightStep, heightAt}
 use Rattle.card.specs.Inner.Checks.{PartBelow}
 use Rattle.card.specs.Decode.{held, readBy}
-use Rattle.card.specs.Decode.{NodeReading, noNodeReading, readStep, readAt, goalAt, clauseOf, ruleEntry, lineEntry, jobOf}
+use Rattle.card.specs.Decode.{NodeReading, noNodeReading, readStep, readAt, goalAt, clauseOf, jobOf}
 use Rattle.card.proofs.CardChecked.{sound-front}
 use Rattle.card.proofs.TablesGrow.{grow-at}
-use Rattle.card.proofs.NodesDecoded.{scope-size, rule-at, line-at}
+use Rattle.card.proofs.EachNode.{each-node, each-clause}
+use Rattle.card.proofs.NodesDecoded.{scope-size}
 use Rattle.card.proofs.NodesBuilt.{left-below, right-below}
-use Rattle.card.proofs.SoundNodes.{height-low, sound-built, goal-lower, clause-lower, sound-root}
-use Rattle.card.proofs.SoundNodes.{sound-rule-node, sound-line-node}
+use Rattle.card.proofs.SoundNodes.{height-low, sound-built, goal-lower, sound-root}
 
 -- a node's readings are at most n high
 record AtMost (n : ℕ) (x : NodeReading) : Type 0 where
@@ -113,40 +110,16 @@ module _ {bs : List ℕ} (s : Sound bs) where
           omega (arith, same, below v g .clause, grow-at (heightStep bs) i v 0 g)
       part Unknown v g = omega arith
 
-  nodes-high : (n : ℕ) → n ≤ nodeCount bs → (i : ℕ) → i < n → AtMost (heightAt bs i) (readAt bs i)
-  nodes-high zero h i g = absurd (omega arith)
-  nodes-high (suc n) h i g = ⊎-elim
-      (λ e. node-high i (omega arith) (λ k f. nodes-high n (omega arith) k (omega arith)))
-      (λ l. nodes-high n (omega arith) i l)
-      (eq-or-lt-of-le {n = i} {m = n} (omega arith))
-
   at-8 : (i : ℕ) → i < nodeCount bs → AtMost 8 (readAt bs i)
-  at-8 i h = at-more (nodes-high (nodeCount bs) (omega arith) i h) (height-low s i h)
+  at-8 i h = at-more (each-node bs (λ i. AtMost (heightAt bs i)) node-high i h) (height-low s i h)
 
   goal-high : heightᴳ (jobOf bs .goal) ≤ 8
   unfolding jobOf goalAt
   goal-high = at-8 (goalNode bs) (goal-lower bs (nodeCount bs) (goalNode bs) (sound-root s)) .goal
 
-  rule-high : (i : ℕ) → i < ruleCount bs → heightᴰ (clauseOf bs (ruleNode bs i)) ≤ 8
-  unfolding clauseOf
-  rule-high i h = at-8 (ruleNode bs i) (clause-lower bs (nodeCount bs) (ruleNode bs i) (sound-rule-node s i h)) .clause
-
-  line-high : (i : ℕ) → i < lineCount bs → heightᴰ (clauseOf bs (lineNode bs i)) ≤ 8
-  unfolding clauseOf
-  line-high i h = at-8 (lineNode bs i) (clause-lower bs (nodeCount bs) (lineNode bs i) (sound-line-node s i h)) .clause
-
   scope-low : Low (jobOf bs .scope)
-  unfolding clauseAt ruleEntry lineEntry
-  scope-low = record { low = λ e h. go e h (decLt e (ruleCount bs)) }
-    where
-      go : (e : ℕ) → e < size (jobOf bs .scope) → Dec (e < ruleCount bs) → heightᴰ (clauseAt (jobOf bs .scope) e) ≤ 8
-      go e h (yes g) = omega (arith, rule-high e g, ap (λ (x : Entry). heightᴰ (x .clause)) (rule-at bs e g))
-      go e h (no g) =
-          let i : ℕ = e - ruleCount bs in
-          let few : i < lineCount bs = omega (arith, scope-size bs) in
-          let here : e ≡ ruleCount bs + i = omega arith in
-          let entry = ap (λ (k : ℕ). entryAt (jobOf bs .scope) k) here ∙ line-at bs i few in
-          omega (arith, line-high i few, ap (λ (x : Entry). heightᴰ (x .clause)) entry)
+  unfolding clauseOf
+  scope-low = record { low = each-clause bs s (λ D. heightᴰ D ≤ 8) (λ i h. at-8 i h .clause) }
 
 -- "At most 103 stand in scope": the entries of a derivation within limits are below P + T + 103.
 pub entries-low : {bs : List ℕ} (s : Sound bs) (d : Derivable (jobOf bs))

@@ -4,4 +4,5 @@ pub mod WrittenIsRead
 pub mod SamplesComeOut
 pub mod JoinedIsPlanned
 pub mod SamplesJoin
+pub mod MarksMean
 pub mod Main

@@ -4,21 +4,25 @@
 -- before; that of reader::read says of its answer that it is a `Reading` of the card and the sheet. Neither asks anything of its
 -- arguments. So what is said here of every outcome is said of every call.
 use Prim.Native.Nat.{ℕ, _+_, _≤_, _<_}
-use mathlib.Core.Path.{_≡_}
+use mathlib.Core.Path.{_≡_, ap}
 use mathlib.Core.Logic.{_↔_, _⊎_}
-use mathlib.Core.Bool.{true}
+use mathlib.Core.Bool.{true, false}
 use mathlib.Core.List.{List, []}
 use lib.ListN.{length, take}
-use Rattle.calculus.specs.Steps.{steps, entriesUsed, stands, leftChoice, rightChoice}
-use Rattle.calculus.specs.Job.{Derivable, Listed}
+use Rattle.calculus.specs.Steps.{steps, surely, entriesUsed, stands, leftChoice, rightChoice}
+use Rattle.calculus.specs.Job.{Derivation, Derivable, Listed, surelyUsed}
+use Rattle.calculus.specs.Runs.{OnEveryRun, RunWith}
 use Rattle.calculus.specs.Walk.{ItemsDivide}
 use Rattle.calculus.specs.Ways.{ListsNameWays}
 use Rattle.calculus.proofs.ListsNameWays.{job-lists-name-ways}
 use Rattle.calculus.proofs.StepsBounded.{entry-or-choice}
+use Rattle.calculus.proofs.SurelyByList.{job-surely, listed-surely, surely-stands}
+use Rattle.calculus.proofs.SurelyMeans.{surely-means}
 use Rattle.card.specs.Format.{Bytes, ruleCount, lineCount, stepLimit}
 use Rattle.card.specs.Verdict.{Where, sound, fault, sheet, step, steps as whole-steps}
 use Rattle.card.specs.Fault.{firstFault, Sound}
 use Rattle.card.specs.Decode.{jobOf}
+use Rattle.card.specs.Sheet.{sheetOf}
 use Rattle.card.proofs.StepsFitAByte.{entries-fit}
 use Rattle.planning.specs.Plan.{PlanVerdict, planned, refused as not-planned, roomOf, Planning, PlanDecided, Carries}
 use Rattle.planner.proofs.PlannedExactly.{plan-decided, plan-determined, planned-exactly, planned-sheet}
@@ -32,6 +36,7 @@ use Rattle.bench.specs.Bench.{JoinVerdict, joined, Joining, JoinDecided, source
 use Rattle.bench.proofs.BenchDecided.{join-decided, join-determined, source-decided}
 use Rattle.demands.proofs.CheckedByRoom as CheckedByRoom
 use Rattle.demands.proofs.WrittenIsRead as WrittenIsRead
+use Rattle.demands.proofs.MarksMean as MarksMean
 use Rattle.demands.proofs.JoinedIsPlanned as JoinedIsPlanned
 
 -- Demand 1. "Every card and sheet, however broken, gets a decision: planned, accepted, or refused with its number and place, within all
@@ -88,6 +93,28 @@ holds-is-accepted = holds-accepted
 pub written-is-read : {bs old new : List ℕ} {k : ℕ} → Planning bs old (planned k) new → Reading bs (take (5 + k + lineCount bs) new)
     (accepted k)
 written-is-read = WrittenIsRead.written-is-read
+
+-- The marks belong to the list (02, #105): two derivations of a card with the same list surely use the same items, so the sheet of a list is
+-- one sheet. What is surely used stands in the list.
+pub surely-goes-by-list : (bs : List ℕ) (c d : Derivation (jobOf bs)) → steps (c .tree) ≡ steps (d .tree)
+    → (i : ℕ) → surely (c .tree) i ≡ surely (d .tree) i
+surely-goes-by-list bs c d e i = ap (λ U. U i) (job-surely (jobOf bs) c d e)
+
+pub one-sheet : (bs l : List ℕ) (x y : Listed (jobOf bs) l) → sheetOf bs (surelyUsed x) l ≡ sheetOf bs (surelyUsed y) l
+one-sheet bs l x y = ap (λ U. sheetOf bs U l) (listed-surely x y)
+
+pub surely-in-list : (bs : List ℕ) (d : Derivation (jobOf bs)) (i : ℕ) → surely (d .tree) i ≡ true → stands i (steps (d .tree)) ≡ true
+surely-in-list bs d = surely-stands (d .tree)
+
+-- What they mean to the fitter, who walks one side of each "either way": mark 1 is a line that every run uses, mark 3 one that some run uses
+-- and some does not.
+pub surely-on-every-run : (bs : List ℕ) (d : Derivation (jobOf bs)) (i : ℕ) → (surely (d .tree) i ≡ true) ↔ OnEveryRun (d .tree) i
+surely-on-every-run bs d = surely-means (d .tree)
+
+pub used-one-way : {bs : List ℕ} → Sound bs → (d : Derivation (jobOf bs)) (i : ℕ) → i < lineCount bs
+    → stands (ruleCount bs + i) (steps (d .tree)) ≡ true → surely (d .tree) (ruleCount bs + i) ≡ false
+    → RunWith (d .tree) (ruleCount bs + i) true × RunWith (d .tree) (ruleCount bs + i) false
+used-one-way = MarksMean.one-way
 
 -- "At most 103 stand in scope, so a number fits a byte": every entry of a sound card's list. The list's other steps are choices, 254 and 255
 -- (02, #103), which no entry meets.

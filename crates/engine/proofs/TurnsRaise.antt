@@ -33,7 +33,7 @@ use Rattle.branch.specs.declared.Way.{Way}
 use Rattle.branch.specs.declared.Floor.{Floor}
 use Rattle.branch.specs.Inner.Values.{Counted, Answer, Stuck, Tired}
 use Rattle.branch.specs.Inner.Values.{leadB, ownB, pastF}
-use Rattle.branch.proofs.CountsKept.{counted-lead}
+use Rattle.branch.proofs.CountsKept.{counted-freed}
 use Rattle.choice.specs.Inner.Choice.{givenAt, fromAt}
 use Rattle.moves.specs.Inner.Moves.{raisedF}
 use Rattle.engine.specs.Inner.Engine.{placeOf, Ready, Fresh}
@@ -136,7 +136,7 @@ ready-lead {bs} {nodes} {b} r = record {
   bounded = rw (items-empty (ruleCount bs), items-join (ruleCount bs) (b .strict) (b .lax))
       (bounded-within (∅-∪-within (items (ruleCount bs) (b .strict) ∪ items (ruleCount bs) (b .lax))) (r .bounded));
   seen = r .seen;
-  counted = counted-lead b;
+  counted = counted-freed b;
 }
 
 -- a segment of its own

@@ -1,5 +1,5 @@
 -- Laws of the lines gathered: no step, one step more, and the marks by the set.
-use Prim.Native.Nat.{ℕ, _+_, _≤_, _<_}
+use Prim.Native.Nat.{ℕ, _+_, _-_, _≤_, _<_}
 use native.Mathlib.Decide.{ℕ-discrete}
 use native.Mathlib.Omega.{arith}
 use mathlib.Core.Path.{_≡_, sym, _∙_, ap}
@@ -14,6 +14,7 @@ use Rattle.card.specs.Sheet.{markOf}
 use Rattle.lines.specs.declared.LineSet.{LineSet}
 use Rattle.lines.specs.Inner.Set.{member, emptyS, addS}
 use Rattle.lines.proofs.MemberLaws.{member-empty, member-add}
+use Rattle.scope.specs.Inner.Sets.{wordItems}
 use Rattle.marks.specs.Marks.{markFault}
 use Rattle.marks.specs.Inner.Used.{Gathers, markBy, faultBy}
 
@@ -54,11 +55,11 @@ module _ {l : List ℕ} {rules : ℕ} {s : LineSet} (g : Gathers l rules s) (e :
       same x (yes p) = eq-eqb x i p ∙ sym (eq-eqb (rules + x) e (omega arith))
       same x (no d) = ne-eqb x i d ∙ sym (ne-eqb (rules + x) e (λ p. d (omega arith)))
 
-module _ (bs : List ℕ) {l : List ℕ} {s : LineSet} (g : Gathers l (ruleCount bs) s) (i : ℕ) (h : i < 64) where
-  pub mark-by : markBy bs s i ≡ markOf bs l i
-  unfolding markBy markOf
-  mark-by = rw (g .line i h)
+module _ (bs : List ℕ) {l : List ℕ} {s : LineSet} (g : Gathers l (ruleCount bs) s) (sure i : ℕ) (h : i < 64) where
+  pub mark-by : markBy bs s sure i ≡ markOf bs (wordItems (ruleCount bs) sure) l i
+  unfolding markBy markOf wordItems
+  mark-by = let e : ruleCount bs + i - ruleCount bs ≡ i = omega arith in rw (g .line i h, e)
 
-  pub fault-by : (marks : List ℕ) → faultBy bs s marks i ≡ markFault bs l marks i
+  pub fault-by : (marks : List ℕ) → faultBy bs s sure marks i ≡ markFault bs (wordItems (ruleCount bs) sure) l marks i
   unfolding faultBy markFault
   fault-by marks = rw mark-by

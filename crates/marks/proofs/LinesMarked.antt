@@ -6,6 +6,7 @@ use mathlib.Core.List.{List, _++_}
 use lib.ListN.{length, getD, drop, set, length-append, length-drop}
 use lib.Seq.{drop-cons, append-snoc, set-at}
 use borrow.Author.Tests.{eq-eqb}
+use Rattle.calculus.specs.Items.{Items}
 use Rattle.card.specs.Format.{byteAt, listing}
 use Rattle.card.specs.Verdict.{sound}
 use Rattle.card.specs.Sheet.{markOf}
@@ -26,6 +27,6 @@ pub listing-kept : (f : ℕ → ℕ) (i : ℕ) (d : List ℕ) → i ≤ length d
 listing-kept f i d h = simp (length-append, length-drop, length-listing) (omega arith)
 
 -- 14 does not apply at a mark that is the true one
-pub mark-right : (bs l marks : List ℕ) (i : ℕ) → byteAt marks i ≡ markOf bs l i → markFault bs l marks i ≡ sound
+pub mark-right : (bs : List ℕ) (U : Items) (l marks : List ℕ) (i : ℕ) → byteAt marks i ≡ markOf bs U l i → markFault bs U l marks i ≡ sound
 unfolding markFault
-mark-right bs l marks i e = refuse-false _ _ _ (rw (eq-eqb _ _ e) refl)
+mark-right bs U l marks i e = refuse-false _ _ _ (rw (eq-eqb _ _ e) refl)

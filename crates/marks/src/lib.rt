@@ -1,4 +1,4 @@
-// The marks (01, "The sheet"): what each line's mark is, and those of a sheet written and checked.
+// The marks (01, "The sheet"; 02, #105): what each line's mark is, and those of a sheet written and checked.
 use card::Checked;
 use card::Place;
 use card::format::byte;
@@ -6,13 +6,16 @@ use card::format::line_byte;
 use card::refuse;
 use lines::LineSet;
 ghost use mathlib.Core.Path.{_≡_};
+ghost use mathlib.Core.Bool.{cond};
 ghost use mathlib.Core.List.{List, [], _∷_, _++_};
 ghost use Prim.Native.Nat.{ℕ, _≤_, _<_};
 ghost use lib.ListN.{length, take, drop};
-ghost use Rattle.card.specs.Format.{lineCount};
+ghost use Rattle.card.specs.Format.{ruleCount, lineCount};
 ghost use Rattle.card.specs.Verdict.{told, firstOf};
 ghost use Rattle.card.specs.Inner.Checks.{Framed};
 ghost use Rattle.card.specs.Sheet.{marksOf};
+ghost use Rattle.lines.specs.Inner.Set.{bitAt};
+ghost use Rattle.scope.specs.Inner.Sets.{wordItems};
 ghost use Rattle.marks.specs.Marks.{markFault};
 ghost use Rattle.marks.specs.Inner.Used.{Gathers, markBy, faultBy};
 
@@ -44,14 +47,32 @@ fn listed(steps: &[u8], k: usize, rules: usize) -> LineSet
     set
 }
 
-// The mark of line i, where the lines used stand in the list.
-fn mark(card: &[u8], used: LineSet, i: usize) -> u8
+// Whether the word has line i.
+fn has_line(lines: u64, i: usize) -> bool
+    requires { ⌜ i < 64 ⌝ }
+    ensures { λ r. ⌜ r ≡ bitAt lines i ⌝ }
+{
+    (lines >> i) & 1 == 1
+}
+
+// The mark of a line that stands in the list: surely used, or one way only.
+fn mark_used(surely: bool) -> u8
+    ensures { λ r. ⌜ r ≡ cond surely 1 3 ⌝ }
+{
+    if surely {
+        return 1;
+    }
+    3
+}
+
+// The mark of line i, where the lines used stand in the list and those of the word are surely used.
+fn mark(card: &[u8], used: LineSet, sure: u64, i: usize) -> u8
     requires { ⌜ Framed (now card) ⌝ }
     requires { ⌜ i < lineCount (now card) ⌝ }
-    ensures { λ r. ⌜ r ≡ markBy (now (card .entry)) used i ⌝ }
+    ensures { λ r. ⌜ r ≡ markBy (now (card .entry)) used sure i ⌝ }
 {
     if used.has(i) {
-        return 1;
+        return mark_used(has_line(sure, i));
     }
     let must = line_byte(card, i);
     if must == 1 {
@@ -60,14 +81,14 @@ fn mark(card: &[u8], used: LineSet, i: usize) -> u8
     0
 }
 
-// The marks of all lines.
-pub fn write_marks(card: &[u8], steps: &[u8; 255], k: usize, marks: &mut [u8])
+// The marks of all lines, where those of the word are surely used.
+pub fn write_marks(card: &[u8], steps: &[u8; 255], k: usize, sure: u64, marks: &mut [u8])
     requires { ⌜ Framed (now card) ⌝ }
     requires { ⌜ length (now steps) ≡ 255 ⌝ }
     requires { ⌜ k ≤ 255 ⌝ }
     requires { ⌜ lineCount (now card) ≤ length (now marks) ⌝ }
     ensures { λ _. ⌜ now (marks .exit)
-        ≡ marksOf (now (card .entry)) (take k (now (steps .entry)))
+        ≡ marksOf (now (card .entry)) (wordItems (ruleCount (now (card .entry))) sure) (take k (now (steps .entry)))
         ++ drop (lineCount (now (card .entry))) (now (marks .entry)) ⌝ }
 {
     let p = byte(card, 3);
@@ -75,37 +96,37 @@ pub fn write_marks(card: &[u8], steps: &[u8; 255], k: usize, marks: &mut [u8])
     let used = listed(steps, k, p);
     let mut i = 0;
     while i < t {
-        marks[i] = mark(card, used, i);
+        marks[i] = mark(card, used, sure, i);
         i += 1;
     }
 }
 
 // 14 at mark i: it is not the true one.
-fn mark_check(card: &[u8], used: LineSet, marks: &[u8], i: usize) -> Checked
+fn mark_check(card: &[u8], used: LineSet, sure: u64, marks: &[u8], i: usize) -> Checked
     requires { ⌜ Framed (now card) ⌝ }
     requires { ⌜ i < lineCount (now card) ⌝ }
     requires { ⌜ i < length (now marks) ⌝ }
-    ensures { λ r. ⌜ told r ≡ faultBy (now (card .entry)) used (now (marks .entry)) i ⌝ }
+    ensures { λ r. ⌜ told r ≡ faultBy (now (card .entry)) used sure (now (marks .entry)) i ⌝ }
 {
-    let asked = mark(card, used, i);
+    let asked = mark(card, used, sure, i);
     refuse(marks[i] != asked, 14, Place::Mark(i as u16))
 }
 
-// 14, by rising index.
-pub fn marks_check(card: &[u8], steps: &[u8], k: usize, marks: &[u8]) -> Checked
+// 14, by rising index, where the lines of the word are surely used.
+pub fn marks_check(card: &[u8], steps: &[u8], k: usize, sure: u64, marks: &[u8]) -> Checked
     requires { ⌜ Framed (now card) ⌝ }
     requires { ⌜ k ≤ length (now steps) ⌝ }
     requires { ⌜ lineCount (now card) ≤ length (now marks) ⌝ }
     ensures { λ r. ⌜ told r
         ≡ firstOf (lineCount (now (card .entry)))
-        (markFault (now (card .entry)) (take k (now (steps .entry))) (now (marks .entry))) ⌝ }
+        (markFault (now (card .entry)) (wordItems (ruleCount (now (card .entry))) sure) (take k (now (steps .entry))) (now (marks .entry))) ⌝ }
 {
     let p = byte(card, 3);
     let t = byte(card, 4);
     let used = listed(steps, k, p);
     let mut i = 0;
     while i < t {
-        let mark = mark_check(card, used, marks, i);
+        let mark = mark_check(card, used, sure, marks, i);
         let Checked::Sound = mark else {
             return mark;
         };

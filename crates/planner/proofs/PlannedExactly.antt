@@ -1,15 +1,17 @@
 -- What 01 asks of the planner's outcomes, for every card and buffer. The contract of `plan` says that its answer and the new buffer are
 -- an outcome; these theorems say what follows.
 use Prim.Native.Nat.{ℕ, _+_, _≤_}
-use mathlib.Core.Path.{_≡_, refl, sym, ap}
+use mathlib.Core.Path.{_≡_, refl, sym, ap, ap₂, _∙_}
 use mathlib.Core.Logic.{_↔_, _⊎_, inl, inr}
 use mathlib.Core.List.{List, _++_}
 use native.Mathlib.Omega.{arith}
 use lib.ListN.{length, getD, drop}
+use Rattle.calculus.specs.Items.{Items}
 use Rattle.calculus.specs.Steps.{Before, here, there}
 use Rattle.calculus.specs.Job.{Job, Derivable, Listed, First}
+use Rattle.calculus.proofs.SurelyByList.{job-surely}
 use Rattle.card.specs.Format.{Bytes, lineCount}
-use Rattle.card.specs.Verdict.{Verdict, Where, fault}
+use Rattle.card.specs.Verdict.{Where, fault}
 use Rattle.card.specs.Fault.{firstFault, Placed, Sound}
 use Rattle.card.proofs.FaultsInOrder.{sound-or-faulty, same-fault}
 use Rattle.card.specs.Decode.{jobOf}
@@ -60,7 +62,8 @@ plan-determined (planned-as s h l f) (short t i) = absurd (omega arith)
 plan-determined (planned-as s h l f) (underivable t i u) = absurd (u (derivable (f .listed)))
 plan-determined {bs} {old} (planned-as s h l f) (planned-as t i m g) =
     let e = first-unique (jobOf bs) l m f g in
-    (ap (λ (x : List ℕ). planned (length x)) e, ap (λ (x : List ℕ). sheetOf bs x ++ drop (5 + length x + lineCount bs) old) e)
+    let u = job-surely (jobOf bs) (f .listed .derivation) (g .listed .derivation) (f .listed .list ∙ e ∙ sym (g .listed .list)) in
+    (ap (λ (x : List ℕ). planned (length x)) e, ap₂ (λ (U : Items) (x : List ℕ). sheetOf bs U x ++ drop (5 + length x + lineCount bs) old) u e)
 
 -- Demand 2. Of a sound card and a buffer with room: it is planned exactly if there is a derivation within limits.
 pub planned-exactly : {bs old new : List ℕ} {a : PlanVerdict} → Sound bs → roomOf bs ≤ length old → Planning bs old a new

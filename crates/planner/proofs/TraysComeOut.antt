@@ -1,15 +1,17 @@
 -- The trays of document 01 come out as it says: all lists of each card are enumerated, and the one given is the first of them, or there
 -- is none.
 use Prim.Native.Nat.{ℕ}
-use mathlib.Core.Path.{_≡_, refl}
+use mathlib.Core.Path.{_≡_, refl, ap, _∙_}
 use mathlib.Core.Bool.{true}
-use mathlib.Core.List.{List, [], map, flatMap}
+use mathlib.Core.List.{List, [], flatMap}
 use Rattle.calculus.specs.Formula.{residual, matched}
-use Rattle.calculus.specs.Items.{∅, _∪_, _∖_, only}
+use Rattle.calculus.specs.Items.{∅, _∪_, _∩_, _∖_, only}
 use Rattle.calculus.specs.Derivation.{size, entryAt, clauseAt, linearAt, residualAt, extend, lend}
 use Rattle.calculus.specs.Steps.{stands}
+use Rattle.calculus.specs.Inner.Surely.{inTurn, taken, usedFirst, goalSurely, entrySurely, nameSurely, surelyOf}
 use Rattle.calculus.specs.Inner.Enumeration.{kept, pairs, below, all, apart, covering, tensored, sided, lent, spent, sideTaken, takings, named}
 use Rattle.calculus.specs.Inner.Enumeration.{fitting, lists, matches, among, leads}
+use Rattle.calculus.proofs.SurelyByList.{surely-of}
 use Rattle.calculus.proofs.EnumerationExact.{first-listed, none-listed}
 use Rattle.card.specs.Format.{listing, grow}
 use Rattle.card.specs.Verdict.{sound, refuse, _▹_, firstOf}
@@ -22,9 +24,10 @@ use Rattle.card.proofs.NodesDecoded.{lines-bounded}
 use Rattle.planner.specs.Trays.{PlannedAs, Underivable, EachComes, trays, samples}
 
 planned-by : {bs l m : List ℕ} → firstFault bs ≡ sound → among l (lists (jobOf bs)) ≡ true → leads l (lists (jobOf bs)) ≡ true
-    → marksOf bs l ≡ m → PlannedAs bs l m
+    → marksOf bs (surelyOf (jobOf bs) l) l ≡ m → PlannedAs bs l m
 planned-by {bs} {l} s p q m =
-    record { sound = record { faultless = s }; first = first-listed (jobOf bs) l (lines-bounded bs) p q; marks = m }
+    let f = first-listed (jobOf bs) l (lines-bounded bs) p q in
+    record { sound = record { faultless = s }; first = f; marks = ap (λ U. marksOf bs U l) (surely-of (f .listed)) ∙ m }
 
 underivable-by : {bs : List ℕ} → firstFault bs ≡ sound → lists (jobOf bs) ≡ [] → Underivable bs
 underivable-by {bs} s e = record { sound = record { faultless = s }; none = none-listed (jobOf bs) (lines-bounded bs) e }
@@ -38,7 +41,7 @@ all-come : EachComes trays × EachComes samples
 unfolding _⋀_ kinds kindOf given fitsField partHeight held readBy
     firstFault frontFault inRange isGoal isClause goalPart clausePart wellBuilt heightStep heightAt nodeFault goalFault
     ruleFault lineFault lineGood refuse _▹_ firstOf grow listing scopeOf jobOf readStep readAt goalAt clauseOf ruleEntry lineEntry linesWith
-    marksOf markOf stands residual matched ∅ _∪_ _∖_ only size entryAt clauseAt linearAt residualAt extend lend flatMap kept pairs below
+    marksOf markOf stands inTurn taken usedFirst goalSurely entrySurely nameSurely surelyOf residual matched ∅ _∪_ _∩_ _∖_ only size entryAt clauseAt linearAt residualAt extend lend flatMap kept pairs below
     all apart covering tensored sided lent spent sideTaken takings named fitting lists matches among leads
 all-come = (
   planned-by refl refl refl refl
@@ -66,6 +69,10 @@ all-come = (
       ⋀ planned-by refl refl refl refl
       ⋀ underivable-by refl refl
       ⋀ underivable-by refl refl
+      ⋀ planned-by refl refl refl refl
+      ⋀ planned-by refl refl refl refl
+      ⋀ planned-by refl refl refl refl
+      ⋀ planned-by refl refl refl refl
       ⋀ planned-by refl refl refl refl
       ⋀ tt,
   planned-by refl refl refl refl ⋀ planned-by refl refl refl refl ⋀ tt,

@@ -3,7 +3,7 @@
 use Prim.Native.Nat.{ℕ}
 use mathlib.Core.Path.{_≡_}
 use mathlib.Core.List.{List, [], _∷_}
-use Rattle.calculus.specs.Job.{Derivable, First}
+use Rattle.calculus.specs.Job.{Derivable, First, surelyUsed}
 use Rattle.card.specs.Fault.{Sound}
 use Rattle.card.specs.Decode.{jobOf}
 use Rattle.card.specs.Sheet.{marksOf}
@@ -25,7 +25,7 @@ tray bs o = record { bytes = bs; outcome = o }
 pub record PlannedAs (bs l m : List ℕ) : Type 0 where
   pub sound : Sound bs
   pub first : First (jobOf bs) l
-  pub marks : marksOf bs l ≡ m
+  pub marks : marksOf bs (surelyUsed (first .listed)) l ≡ m
 
 -- no derivation within limits exists
 pub record Underivable (bs : List ℕ) : Type 0 where
@@ -40,7 +40,8 @@ abbrev pub EachComes : List Tray → Type 0
 EachComes [] = Unit {0}
 EachComes (t ∷ ts) = Comes (t .bytes) (t .outcome) × EachComes ts
 
--- The starred rows: twelve, one of them with two outcomes; then thirteen of one of, never and menus (02, #103).
+-- The starred rows: twelve, one of them with two outcomes; then thirteen of one of, never and menus (02, #103); then four of either way
+-- (02, #105).
 abbrev pub trays : List Tray
 trays =
     -- nothing, done
@@ -188,6 +189,30 @@ trays =
     (0 ∷ 36 ∷ 1 ∷ 0 ∷ 0 ∷ 0 ∷ 5 ∷ 0 ∷ 4 ∷ 0 ∷ 8 ∷ 1 ∷ 0 ∷ 1 ∷ 0 ∷ 0 ∷ 3 ∷ 0 ∷ 0 ∷ 0 ∷ 0 ∷ 8 ∷ 0 ∷ 0 ∷ 0 ∷ 1 ∷ 8 ∷ 0 ∷ 1 ∷ 0
     ∷ 0 ∷ 4 ∷ 0 ∷ 2 ∷ 0 ∷ 3 ∷ [])
     (planned (255 ∷ 254 ∷ []) [])
+    ∷
+    -- must a, a either way rest
+    tray
+    (0 ∷ 29 ∷ 1 ∷ 0 ∷ 1 ∷ 0 ∷ 3 ∷ 0 ∷ 2 ∷ 4 ∷ 8 ∷ 1 ∷ 0 ∷ 1 ∷ 0 ∷ 0 ∷ 2 ∷ 0 ∷ 0 ∷ 0 ∷ 0 ∷ 5 ∷ 0 ∷ 0 ∷ 0 ∷ 1 ∷ 0 ∷ 0 ∷ 1
+    ∷ [])
+    (planned (0 ∷ []) (3 ∷ []))
+    ∷
+    -- must a, must b, a both (b either way rest)
+    tray
+    (0 ∷ 42 ∷ 1 ∷ 0 ∷ 2 ∷ 0 ∷ 5 ∷ 0 ∷ 4 ∷ 4 ∷ 8 ∷ 1 ∷ 0 ∷ 1 ∷ 0 ∷ 0 ∷ 1 ∷ 0 ∷ 2 ∷ 0 ∷ 0 ∷ 2 ∷ 0 ∷ 0 ∷ 0 ∷ 0 ∷ 5 ∷ 0 ∷ 1 ∷ 0
+    ∷ 2 ∷ 4 ∷ 0 ∷ 0 ∷ 0 ∷ 3 ∷ 0 ∷ 0 ∷ 1 ∷ 0 ∷ 1 ∷ 1 ∷ [])
+    (planned (0 ∷ 1 ∷ []) (1 ∷ 3 ∷ []))
+    ∷
+    -- must a, must b, (a both rest) either way (b both a)
+    tray
+    (0 ∷ 47 ∷ 1 ∷ 0 ∷ 2 ∷ 0 ∷ 6 ∷ 0 ∷ 5 ∷ 4 ∷ 8 ∷ 1 ∷ 0 ∷ 1 ∷ 0 ∷ 0 ∷ 2 ∷ 0 ∷ 0 ∷ 0 ∷ 0 ∷ 4 ∷ 0 ∷ 0 ∷ 0 ∷ 1 ∷ 1 ∷ 0 ∷ 2 ∷ 0
+    ∷ 0 ∷ 4 ∷ 0 ∷ 3 ∷ 0 ∷ 0 ∷ 5 ∷ 0 ∷ 2 ∷ 0 ∷ 4 ∷ 0 ∷ 0 ∷ 1 ∷ 0 ∷ 3 ∷ 1 ∷ [])
+    (planned (0 ∷ 1 ∷ 0 ∷ []) (1 ∷ 3 ∷ []))
+    ∷
+    -- rule a gives c, must a, a either way c
+    tray
+    (0 ∷ 36 ∷ 1 ∷ 1 ∷ 1 ∷ 0 ∷ 4 ∷ 0 ∷ 2 ∷ 4 ∷ 8 ∷ 1 ∷ 0 ∷ 1 ∷ 0 ∷ 0 ∷ 1 ∷ 0 ∷ 3 ∷ 0 ∷ 0 ∷ 5 ∷ 0 ∷ 0 ∷ 0 ∷ 1 ∷ 7 ∷ 0 ∷ 0 ∷ 0
+    ∷ 1 ∷ 0 ∷ 3 ∷ 0 ∷ 0 ∷ 1 ∷ [])
+    (planned (1 ∷ 0 ∷ 1 ∷ []) (1 ∷ []))
     ∷ []
 
 -- A rule, a line and a lent clause: rule b and a give c; must a; goal lend b to c; d = 2, s = 3.

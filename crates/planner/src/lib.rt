@@ -19,7 +19,7 @@ fn answered(found: Checked, k: u8) -> Answer
     }
 }
 
-// 10, 11, and the sheet, which is written once the list is known.
+// 10, 11, and the sheet, which is written once the list and the lines that it surely uses are known.
 fn plan_sound(card: &[u8], sheet: &mut [u8]) -> Answer
     requires { ⌜ Sound (now card) ⌝ }
     ensures { λ r. ⌜ Planning (now (card .entry)) (now (sheet .entry)) (toldPlan r) (now (sheet .exit)) ⌝ }
@@ -31,7 +31,8 @@ fn plan_sound(card: &[u8], sheet: &mut [u8]) -> Answer
     let Found::List(k) = search::first_list(card, &mut tape) else {
         return planning::no_plan();
     };
-    planning::write_plan(card, &tape, k, sheet)
+    let sure = trace::sure_lines(card, &tape, k);
+    planning::write_plan(card, &tape, k, sure, sheet)
 }
 
 // Plans a card: the first of 1 to 11 that applies, or the sheet of the card's first list at the buffer's start.

@@ -3,7 +3,7 @@ use Prim.Native.Nat.{ℕ, _+_, _≤_, _<_}
 use mathlib.Core.Path.{_≡_}
 use mathlib.Core.List.{List, _++_}
 use lib.ListN.{length, drop}
-use Rattle.calculus.specs.Job.{Derivable, First}
+use Rattle.calculus.specs.Job.{Derivable, First, surelyUsed}
 use Rattle.card.specs.Format.{lineCount, stepLimit}
 use Rattle.card.specs.Verdict.{Where, fault, card, sheet, whereOf}
 use Rattle.card.specs.Fault.{firstFault, Placed, Sound}
@@ -37,8 +37,8 @@ pub data Planning (bs old : List ℕ) : PlanVerdict → List ℕ → Type 0 wher
   underivable : Sound bs → roomOf bs ≤ length old → (Derivable (jobOf bs) → ⊥) → Planning bs old (refused 11 card) old
   -- "Of all lists within limits the planner gives the smallest". "After planned, the buffer's first 5 + k + T bytes are the sheet"; "Bytes
   -- past the sheet .. keep what they held."
-  planned-as : Sound bs → roomOf bs ≤ length old → (l : List ℕ) → First (jobOf bs) l
-      → Planning bs old (planned (length l)) (sheetOf bs l ++ drop (5 + length l + lineCount bs) old)
+  planned-as : Sound bs → roomOf bs ≤ length old → (l : List ℕ) (f : First (jobOf bs) l)
+      → Planning bs old (planned (length l)) (sheetOf bs (surelyUsed (f .listed)) l ++ drop (5 + length l + lineCount bs) old)
 
 -- Demand 1. A decision: planned with k ≤ s; or refused with a number of 1 to 11 and a place that there is, the buffer as it was.
 pub data PlanDecided (bs old new : List ℕ) : PlanVerdict → Type 0 where
@@ -53,7 +53,7 @@ pub record Carries (bs old new : List ℕ) (k : ℕ) : Type 0 where
   pub first : First (jobOf bs) list
   pub count : length list ≡ k
   pub within : 5 + k + lineCount bs ≤ length old
-  pub bytes : new ≡ sheetOf bs list ++ drop (5 + k + lineCount bs) old
+  pub bytes : new ≡ sheetOf bs (surelyUsed (first .listed)) list ++ drop (5 + k + lineCount bs) old
 
 -- The program "plans with room enough for any sheet": 5 + 255 + 64 bytes, so that the answer is never 10.
 abbrev pub roomForAny : ℕ

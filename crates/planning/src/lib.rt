@@ -9,6 +9,7 @@ ghost use Rattle.calculus.specs.Job.{First};
 ghost use Rattle.card.specs.Verdict.{card as cardAt, sheet as sheetAt};
 ghost use Rattle.card.specs.Fault.{Sound};
 ghost use Rattle.card.specs.Decode.{jobOf};
+ghost use Rattle.scope.specs.Inner.Sets.{SureLines};
 ghost use Rattle.planning.specs.Inner.Room.{RoomSays};
 ghost use Rattle.planning.specs.Plan.{refused, toldPlan, roomOf, Planning};
 
@@ -57,16 +58,17 @@ pub fn no_plan() -> Answer
     })
 }
 
-// The sheet of the card's first list, which is the first k of steps, and planned with k.
-pub fn write_plan(card: &[u8], steps: &[u8; 255], k: usize, sheet: &mut [u8]) -> Answer
+// The sheet of the card's first list, which is the first k of steps and surely uses the lines of the word, and planned with k.
+pub fn write_plan(card: &[u8], steps: &[u8; 255], k: usize, sure: u64, sheet: &mut [u8]) -> Answer
     requires { ⌜ Sound (now card) ⌝ }
     requires { ⌜ length (now steps) ≡ 255 ⌝ }
     requires { ⌜ k ≤ 255 ⌝ }
     requires { ⌜ First (jobOf (now card)) (take k (now steps)) ⌝ }
+    requires { ⌜ SureLines (now card) (take k (now steps)) sure ⌝ }
     requires { ⌜ roomOf (now card) ≤ length (now sheet) ⌝ }
     ensures { λ r. ⌜ Planning (now (card .entry)) (now (sheet .entry)) (toldPlan r) (now (sheet .exit)) ⌝ }
 {
-    sheet::write(card, steps, k, sheet);
+    sheet::write(card, steps, k, sure, sheet);
     let count = k as u8;
     Answer::Planned(count)
 }

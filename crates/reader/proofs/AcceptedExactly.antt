@@ -2,14 +2,16 @@
 -- theorems say what follows.
 use Prim.Native.Nat.{ℕ, zero, suc, _+_, _*_, _/_, _%_, _≤_, _<_}
 use native.Mathlib.Omega.{arith}
-use mathlib.Core.Path.{_≡_, refl, sym, ap, _∙_}
+use mathlib.Core.Path.{_≡_, refl, sym, ap, subst, _∙_}
 use mathlib.Core.Logic.{inl, inr}
 use mathlib.Core.List.{List, [], _∷_, _++_}
 use lib.ListN.{length, getD, drop, length-append, length-drop, take-append-drop}
 use lib.Seq.{take-append-seam, drop-append-seam, drop-drop, ext-getD}
 use borrow.Author.Tests.{eqb-true, not-false}
-use Rattle.calculus.specs.Job.{Listed, First}
+use Rattle.calculus.specs.Items.{Items}
+use Rattle.calculus.specs.Job.{Listed, First, surelyUsed}
 use Rattle.calculus.specs.Walk.{ItemsDivide}
+use Rattle.calculus.proofs.SurelyByList.{listed-surely}
 use Rattle.card.specs.Format.{byteAt, Bytes, lineCount, stepLimit, listing}
 use Rattle.card.specs.Verdict.{Verdict, Where, sound, firstOf}
 use Rattle.card.specs.Fault.{Placed, Sound}
@@ -33,6 +35,10 @@ use Rattle.reader.specs.Read.{ReadDecided, is-accepted, is-refused, Hold
 -- a list of a derivation within limits has none of 13, 17, 18 and 19
 listed-found : (bs l : List ℕ) → Listed (jobOf bs) l → (stepsFault bs l ≡ sound) × ItemsDivide (jobOf bs) l
 listed-found bs l x = none-found bs l (listed-short bs l x) .1 x
+
+-- two derivations with the sheet's steps ask for the same marks
+same-marks : (bs sh : List ℕ) (x y : Listed (jobOf bs) (stepsOf sh)) → marksFault bs (surelyUsed x) sh ≡ marksFault bs (surelyUsed y) sh
+same-marks bs sh x y = ap (λ (U : Items). marksFault bs U sh) (listed-surely x y)
 
 -- "Card, the reader's sheet .. and these rules therefore determine every answer": the cases of an outcome exclude each other.
 pub read-determined : {bs sh : List ℕ} {a b : ReadVerdict} → Reading bs sh a → Reading bs sh b → a ≡ b
@@ -64,18 +70,18 @@ read-determined (wrong-mark s f x p) (faulty q) = absurd (sound-or-faulty (s .fa
 read-determined (wrong-mark s f x p) (misfit t q) = absurd (sound-or-faulty f q)
 read-determined {bs} {sh} (wrong-mark s f x p) (astray t g q) = absurd (sound-or-faulty (listed-found bs (stepsOf sh) x .0) q)
 read-determined {bs} {sh} (wrong-mark s f x p) (undivided t g q m) = absurd (m (listed-found bs (stepsOf sh) x .1))
-read-determined (wrong-mark s f x p) (wrong-mark t g y q) = same-fault refused p q
-read-determined (wrong-mark s f x p) (accepted-as t g y q) = absurd (sound-or-faulty q p)
+read-determined {bs} {sh} (wrong-mark s f x p) (wrong-mark t g y q) = same-fault refused (same-marks bs sh y x ∙ p) q
+read-determined {bs} {sh} (wrong-mark s f x p) (accepted-as t g y q) = absurd (sound-or-faulty q (same-marks bs sh y x ∙ p))
 read-determined (accepted-as s f x p) (faulty q) = absurd (sound-or-faulty (s .faultless) q)
 read-determined (accepted-as s f x p) (misfit t q) = absurd (sound-or-faulty f q)
 read-determined {bs} {sh} (accepted-as s f x p) (astray t g q) = absurd (sound-or-faulty (listed-found bs (stepsOf sh) x .0) q)
 read-determined {bs} {sh} (accepted-as s f x p) (undivided t g q m) = absurd (m (listed-found bs (stepsOf sh) x .1))
-read-determined (accepted-as s f x p) (wrong-mark t g y q) = absurd (sound-or-faulty p q)
+read-determined {bs} {sh} (accepted-as s f x p) (wrong-mark t g y q) = absurd (sound-or-faulty (same-marks bs sh y x ∙ p) q)
 read-determined (accepted-as s f x p) (accepted-as t g y q) = refl
 
-marks-length : (bs l : List ℕ) → length (marksOf bs l) ≡ lineCount bs
+marks-length : (bs : List ℕ) (U : Items) (l : List ℕ) → length (marksOf bs U l) ≡ lineCount bs
 unfolding marksOf
-marks-length bs l = length-listing (markOf bs l) (lineCount bs)
+marks-length bs U l = length-listing (markOf bs U l) (lineCount bs)
 
 front-of : (s : List ℕ) → 5 ≤ length s → s ≡ byteAt s 0 ∷ byteAt s 1 ∷ byteAt s 2 ∷ byteAt s 3 ∷ byteAt s 4 ∷ drop 5 s
 front-of [] h = absurd (omega arith)
@@ -98,23 +104,23 @@ first-all zero f h = refl
 first-all (suc n) f h = first-goes n f (first-all n f (λ i g. h i (omega arith))) (h n (omega arith))
 
 -- A sheet that fits and has no wrong mark is the sheet of its steps.
-module _ {bs sh : List ℕ} (f : Fitting bs sh) where
-  marks-true : marksFault bs sh ≡ sound → drop (stepCount sh) (drop 5 sh) ≡ marksOf bs (stepsOf sh)
+module _ {bs sh : List ℕ} (U : Items) (f : Fitting bs sh) where
+  marks-true : marksFault bs U sh ≡ sound → drop (stepCount sh) (drop 5 sh) ≡ marksOf bs U (stepsOf sh)
   unfolding marksFault markFault marksOf
   marks-true e =
-      ext-getD 0 (drop (stepCount sh) (drop 5 sh)) (listing (lineCount bs) (markOf bs (stepsOf sh)))
-      (size ∙ sym (length-listing (markOf bs (stepsOf sh)) (lineCount bs)))
+      ext-getD 0 (drop (stepCount sh) (drop 5 sh)) (listing (lineCount bs) (markOf bs U (stepsOf sh)))
+      (size ∙ sym (length-listing (markOf bs U (stepsOf sh)) (lineCount bs)))
       (λ i h.
       let g : i < lineCount bs = omega (arith, size) in
-      let r = first-each (lineCount bs) (markFault bs (stepsOf sh) (marksIn sh)) e i g in
+      let r = first-each (lineCount bs) (markFault bs U (stepsOf sh) (marksIn sh)) e i g in
       ap (λ (x : List ℕ). getD x i 0) (drop-drop (stepCount sh) 5 sh)
-      ∙ eqb-true (byteAt (marksIn sh) i) (markOf bs (stepsOf sh) i) (not-false _ (not-applied _ _ _ r))
-      ∙ sym (listing-at (markOf bs (stepsOf sh)) (lineCount bs) i 0 g))
+      ∙ eqb-true (byteAt (marksIn sh) i) (markOf bs U (stepsOf sh) i) (not-false _ (not-applied _ _ _ r))
+      ∙ sym (listing-at (markOf bs U (stepsOf sh)) (lineCount bs) i 0 g))
     where
       size : length (drop (stepCount sh) (drop 5 sh)) ≡ lineCount bs
       size = let g = f .long in let l = f .lines in simp (length-drop) (omega arith)
 
-  is-sheet : Bytes sh → marksFault bs sh ≡ sound → sh ≡ sheetOf bs (stepsOf sh)
+  is-sheet : Bytes sh → marksFault bs U sh ≡ sound → sh ≡ sheetOf bs U (stepsOf sh)
   unfolding sheetOf
   is-sheet b e =
       let k = steps-length f in
@@ -122,7 +128,7 @@ module _ {bs sh : List ℕ} (f : Fitting bs sh) where
       word-of (byteAt sh 0) (byteAt sh 1) (5 + length (stepsOf sh) + lineCount bs) (b .byte 1)
       (omega (arith, f .whole, f .long, f .lines))
       in
-      let r : drop 5 sh ≡ stepsOf sh ++ marksOf bs (stepsOf sh) =
+      let r : drop 5 sh ≡ stepsOf sh ++ marksOf bs U (stepsOf sh) =
       sym (take-append-drop (stepCount sh) (drop 5 sh)) ∙ ap (λ (x : List ℕ). stepsOf sh ++ x) (marks-true e)
       in
       let p = f .first in
@@ -130,20 +136,20 @@ module _ {bs sh : List ℕ} (f : Fitting bs sh) where
       front-of sh (f .front) ∙ rw w (cc)
 
 -- The sheet of a list fits and has no wrong mark.
-module _ (bs l : List ℕ) where
-  pub sheet-length : length (sheetOf bs l) ≡ 5 + length l + lineCount bs
+module _ (bs : List ℕ) (U : Items) (l : List ℕ) where
+  pub sheet-length : length (sheetOf bs U l) ≡ 5 + length l + lineCount bs
   unfolding sheetOf word
-  sheet-length = omega (arith, length-append l (marksOf bs l), marks-length bs l)
+  sheet-length = omega (arith, length-append l (marksOf bs U l), marks-length bs U l)
 
-  sheet-steps : stepsOf (sheetOf bs l) ≡ l
+  sheet-steps : stepsOf (sheetOf bs U l) ≡ l
   unfolding sheetOf word
-  sheet-steps = take-append-seam l (marksOf bs l)
+  sheet-steps = take-append-seam l (marksOf bs U l)
 
-  sheet-marks : marksIn (sheetOf bs l) ≡ marksOf bs l
+  sheet-marks : marksIn (sheetOf bs U l) ≡ marksOf bs U l
   unfolding sheetOf word
-  sheet-marks = sym (drop-drop (length l) 5 (sheetOf bs l)) ∙ drop-append-seam l (marksOf bs l)
+  sheet-marks = sym (drop-drop (length l) 5 (sheetOf bs U l)) ∙ drop-append-seam l (marksOf bs U l)
 
-  sheet-fitting : Listed (jobOf bs) l → Fitting bs (sheetOf bs l)
+  sheet-fitting : Listed (jobOf bs) l → Fitting bs (sheetOf bs U l)
   unfolding sheetOf word
   sheet-fitting x =
       let long = sheet-length in
@@ -156,18 +162,21 @@ module _ (bs l : List ℕ) where
         few = listed-short bs l x;
       }
 
-  sheet-faultless : marksFault bs (sheetOf bs l) ≡ sound
+  sheet-faultless : marksFault bs U (sheetOf bs U l) ≡ sound
   unfolding marksFault marksOf
   sheet-faultless = rw (sheet-steps, sheet-marks)
-      (first-all (lineCount bs) (markFault bs l (marksOf bs l))
-      (λ i h. mark-right bs l (marksOf bs l) i (listing-at (markOf bs l) (lineCount bs) i 0 h)))
+      (first-all (lineCount bs) (markFault bs U l (marksOf bs U l))
+      (λ i h. mark-right bs U l (marksOf bs U l) i (listing-at (markOf bs U l) (lineCount bs) i 0 h)))
 
-  -- Demand 3, the reader: the sheet of a derivation's list within limits is accepted.
-  pub sheet-accepted : Sound bs → Listed (jobOf bs) l → Reading bs (sheetOf bs l) (accepted (length l))
-  sheet-accepted s x =
-      let fits = sheet-fits bs (sheetOf bs l) (sym (all-fit bs (sheetOf bs l) (sheet-fitting x))) in
-      let y : Listed (jobOf bs) (stepsOf (sheetOf bs l)) = rw sheet-steps x in
-      rw sheet-steps at (accepted-as s fits y sheet-faultless)
+-- Demand 3, the reader: the sheet of a derivation within limits is accepted.
+pub sheet-accepted : (bs l : List ℕ) → Sound bs → (x : Listed (jobOf bs) l) → Reading bs (sheetOf bs (surelyUsed x) l) (accepted (length l))
+sheet-accepted bs l s x =
+    let U = surelyUsed x in
+    let sh = sheetOf bs U l in
+    let e = sheet-steps bs U l in
+    let fits = sheet-fits bs sh (sym (all-fit bs sh (sheet-fitting bs U l x))) in
+    let y : Listed (jobOf bs) (stepsOf sh) = record { derivation = x .derivation; limited = x .limited; list = x .list ∙ sym e } in
+    subst (λ (m : List ℕ). Reading bs sh (accepted (length m))) e (accepted-as s fits y (sheet-faultless bs U l))
 
 -- What a sheet that is accepted holds. Its second byte is below 256, as every byte is: else another pair of numbers gave the same length.
 accepted-holds : {bs sh : List ℕ} {a : ReadVerdict} → Bytes sh → Reading bs sh a → (k : ℕ) → a ≡ accepted k → Holds bs sh k
@@ -180,7 +189,7 @@ accepted-holds {bs} {sh} b (accepted-as s f x m) k e = record {
   card = s;
   list = stepsOf sh;
   listed = x;
-  bytes = is-sheet (fitting bs sh f) b m;
+  bytes = is-sheet (surelyUsed x) (fitting bs sh f) b m;
   count = cc;
 }
 
@@ -193,7 +202,7 @@ pub accepts-exactly : {bs sh : List ℕ} {a : ReadVerdict} → Bytes sh → Read
 accepts-exactly b r = record { exactly = λ k. (accepted-holds b r k, λ h. read-determined r (holds-accepted h)) }
 
 -- The sheet of a card's first list, which the planner writes, is read back.
-pub round-trip : (bs l : List ℕ) → Sound bs → First (jobOf bs) l → Reading bs (sheetOf bs l) (accepted (length l))
+pub round-trip : (bs l : List ℕ) → Sound bs → (f : First (jobOf bs) l) → Reading bs (sheetOf bs (surelyUsed (f .listed)) l) (accepted (length l))
 round-trip bs l s f = sheet-accepted bs l s (f .listed)
 
 -- 12 tells of the sheet, and 14 of a mark that there is.
@@ -204,9 +213,9 @@ sheet-told : (bs sh : List ℕ) → Tells (Of bs 12) (sheetFault bs sh)
 unfolding sheetFault Placed
 sheet-told bs sh = tells-refuse (Of bs 12) _ (refl, tt)
 
-pub marks-told : (bs sh : List ℕ) → Tells (Of bs 14) (marksFault bs sh)
+pub marks-told : (bs : List ℕ) (U : Items) (sh : List ℕ) → Tells (Of bs 14) (marksFault bs U sh)
 unfolding marksFault markFault Placed
-marks-told bs sh = tells-first (Of bs 14) (lineCount bs) _ (λ i h. tells-refuse (Of bs 14) _ (refl, h))
+marks-told bs U sh = tells-first (Of bs 14) (lineCount bs) _ (λ i h. tells-refuse (Of bs 14) _ (refl, h))
 
 -- a sheet that fits has no more steps than s
 few-steps : (bs sh : List ℕ) → sheetFault bs sh ≡ sound → length (stepsOf sh) ≤ stepLimit bs
@@ -222,5 +231,5 @@ read-decided {bs} {sh} (astray {n} {w} s f p) =
     let r = steps-placed bs (stepsOf sh) (few-steps bs sh f) p in is-refused {n = n} {w = w} (inr (r .0)) (r .1)
 read-decided (undivided s f p n) = is-refused {n = 19} (inr (inr (omega arith, omega arith))) tt
 read-decided {bs} {sh} (wrong-mark {n} {w} s f x p) =
-    let r = marks-told bs sh .told-so p in is-refused {n = n} {w = w} (inr (inl (omega (arith, r .0), omega (arith, r .0)))) (r .1)
+    let r = marks-told bs (surelyUsed x) sh .told-so p in is-refused {n = n} {w = w} (inr (inl (omega (arith, r .0), omega (arith, r .0)))) (r .1)
 read-decided {bs} {sh} (accepted-as s f x m) = is-accepted (listed-short bs (stepsOf sh) x)

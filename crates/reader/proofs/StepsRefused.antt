@@ -4,6 +4,7 @@ use native.Mathlib.Omega.{arith}
 use mathlib.Core.Path.{_≡_, refl, sym, ap, ap₂, _∙_}
 use mathlib.Core.Logic.{_↔_, _⊎_}
 use mathlib.Core.List.{List}
+use Rattle.calculus.specs.Job.{surelyUsed}
 use Rattle.calculus.specs.Walk.{ItemsDivide}
 use Rattle.card.specs.Verdict.{Where, sound, fault, step, steps}
 use Rattle.card.specs.Fault.{Sound}
@@ -24,7 +25,7 @@ module _ {bs sh : List ℕ} (s : Sound bs) (f : sheetFault bs sh ≡ sound) wher
   of-walk (misfit t p) n w e g h = absurd (sound-or-faulty f p)
   of-walk (astray {n = m} {w = v} t q p) n w e g h = let x : m ≡ n = cc in let y : v ≡ w = cc in p ∙ ap₂ fault x y
   of-walk (undivided t q p d) n w e g h = let x : _≡_ {A = ℕ} 19 n = cc in absurd (h (sym x))
-  of-walk (wrong-mark {n = m} t q x p) n w e g h = let y : m ≡ n = cc in absurd (g (sym y ∙ marks-told bs sh .told-so p .0))
+  of-walk (wrong-mark {n = m} t q x p) n w e g h = let y : m ≡ n = cc in absurd (g (sym y ∙ marks-told bs (surelyUsed x) sh .told-so p .0))
   of-walk (accepted-as t q x m) n w e g h = let z : _≡_ {A = ℕ} 0 1 = cc in absurd (omega arith)
 
   by-walk : (n i : ℕ) → (n ≡ 14 → ⊥) → (n ≡ 19 → ⊥) → Reading bs sh (refused n (step i)) ↔ (stepsFault bs (stepsOf sh) ≡ fault n (step i))
@@ -67,7 +68,7 @@ module _ {bs sh : List ℕ} (s : Sound bs) (f : sheetFault bs sh ≡ sound) wher
       to (undivided t q p d) e = (p, d)
       to (wrong-mark {n = m} t q x p) e =
           let y : m ≡ 19 = cc in
-          let z = marks-told bs sh .told-so p .0 in
+          let z = marks-told bs (surelyUsed x) sh .told-so p .0 in
           absurd (omega arith)
       to (accepted-as t q x m) e = let z : _≡_ {A = ℕ} 0 1 = cc in absurd (omega arith)
 

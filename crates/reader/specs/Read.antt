@@ -4,7 +4,8 @@ use mathlib.Core.Path.{_≡_}
 use mathlib.Core.Logic.{_↔_, _⊎_}
 use mathlib.Core.List.{List}
 use lib.ListN.{length}
-use Rattle.calculus.specs.Job.{Listed}
+use Rattle.calculus.specs.Items.{Items}
+use Rattle.calculus.specs.Job.{Listed, surelyUsed}
 use Rattle.calculus.specs.Walk.{ItemsDivide}
 use Rattle.card.specs.Format.{lineCount, stepLimit}
 use Rattle.card.specs.Verdict.{Verdict, Where, sound, fault, steps, firstOf, whereOf}
@@ -27,9 +28,9 @@ unfoldable pub toldRead : Answer → ReadVerdict
 toldRead (Accepted k) = accepted k
 toldRead (Refused r) = refused (r .number) (whereOf (r .place))
 
--- 14, of the sheet's marks in their order
-unfoldable pub marksFault : List ℕ → List ℕ → Verdict
-marksFault bs sh = firstOf (lineCount bs) (markFault bs (stepsOf sh) (marksIn sh))
+-- 14, of the sheet's marks in their order, where a derivation with its steps surely uses the items U
+unfoldable pub marksFault : List ℕ → Items → List ℕ → Verdict
+marksFault bs U sh = firstOf (lineCount bs) (markFault bs U (stepsOf sh) (marksIn sh))
 
 -- The outcome: for the card bs and the sheet sh, the answer. "Each check is taken apart before the next begins, in this order ..; the
 -- first that applies ends the call".
@@ -43,11 +44,11 @@ pub data Reading (bs sh : List ℕ) : ReadVerdict → Type 0 where
   -- "then 19": "the walk is right but the items don't divide as the rules ask, place steps"
   undivided : Sound bs → sheetFault bs sh ≡ sound → stepsFault bs (stepsOf sh) ≡ sound → (ItemsDivide (jobOf bs) (stepsOf sh) → ⊥)
       → Reading bs sh (refused 19 steps)
-  -- "then 14": the steps are the list of a derivation within limits
-  wrong-mark : {n : ℕ} {w : Where} → Sound bs → sheetFault bs sh ≡ sound → Listed (jobOf bs) (stepsOf sh) → marksFault bs sh ≡ fault n w
-      → Reading bs sh (refused n w)
+  -- "then 14": the steps are the list of a derivation within limits, and the marks go by what it surely uses (02, #105)
+  wrong-mark : {n : ℕ} {w : Where} → Sound bs → sheetFault bs sh ≡ sound → (x : Listed (jobOf bs) (stepsOf sh))
+      → marksFault bs (surelyUsed x) sh ≡ fault n w → Reading bs sh (refused n w)
   -- none of these
-  accepted-as : Sound bs → sheetFault bs sh ≡ sound → Listed (jobOf bs) (stepsOf sh) → marksFault bs sh ≡ sound
+  accepted-as : Sound bs → sheetFault bs sh ≡ sound → (x : Listed (jobOf bs) (stepsOf sh)) → marksFault bs (surelyUsed x) sh ≡ sound
       → Reading bs sh (accepted (length (stepsOf sh)))
 
 -- Demand 1. A decision: accepted with k ≤ s; or refused with a number of 1 to 9, 12 to 14 or 17 to 19 and a place that
@@ -63,7 +64,7 @@ pub record Holds (bs sh : List ℕ) (k : ℕ) : Type 0 where
   pub card : Sound bs
   pub list : List ℕ
   pub listed : Listed (jobOf bs) list
-  pub bytes : sh ≡ sheetOf bs list
+  pub bytes : sh ≡ sheetOf bs (surelyUsed listed) list
   pub count : length list ≡ k
 
 -- Demand 3, second half: accepted with k exactly when the card is sound and the sheet holds the list of such a derivation with its true

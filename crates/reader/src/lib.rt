@@ -1,11 +1,15 @@
-// The reader (01, "Refused, and where"; 02, #102): the checks of a card and a sheet in their order. It writes nothing.
+// The reader (01, "Refused, and where"; 02, #102 and #105): the checks of a card and a sheet in their order. It writes nothing.
 use card::Checked;
 use card::Refusal;
 use card::format::byte;
+use trace::Followed;
 ghost use mathlib.Core.Path.{_≡_};
+ghost use Rattle.calculus.specs.Job.{Listed};
 ghost use Rattle.card.specs.Fault.{Sound};
+ghost use Rattle.card.specs.Decode.{jobOf};
 ghost use Rattle.card.specs.Verdict.{sound, told};
-ghost use Rattle.sheet_front.specs.Front.{sheetFault};
+ghost use Rattle.scope.specs.Inner.Sets.{SureLines};
+ghost use Rattle.sheet_front.specs.Front.{stepCount, stepsOf, sheetFault};
 ghost use Rattle.reader.specs.Read.{accepted, refused, toldRead, Reading, AcceptsExactly};
 ghost use Rattle.card.specs.Inner.Checks.{answerOf};
 
@@ -25,6 +29,24 @@ fn answered(found: Checked, k: u8) -> Answer
     }
 }
 
+// 14, of a list of the card that surely uses the lines of the word; or accepted with k.
+fn read_marks(card: &[u8], sheet: &[u8], k: usize, sure: u64) -> Answer
+    requires { ⌜ Sound (now card) ⌝ }
+    requires { ⌜ sheetFault (now card) (now sheet) ≡ sound ⌝ }
+    requires { ⌜ k ≡ stepCount (now sheet) ⌝ }
+    requires { ⌜ Listed (jobOf (now card)) (stepsOf (now sheet)) ⌝ }
+    requires { ⌜ SureLines (now card) (stepsOf (now sheet)) sure ⌝ }
+    ensures { λ r. ⌜ Reading (now (card .entry)) (now (sheet .entry)) (toldRead r) ⌝ }
+{
+    let start = 5 + k;
+    let marks = marks::marks_check(card, &sheet[5..], k, sure, &sheet[start..]);
+    let Checked::Sound = marks else {
+        return answered(marks, 0);
+    };
+    let count = k as u8;
+    Answer::Accepted(count)
+}
+
 // 13, 17, 18 and 19, then 14. The steps are read where they stand in the sheet.
 fn read_steps(card: &[u8], sheet: &[u8]) -> Answer
     requires { ⌜ Sound (now card) ⌝ }
@@ -33,16 +55,10 @@ fn read_steps(card: &[u8], sheet: &[u8]) -> Answer
 {
     let k = byte(sheet, 3);
     let steps = trace::steps_check(card, &sheet[5..], k);
-    let Checked::Sound = steps else {
-        return answered(steps, 0);
-    };
-    let start = 5 + k;
-    let marks = marks::marks_check(card, &sheet[5..], k, &sheet[start..]);
-    let Checked::Sound = marks else {
-        return answered(marks, 0);
-    };
-    let count = k as u8;
-    Answer::Accepted(count)
+    match steps {
+        Followed::Listed(sure) => read_marks(card, sheet, k, sure),
+        Followed::Refused(refusal) => Answer::Refused(refusal),
+    }
 }
 
 // 12, and what comes after it.

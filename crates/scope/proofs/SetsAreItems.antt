@@ -9,19 +9,21 @@ use mathlib.Core.List.{List}
 use lib.Dec.{leb, ltb, eqb}
 use borrow.Author.Tests.{le-leb, leb-true, leb-false, lt-ltb, le-ltb, ltb-true, ltb-false, eq-eqb, ne-eqb, not-false}
 use Rattle.calculus.specs.Items.{Items, ∅, _∪_, _∖_, only, Empty}
+use Rattle.calculus.specs.Steps.{stands}
+use Rattle.calculus.specs.Job.{Listed, surelyUsed}
 use Rattle.lines.specs.declared.LineSet.{LineSet}
-use Rattle.lines.specs.Inner.Set.{member, isEmptyS, emptyS, fullS, addS, takeS, cutS, meetS, joinS, Words}
+use Rattle.lines.specs.Inner.Set.{bitAt, member, isEmptyS, emptyS, fullS, addS, takeS, cutS, meetS, joinS, Words}
 use Rattle.lines.specs.Inner.Count.{bit}
 use Rattle.lines.proofs.MemberLaws.{member-past, member-empty, member-full, member-join, member-meet, member-cut, member-add, member-take}
 use Rattle.lines.proofs.MemberLaws.{empty-none, none-empty}
 use Rattle.card.specs.Format.{ruleCount, lineCount, nodeCount, lineNode, lineByte}
 use Rattle.card.specs.Fault.{Sound, clausePart, lineFault, lineGood}
-use Rattle.card.specs.Decode.{linesWith}
+use Rattle.card.specs.Decode.{linesWith, jobOf}
 use Rattle.card.proofs.FrontChecked.{both-right}
 use Rattle.card.proofs.FaultsInOrder.{not-applied}
 use Rattle.card.proofs.CardChecked.{sound-front, sound-line}
 use Rattle.card.proofs.NodesDecoded.{line-within}
-use Rattle.scope.specs.Inner.Sets.{items, strictBelow, strictOf}
+use Rattle.scope.specs.Inner.Sets.{items, strictBelow, strictOf, wordItems, SureLines}
 
 -- items P of the set operations
 pub items-empty : (P : ℕ) → items P emptyS ≡ ∅
@@ -230,3 +232,11 @@ module _ {bs : List ℕ} (s : Sound bs) where
   pub strict-past : (i : ℕ) → lineCount bs ≤ i → member (strictOf bs) i ≡ false
   unfolding strictOf
   strict-past i h = strict-member bs (lineCount bs) i lines-few ∙ rw (le-ltb i (lineCount bs) h) refl
+
+-- the lines of a word at their entries
+pub word-lines : (bs l : List ℕ) {word : ℕ} → SureLines bs l word → (x : Listed (jobOf bs) l) (i : ℕ) → i < lineCount bs
+    → stands (ruleCount bs + i) l ≡ true → wordItems (ruleCount bs) word (ruleCount bs + i) ≡ surelyUsed x (ruleCount bs + i)
+unfolding wordItems
+word-lines bs l {word} s x i h t =
+    let e : ruleCount bs + i - ruleCount bs ≡ i = omega arith in
+    ap (bitAt word) e ∙ s .lines x i h t

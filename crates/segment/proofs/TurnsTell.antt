@@ -20,7 +20,7 @@ use Rattle.agenda.proofs.AgendasRead.{reads-⊗, reads-1}
 use Rattle.agenda.proofs.SearchTells.{alike-none, alike-least, rest-none, rest-least}
 use Rattle.branch.specs.declared.Branch.{Branch}
 use Rattle.branch.specs.Inner.Values.{Counted, droppedB, longerB, easedB}
-use Rattle.branch.proofs.CountsKept.{counted-eased}
+use Rattle.branch.proofs.CountsKept.{counted-freed}
 use Rattle.segment.specs.Inner.Tasks.{nodeOf, nestOf, taskOf, agendaOf, weight, taskWeight, total, Fit, Laid}
 use Rattle.segment.specs.Inner.Tasks.{Splitting, halves, Turning, itemsAt, Unwound, Lighter}
 use Rattle.segment.proofs.WeightsFall.{weight-pos, weights-times, both-weight}
@@ -123,7 +123,7 @@ module _ {bs codes : List ℕ} {b : Branch} {k : ℕ} (s : Sound bs) (t : Turnin
                 (subst (λ (x : Place). Least eligible es (agendaOf bs codes i) x l U v) (eased-at P b p) n)),
             or-true (b .slack),
           );
-          counted = counted-eased b;
+          counted = counted-freed b;
         },
         record { lighter = lighter },
       )

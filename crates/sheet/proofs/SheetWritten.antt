@@ -6,6 +6,7 @@ use mathlib.Core.List.{List, [], _∷_, _++_, append-assoc, append-nil}
 use lib.ListN.{length, take, drop, length-append, length-drop}
 use lib.Seq.{take-all, drop-length, take-at, drop-at, drop-drop}
 use borrow.Rule.Slice.PartMut.{putMid, post-is}
+use Rattle.calculus.specs.Items.{Items}
 use Rattle.card.specs.Format.{lineCount}
 use Rattle.card.specs.Sheet.{marksOf, word, sheetOf}
 
@@ -22,16 +23,16 @@ behind : (p q s : List ℕ) (a b : ℕ) → length p ≡ a → take a (p ++ drop
 behind p q s a b e = rw (take-at p (drop a s) a e, ← drop-drop b a (p ++ drop a s), drop-at p (drop a s) a e, drop-drop b a s)
 
 -- the front, the steps and the marks, written one after the other, are the sheet
-pub whole-sheet : (bs l s s₁ s₂ s₃ : List ℕ) (k : ℕ) → length l ≡ k
+pub whole-sheet : (bs : List ℕ) (U : Items) (l s s₁ s₂ s₃ : List ℕ) (k : ℕ) → length l ≡ k
     → s₁ ≡ word (5 + k + lineCount bs) ++ (1 ∷ k ∷ lineCount bs ∷ drop 5 s)
     → s₂ ≡ take 5 s₁ ++ l ++ drop (5 + k) s₁
-    → s₃ ≡ take (5 + k) s₂ ++ marksOf bs l ++ drop (5 + k + lineCount bs) s₂
-    → s₃ ≡ sheetOf bs l ++ drop (5 + k + lineCount bs) s
+    → s₃ ≡ take (5 + k) s₂ ++ marksOf bs U l ++ drop (5 + k + lineCount bs) s₂
+    → s₃ ≡ sheetOf bs U l ++ drop (5 + k + lineCount bs) s
 unfolding word sheetOf
-whole-sheet bs l s s₁ s₂ s₃ k long e₁ e₂ e₃ =
+whole-sheet bs U l s s₁ s₂ s₃ k long e₁ e₂ e₃ =
     let front : List ℕ = word (5 + k + lineCount bs) ++ (1 ∷ k ∷ lineCount bs ∷ []) in
     let d₂ : s₂ ≡ front ++ l ++ drop (5 + k) s = e₂ ∙ rw e₁ (behind front l s 5 k refl) in
     let n : length (front ++ l) ≡ 5 + k = omega (arith, length-append front l) in
-    let d₃ : s₃ ≡ front ++ l ++ marksOf bs l ++ drop (5 + k + lineCount bs) s =
-    e₃ ∙ rw d₂ (behind (front ++ l) (marksOf bs l) s (5 + k) (lineCount bs) n) in
+    let d₃ : s₃ ≡ front ++ l ++ marksOf bs U l ++ drop (5 + k + lineCount bs) s =
+    e₃ ∙ rw d₂ (behind (front ++ l) (marksOf bs U l) s (5 + k) (lineCount bs) n) in
     d₃ ∙ rw long refl

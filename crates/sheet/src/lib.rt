@@ -4,9 +4,10 @@ ghost use mathlib.Core.Path.{_≡_};
 ghost use mathlib.Core.List.{_∷_, _++_};
 ghost use Prim.Native.Nat.{_+_, _≤_};
 ghost use lib.ListN.{length, take, drop};
-ghost use Rattle.card.specs.Format.{lineCount};
+ghost use Rattle.card.specs.Format.{ruleCount, lineCount};
 ghost use Rattle.card.specs.Inner.Checks.{Framed};
 ghost use Rattle.card.specs.Sheet.{word, sheetOf};
+ghost use Rattle.scope.specs.Inner.Sets.{wordItems};
 
 // The five bytes before the steps.
 fn write_front(k: usize, t: usize, sheet: &mut [u8])
@@ -38,19 +39,20 @@ fn write_steps(steps: &[u8; 255], k: usize, sheet: &mut [u8])
     }
 }
 
-// Writes the sheet of the list that is the first k of steps. Bytes past the sheet keep what they held.
-pub fn write(card: &[u8], steps: &[u8; 255], k: usize, sheet: &mut [u8])
+// Writes the sheet of the list that is the first k of steps, where the lines of the word are surely used. Bytes past the sheet keep what they
+// held.
+pub fn write(card: &[u8], steps: &[u8; 255], k: usize, sure: u64, sheet: &mut [u8])
     requires { ⌜ Framed (now card) ⌝ }
     requires { ⌜ length (now steps) ≡ 255 ⌝ }
     requires { ⌜ k ≤ 255 ⌝ }
     requires { ⌜ 5 + k + lineCount (now card) ≤ length (now sheet) ⌝ }
     ensures { λ _. ⌜ now (sheet .exit)
-        ≡ sheetOf (now (card .entry)) (take k (now (steps .entry)))
+        ≡ sheetOf (now (card .entry)) (wordItems (ruleCount (now (card .entry))) sure) (take k (now (steps .entry)))
         ++ drop (5 + k + lineCount (now (card .entry))) (now (sheet .entry)) ⌝ }
 {
     let t = byte(card, 4);
     write_front(k, t, sheet);
     write_steps(steps, k, sheet);
     let start = 5 + k;
-    marks::write_marks(card, steps, k, &mut sheet[start..]);
+    marks::write_marks(card, steps, k, sure, &mut sheet[start..]);
 }

@@ -11,7 +11,10 @@ use Rattle.calculus.specs.Formula.{Goal, Clause, atomᴳ, zeroᴳ, oplus, lolli
 use Rattle.calculus.specs.Derivation.{Scope, size, clauseAt, linearAt, lend}
 use Rattle.calculus.specs.Walk.{goes, stops, _⨾_, goalWalk, clauseWalk}
 use Rattle.calculus.specs.Wanted.{Part, goal, meet, Both, Side}
-use Rattle.calculus.specs.Inner.Trace.{partWalk, Gathered, Ends, Tensors, Withs, Trace, trace-0, trace-⊸, trace-side, trace-rule, trace-item}
+use Rattle.calculus.specs.Items.{Items, ∅, _∪_, _∩_, only}
+use Rattle.calculus.specs.Inner.Trace.{partWalk, Gathered, Ends, Tensors, Withs}
+use Rattle.calculus.specs.Inner.Surely.{Traced}
+use Rattle.calculus.proofs.SurelyByList.{traced-0, traced-⊸, traced-side, traced-rule, traced-item}
 use Rattle.calculus.proofs.WalkExact.{walk-both, walk-lent, walk-side, walk-none, walk-unfit, walk-deep, walk-use, along-walk, trace-along}
 use Rattle.lines.specs.declared.LineSet.{LineSet}
 use Rattle.lines.specs.Inner.Set.{member, Words}
@@ -20,6 +23,7 @@ use Rattle.lines.proofs.CountLaws.{bit-one}
 use Rattle.card.specs.declared.Place.{Place}
 use Rattle.card.specs.declared.Refusal.{Refusal}
 use Rattle.card.specs.Verdict.{whereOf, step}
+use Rattle.scope.specs.Inner.Sets.{LinesOf}
 use Rattle.summary.specs.declared.Branch.{Branch}
 use Rattle.summary.specs.declared.Summary.{Summary}
 use Rattle.summary.specs.Inner.Values.{Counted, onB, lentB, steppedB, endedW, tensorW, pickW, withW, withoutW, usingW, wrongF}
@@ -27,6 +31,7 @@ use Rattle.summary.specs.Inner.Walks.{from, gathered, EndsWith, StopsWit
 use Rattle.summary.proofs.SummariesGather.{ended-gathers, never-gathers, tensor-gathers, with-gathers, lend-gathers, item-gathers}
 use Rattle.summary.proofs.SummariesGather.{rule-gathers}
 use Rattle.summary.proofs.CountsKept.{ended-counted, tensor-counted, with-counted, without-counted, using-counted}
+use Rattle.summary.proofs.SurelyKept.{none-sure, tensor-sure, with-sure, using-sure}
 
 -- The given steps
 
@@ -47,22 +52,24 @@ unfolding from
 ahead steps b n h = let l = length-take-le (b .given) steps h in omega (arith, length-drop n (take (b .given) steps))
 
 -- a use is nested one deeper
-nested : {n : ℕ} {es : Scope} {p : Part} {g : Gathered} → 1 ≤ n → Trace (suc (n - 1)) es p g → Trace n es p g
-nested {n} {es} {p} {g} h t = subst (λ m. Trace m es p g) (omega arith) t
+nested : {n : ℕ} {es : Scope} {p : Part} {g : Gathered} {U : Items} → 1 ≤ n → Traced (suc (n - 1)) es p g U → Traced n es p g U
+nested {n} {es} {p} {g} {U} h t = subst (λ m. Traced m es p g U) (omega arith) t
 
 module _ {steps : List ℕ} {b : Branch} {es : Scope} where
   -- No step is taken
 
-  pub ends-here : {strict : LineSet} {p : Part} (slack : Bool) → b .at ≤ b .given → ((w : Gathered) → Ends w slack → Trace (b .depth) es p w)
+  pub ends-here : {strict : LineSet} {p : Part} (slack : Bool) → b .at ≤ b .given → ((w : Gathered) → Ends w slack → Traced (b .depth) es p w ∅)
       → EndsWith strict steps b es p (endedW b slack true)
   ends-here {strict} slack h c = record {
     onward = omega arith;
     bounded = h;
     list = [];
     along = refl;
-    trace = c (gathered (b .rules) (endedW b slack true) []) (ended-gathers (b .rules) b slack);
+    surely = ∅;
+    traced = c (gathered (b .rules) (endedW b slack true) []) (ended-gathers (b .rules) b slack);
     counted = ended-counted strict b slack true;
     pace = omega arith;
+    sure = none-sure (b .rules);
   }
 
   pub fails-here : {strict : LineSet} → b .at ≤ b .given → EndsWith strict steps b es (goal zeroᴳ) (endedW b false false)
@@ -71,9 +78,11 @@ module _ {steps : List ℕ} {b : Branch} {es : Scope} where
     bounded = h;
     list = [];
     along = refl;
-    trace = trace-0 (never-gathers (b .rules) b);
+    surely = ∅;
+    traced = traced-0 (never-gathers (b .rules) b);
     counted = ended-counted strict b false false;
     pace = omega arith;
+    sure = none-sure (b .rules);
   }
 
   -- what has ended has gone along its list
@@ -82,7 +91,7 @@ module _ {steps : List ℕ} {b : Branch} {es : Scope} where
   unfolding gathered
   ends-walk {p = p} {w = w} g k =
       ap (partWalk (b .depth) p es (b .at)) (sym (k .along))
-      ∙ along-walk (trace-along (k .trace)) (b .at) (from steps b (w .at))
+      ∙ along-walk (trace-along (k .traced .trace)) (b .at) (from steps b (w .at))
       ∙ ap (λ (i : ℕ). goes i (from steps b (w .at))) count
     where
       count : b .at + length (k .list) ≡ w .at
@@ -119,10 +128,10 @@ module _ {steps : List ℕ} {b : Branch} {es : Scope} where
 
   module _ {strict : LineSet} {p q r : Part} {w v : Summary} {met : ℕ} (k : EndsWith strict steps b es p w)
       (m : EndsWith strict steps (onB b (w .at) met) es q v) where
-    both-end : (u : Summary) → u .at ≡ v .at → Counted strict (b .met) u → u .met + b .at ≤ b .met + u .at
-        → Trace (b .depth) es r (gathered (b .rules) u (k .list ++ m .list)) → EndsWith strict steps b es r u
+    both-end : (u : Summary) {U : Items} → u .at ≡ v .at → Counted strict (b .met) u → u .met + b .at ≤ b .met + u .at
+        → LinesOf (b .rules) (u .sure) U → Traced (b .depth) es r (gathered (b .rules) u (k .list ++ m .list)) U → EndsWith strict steps b es r u
     unfolding from
-    both-end u e n s c = record {
+    both-end u {U} e n s z c = record {
       onward = let i = k .onward in let j = m .onward in omega arith;
       bounded = let j = m .bounded in omega arith;
       list = k .list ++ m .list;
@@ -131,28 +140,32 @@ module _ {steps : List ℕ} {b : Branch} {es : Scope} where
           ∙ ap (λ n. k .list ++ (m .list ++ from steps b n)) e
           ∙ ap (λ l. k .list ++ l) (m .along)
           ∙ k .along;
-      trace = c;
+      surely = U;
+      traced = c;
       counted = n;
       pace = s;
+      sure = z;
     }
 
     -- the right part was walked from the left one's count
     pub tensor-ends : met ≡ w .met → Words (w .used) → Words (v .used)
-        → ((x y z : Gathered) → Tensors z x y → Trace (b .depth) es p x → Trace (b .depth) es q y → Trace (b .depth) es r z)
+        → ((x y z : Gathered) (U W : Items) → Tensors z x y → Traced (b .depth) es p x U → Traced (b .depth) es q y W
+        → Traced (b .depth) es r z (U ∪ W))
         → EndsWith strict steps b es r (tensorW w v)
     tensor-ends e x y c =
         both-end (tensorW w v) refl (tensor-counted strict (b .met) w (k .counted) v (rw e at (m .counted)))
-        (let i = k .pace in let j = m .pace in omega (arith, i, j, e))
-        (c _ _ _ (tensor-gathers (b .rules) w v (k .list) (m .list) x y) (k .trace) (m .trace))
+        (let i = k .pace in let j = m .pace in omega (arith, i, j, e)) (tensor-sure (k .sure) (m .sure))
+        (c _ _ _ _ _ (tensor-gathers (b .rules) w v (k .list) (m .list) x y) (k .traced) (m .traced))
 
     -- the right side was walked from the same count
     pub with-ends : met ≡ b .met → Words (w .used) → Words (v .used)
-        → ((x y z : Gathered) → Withs es z x y → Trace (b .depth) es p x → Trace (b .depth) es q y → Trace (b .depth) es r z)
+        → ((x y z : Gathered) (U W : Items) → Withs es z x y → Traced (b .depth) es p x U → Traced (b .depth) es q y W
+        → Traced (b .depth) es r z (U ∩ W))
         → EndsWith strict steps b es r (withW w v)
     unfolding pickW
     with-ends e x y c =
         both-end (withW w v) refl (with-counted strict (b .met) w (k .counted) v (rw e at (m .counted))) (by (w .slack))
-        (c _ _ _ (with-gathers (b .rules) w v (k .list) (m .list) x y es) (k .trace) (m .trace))
+        (with-sure (k .sure) (m .sure)) (c _ _ _ _ _ (with-gathers (b .rules) w v (k .list) (m .list) x y es) (k .traced) (m .traced))
       where
         by : (slack : Bool) → cond slack (v .met) (w .met) + b .at ≤ b .met + v .at
         by true = let i = k .onward in let j = m .pace in omega (arith, i, j, e)
@@ -169,9 +182,11 @@ module _ {steps : List ℕ} {b : Branch} {es : Scope} where
     bounded = k .bounded;
     list = k .list;
     along = k .along;
-    trace = trace-⊸ (lend-gathers (b .rules) (b .count) h w (k .list) es q) (k .trace);
+    surely = k .surely;
+    traced = traced-⊸ (lend-gathers (b .rules) (b .count) h w (k .list) es q) (k .traced);
     counted = without-counted strict (b .met) w (k .counted) (b .count - b .rules) n;
     pace = k .pace;
+    sure = k .sure;
   }
 
   pub lend-stops : {D : Clause} {G : Goal} {f : Refusal} → StopsWith steps (lentB b) (lend es D) (goal G) f
@@ -193,9 +208,11 @@ module _ {steps : List ℕ} {b : Branch} {es : Scope} where
       bounded = k .bounded;
       list = c ∷ k .list;
       along = ap (λ l. c ∷ l) (k .along) ∙ sym next;
-      trace = trace-side side (rule-gathers (b .rules) c w (k .list)) (k .trace);
+      surely = k .surely;
+      traced = traced-side side (rule-gathers (b .rules) c w (k .list)) (k .traced);
       counted = k .counted;
       pace = let o = k .pace in omega arith;
+      sure = k .sure;
     }
 
     pub side-stops : {f : Refusal} → StopsWith steps (onB b (b .at + 1) (b .met)) es q f → StopsWith steps b es p f
@@ -231,9 +248,11 @@ module _ {steps : List ℕ} {b : Branch} {es : Scope} where
         bounded = k .bounded;
         list = e ∷ k .list;
         along = ap (λ l. e ∷ l) (k .along) ∙ sym next;
-        trace = nested deep (trace-rule q (rule-gathers (b .rules) e w (k .list)) (k .trace));
+        surely = k .surely;
+        traced = nested deep (traced-rule q (rule-gathers (b .rules) e w (k .list)) (k .traced));
         counted = k .counted;
         pace = let o = k .pace in omega arith;
+        sure = k .sure;
       }
 
       -- the step pays for a must line
@@ -245,9 +264,11 @@ module _ {steps : List ℕ} {b : Branch} {es : Scope} where
         bounded = k .bounded;
         list = e ∷ k .list;
         along = ap (λ l. e ∷ l) (k .along) ∙ sym next;
-        trace = nested deep (trace-item q (item-gathers (b .rules) e low w (k .list) due few) (k .trace));
+        surely = only e ∪ k .surely;
+        traced = nested deep (traced-item q (item-gathers (b .rules) e low w (k .list) due few) (k .traced));
         counted = using-counted strict (b .met) w (k .counted) (e - b .rules) due ed;
         pace = let o = k .pace in let d = bit-one (member strict (e - b .rules)) in omega (arith, o, d, ed);
+        sure = using-sure low (k .sure);
       }
 
     pub use-stops : usable (es .fits) a (clauseAt es e) ≡ true → {f : Refusal}

@@ -1,5 +1,5 @@
-// Where the reader's walk stands in a list, what it gathers there (the outer items taken, slack, and whether the items divided), and what
-// is wrong at its next step.
+// Where a walk stands in a list, what it gathers there (the outer items taken, slack, whether the items divided, and the lines surely used),
+// and what is wrong at its next step.
 use card::Place;
 use card::Refusal;
 use card::both;
@@ -12,7 +12,7 @@ ghost use mathlib.Core.Path.{_≡_};
 ghost use Prim.Native.Nat.{_+_, _*_, _≤_, _<_};
 ghost use lib.ListN.{length};
 ghost use Rattle.lines.specs.Inner.Set.{Words};
-ghost use Rattle.summary.specs.Inner.Values.{onB, lentB, steppedB, endedW, coverW, pickW, tensorW, withW, withoutW, usingW, wrongF};
+ghost use Rattle.summary.specs.Inner.Values.{onB, lentB, steppedB, endedW, coverW, pickW, tensorW, withW, withoutW, withLine, usingW, wrongF};
 ghost use Rattle.summary.specs.declared.Step.the-variants.{Wrong};
 ghost use Rattle.summary.specs.Inner.Walks.{Ready, Stepping, Siding};
 
@@ -28,13 +28,14 @@ pub struct Branch {
 }
 
 // What a walk that has ended gathered: the place reached in the list, the outer items taken, whether some ⊤ can take more, whether all
-// items divided, and the running count of the must lines met where the walk ended.
+// items divided, the running count of the must lines met where the walk ended, and the lines surely used, line i as bit i.
 pub struct Summary {
     pub at: usize,
     pub used: LineSet,
     pub slack: bool,
     pub alive: bool,
     pub met: usize,
+    pub sure: u64,
 }
 
 // What a walk answers: what it gathered, or its first wrong step.
@@ -104,8 +105,19 @@ impl Branch {
             slack,
             alive,
             met: self.met,
+            sure: 0,
         }
     }
+}
+
+// The lines, and the item if it is one: a card has at most 64. A lent clause among the first 64 items is of no account.
+fn with_line(lines: u64, item: usize) -> u64
+    ensures { λ r. ⌜ r ≡ withLine lines item ⌝ }
+{
+    if item < 64 {
+        return lines | (1u64 << item);
+    }
+    lines
 }
 
 impl Summary {
@@ -123,6 +135,7 @@ impl Summary {
             slack: either(self.slack, w.slack),
             alive: both(both(self.alive, w.alive), apart),
             met: w.met,
+            sure: self.sure | w.sure,
         }
     }
 
@@ -144,7 +157,7 @@ impl Summary {
         self.met
     }
 
-    // Both sides of a &: each covers the other. The words of both sets are those of the machine.
+    // Both sides of a &: each covers the other, and what each surely uses is sure. The words of both sets are those of the machine.
     pub fn beside(self, w: Summary) -> Summary
         ensures { λ r. ⌜ r ≡ withW self w ⌝ }
         ensures { λ _. ⌜ Words (self .used) × Words (w .used) ⌝ }
@@ -157,6 +170,7 @@ impl Summary {
             slack: both(self.slack, w.slack),
             alive: both(both(self.alive, w.alive), agree),
             met: self.pick(w),
+            sure: self.sure & w.sure,
         }
     }
 
@@ -172,6 +186,7 @@ impl Summary {
             slack: self.slack,
             alive: both(self.alive, gone),
             met: self.met,
+            sure: self.sure,
         }
     }
 
@@ -188,6 +203,7 @@ impl Summary {
             slack: self.slack,
             alive: both(self.alive, free),
             met: self.met + due,
+            sure: with_line(self.sure, item),
         }
     }
 }

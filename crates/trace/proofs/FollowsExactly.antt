@@ -13,8 +13,10 @@ use Rattle.calculus.specs.Items.{Items, _∪_, Within}
 use Rattle.calculus.specs.Walk.{goes, jobWalk, ItemsDivide}
 use Rattle.calculus.specs.Wanted.{goal}
 use Rattle.calculus.specs.Inner.Trace.{partWalk, Says, Gathered, Trace, Agreed}
+use Rattle.calculus.specs.Inner.Surely.{Traced}
 use Rattle.calculus.proofs.SetLaws.{same-path}
 use Rattle.calculus.proofs.TraceExact.{trace-unique, listed-accounts}
+use Rattle.calculus.proofs.SurelyByList.{surely-walked}
 use Rattle.calculus.proofs.WalkExact.{job-walk, divides-accounts}
 use Rattle.lines.specs.declared.LineSet.{LineSet}
 use Rattle.lines.specs.Inner.Set.{isEmptyS, fullS, cutS, Words}
@@ -22,7 +24,7 @@ use Rattle.lines.specs.Inner.Count.{countS}
 use Rattle.card.specs.Format.{nodeCount, ruleCount, lineCount, goalNode, stepLimit}
 use Rattle.card.specs.declared.Refusal.{Refusal}
 use Rattle.card.specs.declared.Checked.{Checked}
-use Rattle.card.specs.declared.Checked.the-variants.{Sound as SoundCard, Refused}
+use Rattle.card.specs.declared.Checked.the-variants.{Sound as SoundCard, Refused as RefusedCard}
 use Rattle.card.specs.Verdict.{Verdict, sound, fault, step, refuse, whereOf, told, steps as steps-place}
 use Rattle.card.specs.Fault.{Sound}
 use Rattle.card.specs.Decode.{goalAt, linesWith, jobOf}
@@ -30,7 +32,7 @@ use Rattle.card.proofs.CardChecked.{sound-front, passed}
 use Rattle.card.proofs.FaultsInOrder.{not-applied}
 use Rattle.card.proofs.NodesDecoded.{lines-bounded}
 use Rattle.card.proofs.SoundNodes.{goal-lower, height-low, sound-root}
-use Rattle.scope.specs.Inner.Sets.{items, strictOf}
+use Rattle.scope.specs.Inner.Sets.{items, strictOf, SureLines}
 use Rattle.scope.specs.Inner.Tables.{scopeIn, Entered}
 use Rattle.scope.proofs.SetsAreItems.{strict-items, all-items}
 use Rattle.summary.specs.declared.Branch.{Branch}
@@ -39,8 +41,10 @@ use Rattle.summary.specs.declared.Walked.{Walked}
 use Rattle.summary.specs.declared.Walked.the-variants.{Ended, Astray}
 use Rattle.summary.specs.Inner.Values.{Counted, startB, onB}
 use Rattle.summary.specs.Inner.Walks.{from, gathered, EndsWith, StopsWith, Tells, Ready, GoalReady, GoalWalks}
+use Rattle.trace.specs.declared.Followed.{Followed}
+use Rattle.trace.specs.declared.Followed.the-variants.{Listed, Refused}
 use Rattle.trace.specs.Steps.{walkFault, stepsFault}
-use Rattle.trace.specs.Inner.Listing.{Covered, Ending, early, bare, whole, foundBy, Following, strays, divides-not, follows}
+use Rattle.trace.specs.Inner.Listing.{Covered, Ending, early, bare, whole, toldFollowed, HasLines, Following, SurelyFollows, strays, divides-not, follows}
 use Rattle.summary.proofs.SummariesGather.{within-says}
 use Rattle.summary.proofs.CountsKept.{all-met}
 use Rattle.summary.proofs.WalksTell.{from-next, ends-walk}
@@ -98,7 +102,7 @@ module _ {bs : List ℕ} (s : Sound bs) (w : Summary) where
 -- The tests at the end
 
 module _ {bs : List ℕ} (w : Summary) (k : ℕ) {x : Checked} (tx : told x ≡ refuse (not (eqb (w .at) k)) 18 (step (w .at))) where
-  pub end-early : {f : Refusal} → x ≡ Refused f → Ending bs w k (told x)
+  pub end-early : {f : Refusal} → x ≡ RefusedCard f → Ending bs w k (told x)
   unfolding told refuse
   end-early {f} e = by (not (eqb (w .at) k)) refl
     where
@@ -168,12 +172,11 @@ module _ {bs steps nodes : List ℕ} {linear : List Bool} {k : ℕ} (s : Sound b
     walk-is : partWalk (jobOf bs .depth) (goal (jobOf bs .goal)) (jobOf bs .scope) 0 (take k steps) ≡ jobWalk (jobOf bs) (take k steps)
     walk-is = sym (job-walk (jobOf bs) (take k steps))
 
-    pub stray-found : {f : Refusal} → r ≡ Astray f → Following bs (take k steps) (foundBy r)
-    unfolding Tells startB jobOf from stepsFault walkFault foundBy
-    stray-found {f} e = rw e (
+    pub stray-found : {f : Refusal} → r ≡ Astray f → Following bs (take k steps) (fault (f .number) (whereOf (f .place)))
+    unfolding Tells startB jobOf from stepsFault walkFault
+    stray-found {f} e =
         let s : StopsWith steps (startB bs k) (jobOf bs .scope) (goal (jobOf bs .goal)) f = rw e at walk-told in
         strays (ap walkFault (sym walk-is ∙ s .walk) ∙ ap (fault (f .number)) (sym (s .place)))
-        )
 
     module _ (w : Summary) (e : r ≡ Ended w) where
       ended : EndsWith (strictOf bs) steps (startB bs k) (jobOf bs .scope) (goal (jobOf bs .goal)) w
@@ -198,7 +201,7 @@ module _ {bs steps nodes : List ℕ} {linear : List Bool} {k : ℕ} (s : Sound b
           → Agreed g (gathered (ruleCount bs) w (ended .list)) [] (from steps (startB bs k) (w .at))
       unfolding from startB gathered
       same-walk g t q =
-          trace-unique [] (from steps (startB bs k) (w .at)) t (ended .trace) (append-nil (g .list) ∙ q ∙ sym (ended .along))
+          trace-unique [] (from steps (startB bs k) (w .at)) t (ended .traced .trace) (append-nil (g .list) ∙ q ∙ sym (ended .along))
 
       early-found : (w .at ≡ k → ⊥) → Following bs (take k steps) (fault 18 (step (w .at)))
       unfolding startB stepsFault walkFault from
@@ -232,7 +235,7 @@ module _ {bs steps nodes : List ℕ} {linear : List Bool} {k : ℕ} (s : Sound b
         }))
           where
             depth-is : Trace (jobOf bs .depth) (jobOf bs .scope) (goal (jobOf bs .goal)) (gathered (ruleCount bs) w (ended .list))
-            depth-is = ended .trace
+            depth-is = ended .traced .trace
 
             short-enough : length (take k steps) ≤ jobOf bs .length-limit
             short-enough = let l = length-take-le k steps long in omega arith
@@ -263,3 +266,26 @@ module _ {bs steps nodes : List ℕ} {linear : List Bool} {k : ℕ} (s : Sound b
       end-found (early n) = early-found n
       end-found (bare at n) = bare-found at n
       end-found (whole at c) = covered-found at c
+
+      -- a list's walk is this one, and surely uses what its derivations do
+      sure-lines : w .at ≡ k → SureLines bs (take k steps) (w .sure)
+      unfolding startB gathered jobOf
+      sure-lines at = record {
+        lines = λ x i h t.
+            ended .sure .line i (let f = sound-front bs s .lines in omega arith)
+            ∙ ap (λ (U : Items). U (ruleCount bs + i))
+            (surely-walked here (x .derivation .tree) (x .limited .nested) (x .list ∙ sym (list-is at)));
+      }
+        where
+          here : Traced (jobOf bs .depth) (jobOf bs .scope) (goal (jobOf bs .goal)) (gathered (ruleCount bs) w (ended .list)) (ended .surely)
+          here = ended .traced
+
+      pub end-sure : (x : Followed) → Ending bs w k (toldFollowed x) → HasLines (w .sure) x → SurelyFollows bs (take k steps) x
+      unfolding HasLines SurelyFollows toldFollowed
+      end-sure (Listed s) e h = rw h (sure-lines (at-end e refl))
+        where
+          at-end : {v : Verdict} → Ending bs w k v → v ≡ sound → w .at ≡ k
+          at-end (early n) q = let z : _≡_ {A = ℕ} 0 1 = cc in absurd (omega arith)
+          at-end (bare at n) q = at
+          at-end (whole at c) q = at
+      end-sure (Refused f) e h = tt

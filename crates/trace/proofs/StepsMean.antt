@@ -11,11 +11,13 @@ use Rattle.calculus.specs.Walk.{Walk, goes, stops, jobWalk, ItemsDivide}
 use Rattle.calculus.specs.Wanted.{Part, goal, Along, Wrong, no-entry, no-side, too-deep, missing}
 use Rattle.calculus.proofs.WalkExact.{goes-along, stops-first, listed-exactly}
 use Rattle.card.specs.Format.{stepLimit}
-use Rattle.card.specs.Verdict.{Where, sound, fault, steps, step}
+use Rattle.card.specs.Verdict.{Verdict, Where, sound, fault, steps, step}
 use Rattle.card.specs.Fault.{Placed}
 use Rattle.card.specs.Decode.{jobOf}
-use Rattle.card.proofs.NodesDecoded.{lines-bounded}
+use Rattle.card.proofs.FaultsInOrder.{sound-or-faulty}
+use Rattle.card.proofs.NodesDecoded.{lines-bounded, listed-short}
 use Rattle.trace.specs.Steps.{walkFault, stepsFault, WrongStep, ExtraStep}
+use Rattle.trace.specs.Inner.Listing.{Following, strays, divides-not, follows}
 
 -- a walk that tells no 18 has not ended before the last step
 stopped : (w : Walk) (n i : ℕ) → (n ≡ 18 → ⊥) → (walkFault w ≡ fault n (step i)) ↔ (w ≡ stops n i)
@@ -106,6 +108,12 @@ module _ (bs l : List ℕ) where
   none-found h =
       let e = listed-exactly (jobOf bs) l (lines-bounded bs) h in
       (λ x. e .1 (walked-right .0 (x .0), x .1), λ x. let y = e .0 x in (walked-right .1 (y .0), y .1))
+
+  -- the list of a derivation within limits is not refused
+  pub listed-follows : Listed (jobOf bs) l → {v : Verdict} → Following bs l v → v ≡ sound
+  listed-follows x (strays q) = absurd (sound-or-faulty (none-found (listed-short bs l x) .1 x .0) q)
+  listed-follows x (divides-not q n) = absurd (n (none-found (listed-short bs l x) .1 x .1))
+  listed-follows x (follows y) = refl
 
   pub names-a-step : {n : ℕ} → stepsFault bs l ≡ fault n steps → ⊥
   unfolding stepsFault

@@ -1,28 +1,35 @@
-// What is wrong with a given list, if anything: the walk of the goal (13, 17, 18), then the tests of its end (18) and of its items (19).
+// What is wrong with a given list, if anything: the walk of the goal (13, 17, 18), then the tests of its end (18) and of its items (19). Of a
+// list that is right, the lines that it surely uses.
 use card::Checked;
 use card::Place;
+use card::Refusal;
 use card::format::byte;
+use card::format::kind;
 use card::format::word;
 use card::refuse;
 use lines::LineSet;
 use summary::Branch;
 use summary::Summary;
 use summary::Walked;
-ghost use mathlib.Core.Bool.{not};
+ghost use mathlib.Core.Bool.{false, not};
+ghost use mathlib.Core.Logic.{_⊎_};
 ghost use mathlib.Core.Path.{_≡_};
 ghost use Prim.Native.Nat.{_≤_};
 ghost use lib.Dec.{eqb};
 ghost use lib.ListN.{length, take};
+ghost use Rattle.calculus.specs.Job.{Listed};
 ghost use Rattle.calculus.specs.Inner.Trace.{Says};
 ghost use Rattle.card.specs.declared.Place.the-variants.{Step};
 ghost use Rattle.card.specs.Format.{stepLimit};
 ghost use Rattle.card.specs.Verdict.{told, refuse, whereOf};
 ghost use Rattle.card.specs.Fault.{Sound};
+ghost use Rattle.card.specs.Inner.Checks.{NoKind};
+ghost use Rattle.card.specs.Decode.{jobOf};
 ghost use Rattle.lines.specs.Inner.Set.{isEmptyS, cutS, Words};
 ghost use Rattle.lines.specs.Inner.Count.{countS};
-ghost use Rattle.scope.specs.Inner.Sets.{strictOf};
+ghost use Rattle.scope.specs.Inner.Sets.{strictOf, SureLines};
 ghost use Rattle.summary.specs.Inner.Values.{startB, Counted};
-ghost use Rattle.trace.specs.Inner.Listing.{Covered, Ending, foundBy, Following};
+ghost use Rattle.trace.specs.Inner.Listing.{Covered, Ending, toldFollowed, HasLines, Following, SurelyFollows};
 
 // Where the walk of the card's goal begins.
 fn start(card: &[u8], k: usize) -> Branch
@@ -95,22 +102,43 @@ fn end_check(card: &[u8], w: Summary, k: usize, all: usize) -> Checked
     refuse(!covers(card, w, all), 19, Place::Steps)
 }
 
-// What the walk itself found: nothing where it ended.
-fn found(walked: Walked) -> Checked
-    ensures { λ r. ⌜ told r ≡ foundBy walked ⌝ }
+// What is found of the steps: they are a list of the card, and the lines that it surely uses, line i as bit i; or what is wrong.
+pub enum Followed {
+    Listed(u64),
+    Refused(Refusal),
+}
+
+// A check's answer with the lines that the walk surely used.
+fn with_lines(found: Checked, sure: u64) -> Followed
+    ensures { λ r. ⌜ toldFollowed r ≡ told found ⌝ }
+    ensures { λ r. ⌜ HasLines sure r ⌝ }
 {
-    match walked {
-        Walked::Ended(_) => Checked::Sound,
-        Walked::Astray(refusal) => Checked::Refused(refusal),
+    match found {
+        Checked::Sound => Followed::Listed(sure),
+        Checked::Refused(refusal) => Followed::Refused(refusal),
     }
 }
 
-// 13, 17, 18 and 19, of the first k of the steps, where they stand.
-pub fn steps_check(card: &[u8], steps: &[u8], k: usize) -> Checked
+// What is found of a list whose walk has ended.
+fn ended(card: &[u8], w: Summary, k: usize) -> Followed
+    requires { ⌜ Sound (now card) ⌝ }
+    requires { ⌜ w .at ≤ 255 ⌝ }
+    requires { ⌜ Counted (strictOf (now card)) 0 w ⌝ }
+    ensures { λ r. ⌜ Ending (now (card .entry)) w k (toldFollowed r) ⌝ }
+    ensures { λ r. ⌜ HasLines (w .sure) r ⌝ }
+{
+    let strict = scope::strict_lines(card);
+    let end = end_check(card, w, k, strict.count());
+    with_lines(end, w.sure)
+}
+
+// 13, 17, 18 and 19, of the first k of the steps, where they stand; or the lines that they surely use.
+pub fn steps_check(card: &[u8], steps: &[u8], k: usize) -> Followed
     requires { ⌜ Sound (now card) ⌝ }
     requires { ⌜ k ≤ length (now steps) ⌝ }
     requires { ⌜ k ≤ stepLimit (now card) ⌝ }
-    ensures { λ r. ⌜ Following (now (card .entry)) (take k (now (steps .entry))) (told r) ⌝ }
+    ensures { λ r. ⌜ Following (now (card .entry)) (take k (now (steps .entry))) (toldFollowed r) ⌝ }
+    ensures { λ r. ⌜ SurelyFollows (now (card .entry)) (take k (now (steps .entry))) r ⌝ }
 {
     let mut nodes = [0u16; 256];
     let mut linear = [false; 256];
@@ -118,9 +146,53 @@ pub fn steps_check(card: &[u8], steps: &[u8], k: usize) -> Checked
     let b = start(card, k);
     let goal = word(card, 7);
     let walked = walk::walk(card, steps, &mut nodes, &mut linear, b, goal);
-    let Walked::Ended(w) = walked else {
-        return found(walked);
-    };
-    let strict = scope::strict_lines(card);
-    end_check(card, w, k, strict.count())
+    match walked {
+        Walked::Ended(w) => ended(card, w, k),
+        Walked::Astray(refusal) => Followed::Refused(refusal),
+    }
+}
+
+// Whether some node of the card is of kind k.
+fn has_kind(card: &[u8], k: usize) -> bool
+    requires { ⌜ Sound (now card) ⌝ }
+    ensures { λ r. ⌜ (r ≡ false → NoKind (now (card .entry)) k) ⌝ }
+{
+    let n = word(card, 5);
+    let mut i = 0;
+    while i < n {
+        if kind(card, i) == k {
+            return true;
+        }
+        i += 1;
+    }
+    false
+}
+
+// Whether a list of the card may use a line one way only: there is an "either way", and a "rest" that can leave the line.
+fn may_differ(card: &[u8]) -> bool
+    requires { ⌜ Sound (now card) ⌝ }
+    ensures { λ r. ⌜ (r ≡ false → NoKind (now (card .entry)) 5 ⊎ NoKind (now (card .entry)) 2) ⌝ }
+{
+    if !has_kind(card, 5) {
+        return false;
+    }
+    has_kind(card, 2)
+}
+
+// The lines that a list of the card, the first k of the steps, surely uses. Where no line can be used one way only these are all that stand
+// in it, and it is not walked.
+pub fn sure_lines(card: &[u8], steps: &[u8], k: usize) -> u64
+    requires { ⌜ Sound (now card) ⌝ }
+    requires { ⌜ k ≤ length (now steps) ⌝ }
+    requires { ⌜ Listed (jobOf (now card)) (take k (now steps)) ⌝ }
+    ensures { λ r. ⌜ SureLines (now (card .entry)) (take k (now (steps .entry))) r ⌝ }
+{
+    if !may_differ(card) {
+        return 0xffff_ffff_ffff_ffff;
+    }
+    let found = steps_check(card, steps, k);
+    match found {
+        Followed::Listed(sure) => sure,
+        Followed::Refused(_) => 0,
+    }
 }

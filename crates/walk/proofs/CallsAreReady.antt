@@ -10,8 +10,10 @@ use lib.ListN.{length, getD, set}
 use Rattle.calculus.specs.Formula.{Goal, atomᴳ, oplus, lolliᴳ, withᴰ, usable}
 use Rattle.calculus.specs.Derivation.{Scope, clauseAt, lend}
 use Rattle.calculus.specs.Wanted.{Part, goal, meet, Both, parts-⊗, parts-&, parts-⊸, Side, side-⊕₁, side-⊕₂, side-&₁, side-&₂}
-use Rattle.calculus.specs.Inner.Trace.{Gathered, Ends, Tensors, Withs, Trace, trace-⊗, trace-&}
-use Rattle.calculus.specs.Inner.Trace.{trace-head, trace-recipe}
+use Rattle.calculus.specs.Items.{Items, ∅, _∪_, _∩_}
+use Rattle.calculus.specs.Inner.Trace.{Gathered, Ends, Tensors, Withs}
+use Rattle.calculus.specs.Inner.Surely.{Traced}
+use Rattle.calculus.proofs.SurelyByList.{traced-⊗, traced-&, traced-head, traced-recipe}
 use Rattle.lines.specs.Inner.Set.{member, Words}
 use Rattle.lines.specs.Inner.Count.{bit}
 use Rattle.lines.proofs.CountLaws.{bit-one}
@@ -149,12 +151,14 @@ module _ {bs steps nodes : List ℕ} {linear : List Bool} {b : Branch} (R : Read
             }
 
             pub tensor-done : {r : Part} → met ≡ w .met → Words (w .used) → Words (v .used)
-                → ((f g h : Gathered) → Tensors h f g → Trace (b .depth) es p f → Trace (b .depth) es q g → Trace (b .depth) es r h)
+                → ((f g h : Gathered) (U W : Items) → Tensors h f g → Traced (b .depth) es p f U → Traced (b .depth) es q g W
+                → Traced (b .depth) es r h (U ∪ W))
                 → PartWalks bs steps nodes nodes₂ linear linear₂ b r (Ended (tensorW w v))
             tensor-done e x y c = both-kept (tensor-ends ends then-ends e x y c)
 
             pub with-done : {r : Part} → met ≡ b .met → Words (w .used) → Words (v .used)
-                → ((f g h : Gathered) → Withs es h f g → Trace (b .depth) es p f → Trace (b .depth) es q g → Trace (b .depth) es r h)
+                → ((f g h : Gathered) (U W : Items) → Withs es h f g → Traced (b .depth) es p f U → Traced (b .depth) es q g W
+                → Traced (b .depth) es r h (U ∩ W))
                 → PartWalks bs steps nodes nodes₂ linear linear₂ b r (Ended (withW w v))
             with-done e x y c = both-kept (with-ends ends then-ends e x y c)
 
@@ -174,12 +178,14 @@ module _ {bs steps nodes : List ℕ} {linear : List Bool} {b : Branch} (R : Read
 
       module _ (m : Words (w .used)) (n : Words (v .used)) (u : Summary) where
         pub run-tensor : {r : Part} → met ≡ w .met → u ≡ tensorW w v
-            → ((f g h : Gathered) → Tensors h f g → Trace (b .depth) es p f → Trace (b .depth) es q g → Trace (b .depth) es r h)
+            → ((f g h : Gathered) (U W : Items) → Tensors h f g → Traced (b .depth) es p f U → Traced (b .depth) es q g W
+            → Traced (b .depth) es r h (U ∪ W))
             → PartWalks bs steps nodes nodes₂ linear linear₂ b r (Ended u)
         run-tensor em eu c = rw eu (tensor-done first-run second-run em m n c)
 
         pub run-with : {r : Part} → met ≡ b .met → u ≡ withW w v
-            → ((f g h : Gathered) → Withs es h f g → Trace (b .depth) es p f → Trace (b .depth) es q g → Trace (b .depth) es r h)
+            → ((f g h : Gathered) (U W : Items) → Withs es h f g → Traced (b .depth) es p f U → Traced (b .depth) es q g W
+            → Traced (b .depth) es r h (U ∩ W))
             → PartWalks bs steps nodes nodes₂ linear linear₂ b r (Ended u)
         run-with em eu c = rw eu (with-done first-run second-run em m n c)
 
@@ -233,7 +239,7 @@ module _ {bs steps nodes : List ℕ} {linear : List Bool} {b : Branch} (R : Read
     goal-here = node-here (R .sound) node below
 
     -- 1 and ⊤
-    pub done-ends : (slack : Bool) (G : Goal) → goalAt bs node ≡ G → ((w : Gathered) → Ends w slack → Trace (b .depth) es (goal G) w)
+    pub done-ends : (slack : Bool) (G : Goal) → goalAt bs node ≡ G → ((w : Gathered) → Ends w slack → Traced (b .depth) es (goal G) w ∅)
         → (w : Summary) → w ≡ endedW b slack true → PartWalks bs steps nodes nodes linear linear b (goal (goalAt bs node)) (Ended w)
     unfolding Tells
     done-ends slack G e c w q =
@@ -300,16 +306,18 @@ module _ {bs steps nodes : List ℕ} {linear : List Bool} {b : Branch} (R : Read
       pub tensor-both : kindAt bs node ≡ 4 → Both (goal (goalAt bs node)) (goal (goalAt bs l)) (goal (goalAt bs m))
       tensor-both k = rw (sound-both (R .sound) node below k, el, em) parts-⊗
 
-      pub tensor-joins : kindAt bs node ≡ 4 → (f g h : Gathered) → Tensors h f g → Trace (b .depth) es (goal (goalAt bs l)) f
-          → Trace (b .depth) es (goal (goalAt bs m)) g → Trace (b .depth) es (goal (goalAt bs node)) h
-      tensor-joins k f g h s c d = rw (sound-both (R .sound) node below k) (trace-⊗ s (rw el at c) (rw em at d))
+      pub tensor-joins : kindAt bs node ≡ 4 → (f g h : Gathered) (U W : Items) → Tensors h f g
+          → Traced (b .depth) es (goal (goalAt bs l)) f U → Traced (b .depth) es (goal (goalAt bs m)) g W
+          → Traced (b .depth) es (goal (goalAt bs node)) h (U ∪ W)
+      tensor-joins k f g h U W s c d = rw (sound-both (R .sound) node below k) (traced-⊗ s (rw el at c) (rw em at d))
 
       pub with-both : kindAt bs node ≡ 5 → Both (goal (goalAt bs node)) (goal (goalAt bs l)) (goal (goalAt bs m))
       with-both k = rw (sound-either (R .sound) node below k, el, em) parts-&
 
-      pub with-joins : kindAt bs node ≡ 5 → (f g h : Gathered) → Withs es h f g → Trace (b .depth) es (goal (goalAt bs l)) f
-          → Trace (b .depth) es (goal (goalAt bs m)) g → Trace (b .depth) es (goal (goalAt bs node)) h
-      with-joins k f g h s c d = rw (sound-either (R .sound) node below k) (trace-& s (rw el at c) (rw em at d))
+      pub with-joins : kindAt bs node ≡ 5 → (f g h : Gathered) (U W : Items) → Withs es h f g
+          → Traced (b .depth) es (goal (goalAt bs l)) f U → Traced (b .depth) es (goal (goalAt bs m)) g W
+          → Traced (b .depth) es (goal (goalAt bs node)) h (U ∩ W)
+      with-joins k f g h U W s c d = rw (sound-either (R .sound) node below k) (traced-& s (rw el at c) (rw em at d))
 
     -- D ⊸ G
     module _ (kind : kindAt bs node ≡ 6) where
@@ -489,7 +497,7 @@ module _ {bs steps nodes : List ℕ} {linear : List Bool} {b : Branch} (R : Read
     unfolding Tells scopeIn
     head-ends k w q = rw (q, reads-name bs node k .1)
         (at-once {r = Ended (endedW b false true)} (ends-here false (R .at)
-        (λ g e. trace-head (sym (usable-name bs node k (scopeOf bs .fits) name) ∙ Q .fitting) e)))
+        (λ g e. traced-head (sym (usable-name bs node k (scopeOf bs .fits) name) ∙ Q .fitting) e)))
 
     -- a clause that can be used and is neither a name nor a menu is a recipe
     pub kind-seven : (kindAt bs node ≡ 1 → ⊥) → (kindAt bs node ≡ 10 → ⊥) → kindAt bs node ≡ 7
@@ -507,9 +515,9 @@ module _ {bs steps nodes : List ℕ} {linear : List Bool} {b : Branch} (R : Read
         pub recipe-both : Both (meet name (clauseOf bs node)) (meet name (clauseOf bs m)) (goal (goalAt bs l))
         recipe-both = rw (sound-recipe (R .sound) node clause-below kind, el, em) parts-⊸
 
-        pub recipe-joins : (f g h : Gathered) → Tensors h f g → Trace (b .depth) es (meet name (clauseOf bs m)) f
-            → Trace (b .depth) es (goal (goalAt bs l)) g → Trace (b .depth) es (meet name (clauseOf bs node)) h
-        recipe-joins f g h s c d = rw (sound-recipe (R .sound) node clause-below kind) (trace-recipe s (rw em at c) (rw el at d))
+        pub recipe-joins : (f g h : Gathered) (U W : Items) → Tensors h f g → Traced (b .depth) es (meet name (clauseOf bs m)) f U
+            → Traced (b .depth) es (goal (goalAt bs l)) g W → Traced (b .depth) es (meet name (clauseOf bs node)) h (U ∪ W)
+        recipe-joins f g h U W s c d = rw (sound-recipe (R .sound) node clause-below kind) (traced-recipe s (rw em at c) (rw el at d))
 
       pub recipe-call : (t : ℕ) → weight b + 4 * node + 2 ≡ t → (r : ℕ) → r ≡ rightAt bs node
           → (weight b + 4 * r + 2 < t) × (Ready bs steps nodes linear b × ClauseReady bs b name r)

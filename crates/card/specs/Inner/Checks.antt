@@ -3,7 +3,7 @@ use Prim.Native.Nat.{ℕ, _≤_, _<_}
 use mathlib.Core.Path.{_≡_}
 use mathlib.Core.List.{List}
 use lib.ListN.{length}
-use Rattle.card.specs.Format.{ruleCount, lineCount, nodeCount, depthLimit, cardLength}
+use Rattle.card.specs.Format.{ruleCount, lineCount, nodeCount, kindAt, depthLimit, cardLength}
 use Rattle.card.specs.declared.kinds.Field.{Field}
 use Rattle.card.specs.declared.kinds.Field.the-variants.{Unused, Name, GoalPart, ClausePart, Unknown}
 use Rattle.card.specs.Verdict.{Verdict, Where, sound, fault}
@@ -28,3 +28,7 @@ PartBelow n Name v = Unit {0}
 PartBelow n GoalPart v = v < n
 PartBelow n ClausePart v = v < n
 PartBelow n Unknown v = Unit {0}
+
+-- no node of the card is of kind k
+pub record NoKind (bs : List ℕ) (k : ℕ) : Type 0 where
+  pub none : (i : ℕ) → i < nodeCount bs → kindAt bs i ≡ k → ⊥

@@ -15,8 +15,8 @@ mark-requires c κs = search needs
 shared-slice-read-refuse : tie.Need-shared-slice-read-refuse
 shared-slice-read-refuse c = search needs
 
-cast-t9 : tie.Need-cast-t9
-cast-t9 c = search needs
+cast-t10 : tie.Need-cast-t10
+cast-t10 c = search needs
 
 refuse-requires : tie.Need-refuse-requires
 refuse-requires c κs = search needs
@@ -30,4 +30,4 @@ returns c =
     ∙ ap (λ m. refuse (not (eqb (byteAt (start .args .marks .now) (start .args .i)) m)) 14 (markAt (start .args .i))) (mark .mark .ensures)
 
 pub mark-check-spec : {M : Type 1} → statement M
-mark-check-spec = tie.close (tie.spec mark-requires shared-slice-read-refuse cast-t9 refuse-requires returns)
+mark-check-spec = tie.close (tie.spec mark-requires shared-slice-read-refuse cast-t10 refuse-requires returns)

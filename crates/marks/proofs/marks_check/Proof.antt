@@ -3,19 +3,21 @@ use Prim.Native.Nat.{_≤_, _-_, _<_}
 use native.Mathlib.Omega.{arith}
 use mathlib.Core.Path.{_≡_, refl, sym}
 use lib.ListN.{take}
-use Rattle.card.specs.Format.{lineCount}
+use Rattle.card.specs.Format.{ruleCount, lineCount}
 use Rattle.card.specs.Verdict.{firstOf, sound, told}
 use Rattle.card.proofs.CardChecked.{refused-at, passed-at}
+use Rattle.scope.specs.Inner.Sets.{wordItems}
 use Rattle.marks.specs.Marks.{markFault}
 use Rattle.marks.proofs.LinesGathered.{fault-by}
 use Rattle.marks.proofs.marks_check.Statement.{statement}
 use Rattle.marks.proofs.marks_check.Tie as tie
 
 abbrev Inv-loop : tie.InvT-loop
-Inv-loop card steps k marks p t used i₀ i = (i ≤ t) × (firstOf i (markFault card (take k steps) marks) ≡ sound)
+Inv-loop card steps k sure marks p t used i₀ i =
+    (i ≤ t) × (firstOf i (markFault card (wordItems (ruleCount card) sure) (take k steps) marks) ≡ sound)
 
 abbrev μ-loop : tie.MeasureT-loop
-μ-loop card steps k marks p t used i₀ i = t - i
+μ-loop card steps k sure marks p t used i₀ i = t - i
 
 -- the function's entry
 abbrev start : (c : tie.At-loop Inv-loop μ-loop) → tie.Start Inv-loop μ-loop
@@ -28,6 +30,7 @@ below c = omega (arith, c .loop-test .taken, c .before .before .before .byte2 .e
 -- what the check of a mark tells, of the list
 fault : (c : tie.After-mark-check Inv-loop μ-loop) → told (c .mark-check .result)
     ≡ markFault (start (c .before .before) .args .card .now)
+    (wordItems (ruleCount (start (c .before .before) .args .card .now)) (start (c .before .before) .args .sure))
     (take (start (c .before .before) .args .k) (start (c .before .before) .args .steps .now))
     (start (c .before .before) .args .marks .now) (c .before .before .loop .i)
 fault c =
@@ -35,7 +38,7 @@ fault c =
     let s = start turn in
     let gathered = rw (turn .before .before .before .byte .ensures .0) at (turn .before .listed .ensures) in
     rw (c .mark-check .ensures)
-    (fault-by (s .args .card .now) gathered (turn .loop .i) (omega (arith, below (c .before), s .pre .0 .lines)) (s .args .marks .now))
+    (fault-by (s .args .card .now) gathered (s .args .sure) (turn .loop .i) (omega (arith, below (c .before), s .pre .0 .lines)) (s .args .marks .now))
 
 byte-requires : tie.Need-byte-requires Inv-loop μ-loop
 byte-requires c κs = omega (arith, c .before .before .before .pre .0 .whole)

@@ -1,4 +1,4 @@
-use Prim.Native.Nat.{_≤_, _-_, _<_}
+use Prim.Native.Nat.{ℕ, _≤_, _-_, _<_}
 use native.Mathlib.Omega.{arith}
 use native.Mathlib.Numerals.{add-one}
 use mathlib.Core.Path.{_≡_, refl, _∙_, ap}
@@ -6,6 +6,7 @@ use mathlib.Core.List.{_++_}
 use lib.ListN.{length, take, drop}
 use Rattle.card.specs.Format.{ruleCount, lineCount, listing}
 use Rattle.card.specs.Sheet.{markOf, marksOf}
+use Rattle.scope.specs.Inner.Sets.{wordItems}
 use Rattle.marks.specs.Inner.Used.{Gathers}
 use Rattle.marks.proofs.LinesGathered.{mark-by}
 use Rattle.marks.proofs.LinesMarked.{listing-more, listing-kept}
@@ -13,14 +14,19 @@ use Rattle.marks.proofs.write_marks.Statement.{statement}
 use Rattle.marks.proofs.write_marks.Tie as tie
 
 abbrev Inv-loop : tie.InvT-loop
-Inv-loop card steps k marks₀ p t used i₀ marks i = (i ≤ t) × (marks ≡ listing i (markOf card (take k steps)) ++ drop i marks₀)
+Inv-loop card steps k sure marks₀ p t used i₀ marks i =
+    (i ≤ t) × (marks ≡ listing i (markOf card (wordItems (ruleCount card) sure) (take k steps)) ++ drop i marks₀)
 
 abbrev μ-loop : tie.MeasureT-loop
-μ-loop card steps k marks₀ p t used i₀ marks i = t - i
+μ-loop card steps k sure marks₀ p t used i₀ marks i = t - i
 
 -- the function's entry
 abbrev start : (c : tie.At-loop Inv-loop μ-loop) → tie.Start Inv-loop μ-loop
 start c = c .before .before .before .before .before .before .before
+
+-- the marks asked for
+abbrev asked : (c : tie.At-loop Inv-loop μ-loop) → ℕ → ℕ
+asked c = let s = start c .args in markOf (s .card .now) (wordItems (ruleCount (s .card .now)) (s .sure)) (take (s .k) (s .steps .now))
 
 -- the set has the lines of the list
 gathered : (c : tie.At-loop Inv-loop μ-loop)
@@ -55,7 +61,7 @@ slice-write-marks c =
     let turn = c .before .before in
     let here = room (c .before) in
     let s = start turn .args in
-    let kept = listing-kept (markOf (s .card .now) (take (s .k) (s .steps .now))) (turn .loop .i) (s .marks .now) (omega (arith, here)) in
+    let kept = listing-kept (asked turn) (turn .loop .i) (s .marks .now) (omega (arith, here)) in
     omega (arith, here, kept, ap length (turn .loop .inv .1))
 
 add-i : tie.Need-add-i Inv-loop μ-loop
@@ -69,16 +75,16 @@ loop-again c =
     let turn = c .before .before in
     let s = start turn .args in
     let i = turn .loop .i in
-    let more = listing-more (markOf (s .card .now) (take (s .k) (s .steps .now))) i (s .marks .now) (room (c .before)) in
+    let more = listing-more (asked turn) i (s .marks .now) (room (c .before)) in
     let few : i < 64 = omega (arith, below (c .before), start turn .pre .0 .lines) in
-    let true-mark = c .mark .ensures ∙ mark-by (s .card .now) (gathered turn) i few in
+    let true-mark = c .mark .ensures ∙ mark-by (s .card .now) (gathered turn) (s .sure) i few in
     (omega (arith, c .before .loop-test .taken), rw (turn .loop .inv .1, true-mark, add-one) more)
 
 same-length : tie.Need-same-length Inv-loop μ-loop
 same-length c =
     let turn = c .before in
     let s = start turn .args in
-    let kept = listing-kept (markOf (s .card .now) (take (s .k) (s .steps .now))) (turn .loop .i) (s .marks .now)
+    let kept = listing-kept (asked turn) (turn .loop .i) (s .marks .now)
     (omega (arith, turn .loop .inv .0, turn .before .before .before .byte2 .ensures .0, start turn .pre .1 .1 .1)) in
     ap length (turn .loop .inv .1) ∙ kept
 

@@ -1,4 +1,4 @@
--- The lines that stand in a list, gathered in a set, and the marks by that set.
+-- The lines that stand in a list, gathered in a set, and the marks by that set and the lines surely used.
 use Prim.Native.Nat.{ℕ, _+_, _<_}
 use mathlib.Core.Path.{_≡_}
 use mathlib.Core.Bool.{not, cond}
@@ -8,16 +8,16 @@ use Rattle.calculus.specs.Steps.{stands}
 use Rattle.card.specs.Format.{byteAt, lineByte}
 use Rattle.card.specs.Verdict.{Verdict, mark, refuse}
 use Rattle.lines.specs.declared.LineSet.{LineSet}
-use Rattle.lines.specs.Inner.Set.{member}
+use Rattle.lines.specs.Inner.Set.{bitAt, member}
 
 -- Of the lines, of which a card has at most 64, exactly those that stand in the list are in the set.
 pub record Gathers (l : List ℕ) (rules : ℕ) (s : LineSet) : Type 0 where
   pub line : (x : ℕ) → x < 64 → member s x ≡ stands (rules + x) l
 
--- `markOf` line i, where the lines in the set stand in the list
-unfoldable pub markBy : List ℕ → LineSet → ℕ → ℕ
-markBy bs s i = cond (member s i) 1 (cond (eqb (lineByte bs i) 1) 2 0)
+-- `markOf` line i, where the lines in the set stand in the list and those of the word are surely used
+unfoldable pub markBy : List ℕ → LineSet → ℕ → ℕ → ℕ
+markBy bs s sure i = cond (member s i) (cond (bitAt sure i) 1 3) (cond (eqb (lineByte bs i) 1) 2 0)
 
--- `markFault`, where the lines in the set stand in the list
-unfoldable pub faultBy : List ℕ → LineSet → List ℕ → ℕ → Verdict
-faultBy bs s marks i = refuse (not (eqb (byteAt marks i) (markBy bs s i))) 14 (mark i)
+-- `markFault`, by the same
+unfoldable pub faultBy : List ℕ → LineSet → ℕ → List ℕ → ℕ → Verdict
+faultBy bs s sure marks i = refuse (not (eqb (byteAt marks i) (markBy bs s sure i))) 14 (mark i)

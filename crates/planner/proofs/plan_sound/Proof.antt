@@ -49,14 +49,31 @@ returns-2 c =
     (c .before .before .before .before .before .before .before .room-for .ensures))
     (none-found _ _ (c .before .enum-told3 .given .1) (c .before .before .before .first-list .ensures .0)))
 
+-- once the list is found: what the search says of it
+module _ (c : tie.After-k) where
+  abbrev called : tie.After-first-list
+  called = c .before .before
+
+  abbrev start : tie.Start
+  start = called .before .before .before .before .before .before .before
+
+slice-aggregate-sure-lines : tie.Need-slice-aggregate-sure-lines
+slice-aggregate-sure-lines c = search needs
+
+sure-lines-requires : tie.Need-sure-lines-requires
+sure-lines-requires c κs =
+    let listed = c .before .before in
+    let f = list-found _ (listed .k .given .1) (called listed .first-list .ensures .0) in
+    (start listed .pre, (omega (arith, f .room, called listed .first-list .ensures .1), f .first .listed))
+
 write-plan-requires : tie.Need-write-plan-requires
 write-plan-requires c κs =
-    let listed = c .before .before .before in
-    let called = listed .before .before in
-    let enough = called .before .before in
-    let f = list-found _ (listed .k .given .1) (called .first-list .ensures .0) in
+    let at-sure = c .before .before in
+    let listed = at-sure .before .before .before in
+    let enough = called listed .before .before in
+    let f = list-found _ (listed .k .given .1) (called listed .first-list .ensures .0) in
     let room = room-enough _ (enough .enum-told .given .1) (enough .before .before .room-for .ensures) in
-    (enough .before .before .before .before .before .pre, (called .first-list .ensures .1, (f .room, (f .first, room))))
+    (start listed .pre, (called listed .first-list .ensures .1, (f .room, (f .first, (at-sure .sure-lines .ensures, room)))))
 
 same-length : tie.Need-same-length
 same-length c = search needs
@@ -78,6 +95,8 @@ plan-sound-spec =
     enum-told-3
     no-plan-requires
     returns-2
+    slice-aggregate-sure-lines
+    sure-lines-requires
     write-plan-requires
     same-length
     returns-3)

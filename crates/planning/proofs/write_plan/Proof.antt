@@ -12,7 +12,7 @@ write-requires c κs =
     let p = c .before .before .before .pre in
     let size = p .1 .0 in
     let k = p .1 .1 .0 in
-    let room = p .1 .1 .1 .1 in
+    let room = p .1 .1 .1 .1 .1 in
     let few = within _ _ _ size k (p .1 .1 .1 .0) in
     (sound-front _ (p .0), (size, (k, omega arith)))
 
@@ -26,7 +26,7 @@ returns : tie.Need-returns
 unfolding toldPlan
 returns c =
     let p = c .before .before .before .before .before .before .pre in
-    sheet-planned _ _ _ (p .1 .0) (p .1 .1 .0) (p .1 .1 .1 .0) _ _ (p .0) (p .1 .1 .1 .1) (c .before .before .write .ensures)
+    sheet-planned _ _ _ (p .1 .0) (p .1 .1 .0) (p .1 .1 .1 .0) _ _ (p .0) (p .1 .1 .1 .1 .1) (p .1 .1 .1 .1 .0) (c .before .before .write .ensures)
 
 pub write-plan-spec : {M : Type 1} → statement M
 write-plan-spec = tie.close (tie.spec write-requires cast-count same-length returns)

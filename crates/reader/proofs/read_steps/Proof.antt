@@ -1,13 +1,9 @@
--- `read_steps` meets its contract: the walk's answer is 13, 17, 18 or 19, or a list, and the marks' answer 14 or acceptance.
+-- `read_steps` meets its contract: the walk's answer is 13, 17, 18 or 19, or a list with the lines that it surely uses.
 use native.Mathlib.Omega.{arith}
 use borrow.Author.Needs.{needs}
-use Rattle.calculus.specs.Job.{Listed}
-use Rattle.card.specs.Decode.{jobOf}
-use Rattle.card.proofs.CardChecked.{sound-front}
-use Rattle.sheet_front.specs.Front.{stepsOf}
 use Rattle.sheet_front.proofs.SheetFits.{fitting}
 use Rattle.reader.specs.Read.{toldRead}
-use Rattle.reader.proofs.ReaderExits.{Fits, steps-room, marks-room, found-list, found-wrong, found-mark, found-right}
+use Rattle.reader.proofs.ReaderExits.{Fits, steps-room, found-list, found-sure, found-wrong}
 use Rattle.reader.proofs.read_steps.Statement.{statement}
 use Rattle.reader.proofs.read_steps.Tie as tie
 
@@ -36,85 +32,38 @@ steps-check-requires c κs =
     let b = c .before .byte .ensures in
     (start (c .before) .pre .0, (steps-room (fits (c .before)), omega arith))
 
-enum-told : tie.Need-enum-told
-enum-told c = search needs
+enum-known-steps : tie.Need-enum-known-steps
+enum-known-steps c = search needs
 
-enum-told-2 : tie.Need-enum-told-2
-enum-told-2 c = search needs
+read-marks-requires : tie.Need-read-marks-requires
+read-marks-requires c κs =
+    let at-steps = c .before .before .before in
+    let here = at-steps .before .before in
+    let e = c .before .steps .given .1 in (
+      start here .pre .0,
+      (
+        start here .pre .1,
+        (
+          here .byte .ensures .0,
+          (
+            found-list (fits here) _ (at-steps .steps-check .ensures .0) e,
+            found-sure (fits here) _ (at-steps .steps-check .ensures .0) e (at-steps .steps-check .ensures .1),
+          ),
+        ),
+      ),
+    )
 
-answered-requires : tie.Need-answered-requires
-answered-requires c κs = search needs
+enum-known-steps-2 : tie.Need-enum-known-steps-2
+enum-known-steps-2 c = search needs
 
 returns : tie.Need-returns
-returns c =
-    let at-steps = c .before .before .before in
-    found-wrong (fits (at-steps .before .before)) _ (at-steps .steps-check .ensures) _ 0 (c .before .enum-told2 .given .1) (c .answered .ensures)
-
-add-start : tie.Need-add-start
-add-start c = search needs
-
--- what is lent of the sheet behind the walk
-sub-marks-check : tie.Need-sub-marks-check
-sub-marks-check c = let f = fitting _ _ (start (c .before .before .before .before) .pre .1) in omega arith
-
-part-marks-check-start : tie.Need-part-marks-check-start
-part-marks-check-start c = let f = fitting _ _ (start (c .before .before .before .before) .pre .1) in omega arith
-
-part-marks-check-end : tie.Need-part-marks-check-end
-part-marks-check-end c = search needs
-
-sub-marks-check-2 : tie.Need-sub-marks-check-2
-sub-marks-check-2 c =
-    let f = fitting _ _ (start (c .before .before .before .before .before) .pre .1) in
-    let b = c .before .before .before .before .before .byte .ensures in
-    omega arith
-
-part-marks-check-start-2 : tie.Need-part-marks-check-start-2
-part-marks-check-start-2 c =
-    let f = fitting _ _ (start (c .before .before .before .before .before) .pre .1) in
-    let b = c .before .before .before .before .before .byte .ensures in
-    omega arith
-
-part-marks-check-end-2 : tie.Need-part-marks-check-end-2
-part-marks-check-end-2 c = search needs
-
-marks-check-requires : tie.Need-marks-check-requires
-marks-check-requires c κs =
-    let here = c .before .before .before .before .before .before in
-    (sound-front _ (start here .pre .0), (steps-room (fits here), marks-room (fits here)))
-
-enum-told-3 : tie.Need-enum-told-3
-enum-told-3 c = search needs
-
-enum-told-4 : tie.Need-enum-told-4
-enum-told-4 c = search needs
-
-answered-requires-2 : tie.Need-answered-requires-2
-answered-requires-2 c κs = search needs
-
--- once the marks are checked: the walk that came before, and the list it found
-abbrev followed : (m : tie.After-marks-check) → tie.After-steps-check
-followed m = m .before .before .before .before .before
-
-abbrev read : (m : tie.After-marks-check) → tie.After-byte
-read m = followed m .before .before
-
-list : (m : tie.After-marks-check) → Listed (jobOf (start (read m) .args .card .now)) (stepsOf (start (read m) .args .sheet .now))
-list m = found-list (fits (read m)) _ (followed m .steps-check .ensures) (m .before .before .before .enum-told .given .1)
+returns c = c .read-marks .ensures
 
 returns-2 : tie.Need-returns-2
-returns-2 c =
-    let m = c .before .before .before in
-    found-mark (fits (read m)) _ (m .marks-check .ensures) (list m) _ 0 (c .before .enum-told4 .given .1) (c .answered2 .ensures)
-
-cast-count : tie.Need-cast-count
-cast-count c = search needs
-
-returns-3 : tie.Need-returns-3
 unfolding toldRead
-returns-3 c =
-    let m = c .before .before in
-    found-right (fits (read m)) _ (m .marks-check .ensures) (list m) (c .enum-told3 .given .1)
+returns-2 c =
+    let at-steps = c .before .before .before in
+    found-wrong (fits (at-steps .before .before)) _ (at-steps .steps-check .ensures .0) _ (c .before .steps2 .given .1)
 
 pub read-steps-spec : {M : Type 1} → statement M
 read-steps-spec =
@@ -125,21 +74,8 @@ read-steps-spec =
     part-steps-check-start
     part-steps-check-end
     steps-check-requires
-    enum-told
-    enum-told-2
-    answered-requires
+    enum-known-steps
+    read-marks-requires
+    enum-known-steps-2
     returns
-    add-start
-    sub-marks-check
-    part-marks-check-start
-    part-marks-check-end
-    sub-marks-check-2
-    part-marks-check-start-2
-    part-marks-check-end-2
-    marks-check-requires
-    enum-told-3
-    enum-told-4
-    answered-requires-2
-    returns-2
-    cast-count
-    returns-3)
+    returns-2)

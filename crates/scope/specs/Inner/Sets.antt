@@ -1,12 +1,16 @@
--- Line sets as sets of items, and the must lines of a card as a line set.
-use Prim.Native.Nat.{ℕ, zero, suc, _-_}
+-- Line sets as sets of items, the must lines of a card as a line set, and the lines surely used as a word.
+use Prim.Native.Nat.{ℕ, zero, suc, _+_, _-_, _<_}
+use mathlib.Core.Path.{_≡_}
 use mathlib.Core.Bool.{Bool, true, false, _&&_}
 use mathlib.Core.List.{List}
 use lib.Dec.{leb, eqb}
 use Rattle.calculus.specs.Items.{Items}
-use Rattle.card.specs.Format.{lineCount, lineByte}
+use Rattle.calculus.specs.Steps.{stands}
+use Rattle.calculus.specs.Job.{Listed, surelyUsed}
+use Rattle.card.specs.Format.{ruleCount, lineCount, lineByte}
+use Rattle.card.specs.Decode.{jobOf}
 use Rattle.lines.specs.declared.LineSet.{LineSet}
-use Rattle.lines.specs.Inner.Set.{member, emptyS, addS}
+use Rattle.lines.specs.Inner.Set.{bitAt, member, emptyS, addS}
 
 -- The items of a line set: item i is the entry P + i.
 unfoldable pub items : ℕ → LineSet → Items
@@ -19,3 +23,16 @@ strictBelow bs (suc n) = elim (eqb (lineByte bs n) 1) [ true ↦ addS (strictBel
 
 unfoldable pub strictOf : List ℕ → LineSet
 strictOf bs = strictBelow bs (lineCount bs)
+
+-- the lines of a word as items: line x is bit x
+unfoldable pub wordItems : ℕ → ℕ → Items
+wordItems P word e = bitAt word (e - P)
+
+-- Of the lines, of which a card has at most 64, the word has just those that are in the set.
+pub record LinesOf (P word : ℕ) (U : Items) : Type 0 where
+  pub line : (x : ℕ) → x < 64 → bitAt word x ≡ U (P + x)
+
+-- of the lines in the list l, the word has just those that a derivation with this list surely uses
+pub record SureLines (bs l : List ℕ) (word : ℕ) : Type 0 where
+  pub lines : (x : Listed (jobOf bs) l) (i : ℕ) → i < lineCount bs → stands (ruleCount bs + i) l ≡ true
+      → bitAt word i ≡ surelyUsed x (ruleCount bs + i)

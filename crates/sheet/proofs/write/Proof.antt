@@ -3,8 +3,9 @@ use native.Mathlib.Omega.{arith}
 use lib.ListN.{length, take}
 use lib.Seq.{length-take-le}
 use borrow.Author.Needs.{needs}
-use Rattle.card.specs.Format.{lineCount}
+use Rattle.card.specs.Format.{ruleCount, lineCount}
 use Rattle.card.specs.Sheet.{marksOf}
+use Rattle.scope.specs.Inner.Sets.{wordItems}
 use Rattle.sheet.proofs.SheetWritten.{part-back, whole-sheet}
 use Rattle.sheet.proofs.write.Statement.{statement}
 use Rattle.sheet.proofs.write.Tie as tie
@@ -57,17 +58,18 @@ returns c =
     let at-t = at-front .before .before in
     let start = at-t .before .before .before in
     let s = start .args in
+    let U = wordItems (ruleCount (s .card .now)) (s .sure) in
     let l = take (s .k) (s .steps .now) in
     let front = at-front .write-front in
     let steps = at-steps .write-steps in
     let t = at-t .byte in
     let marks = c .before .before .write-marks in
     let s₂ = steps .last .1 .1 .0 in
-    whole-sheet (s .card .now) l (s .sheet .now) (front .last .1 .1 .0) s₂ _ (s .k)
+    whole-sheet (s .card .now) U l (s .sheet .now) (front .last .1 .1 .0) s₂ _ (s .k)
     (length-take-le (s .k) (s .steps .now) (omega (arith, start .pre)))
     (rw (t .ensures .0) at (front .ensures))
     (steps .ensures)
-    (part-back (5 + s .k) (lineCount (s .card .now)) s₂ (marksOf (s .card .now) l) (marks .last .1 .1 .1 .0)
+    (part-back (5 + s .k) (lineCount (s .card .now)) s₂ (marksOf (s .card .now) U l) (marks .last .1 .1 .1 .1 .0)
     (omega (arith, start .pre, front .kept, steps .kept)) (marks .ensures))
 
 pub write-spec : {M : Type 1} → statement M

@@ -1,8 +1,10 @@
 -- What each change of a branch and of a summary is.
-use Prim.Native.Nat.{ℕ, _+_, _-_}
+use Prim.Native.Nat.{ℕ, _+_, _-_, _^_}
 use mathlib.Core.Bool.{Bool, true, false, not, cond, _&&_, _||_}
 use mathlib.Core.List.{List}
 use mathlib.Core.Path.{_≡_}
+use lib.Bits.{bitAnd, bitOr}
+use lib.Dec.{ltb}
 use Rattle.card.specs.Format.{ruleCount, lineCount, depthLimit}
 use Rattle.lines.specs.declared.LineSet.{LineSet}
 use Rattle.lines.specs.Inner.Set.{member, isEmptyS, emptyS, addS, takeS, cutS, meetS, joinS}
@@ -41,7 +43,7 @@ abbrev pub steppedB : Branch → ℕ → Branch
 steppedB b n = record { rules = b .rules; given = b .given; at = b .at + 1; count = b .count; depth = b .depth - n; met = b .met }
 
 abbrev pub endedW : Branch → Bool → Bool → Summary
-endedW b slack alive = record { at = b .at; used = emptyS; slack = slack; alive = alive; met = b .met }
+endedW b slack alive = record { at = b .at; used = emptyS; slack = slack; alive = alive; met = b .met; sure = 0 }
 
 abbrev pub tensorW : Summary → Summary → Summary
 tensorW w v = record {
@@ -50,6 +52,7 @@ tensorW w v = record {
   slack = w .slack || v .slack;
   alive = w .alive && v .alive && isEmptyS (meetS (w .used) (v .used));
   met = v .met;
+  sure = bitOr (w .sure) (v .sure);
 }
 
 abbrev pub coverW : Summary → Summary → Bool
@@ -66,6 +69,7 @@ withW w v = record {
   slack = w .slack && v .slack;
   alive = w .alive && v .alive && (coverW w v && coverW v w);
   met = pickW w v;
+  sure = bitAnd (w .sure) (v .sure);
 }
 
 abbrev pub withoutW : Summary → ℕ → Summary
@@ -75,7 +79,12 @@ withoutW w item = record {
   slack = w .slack;
   alive = w .alive && (w .slack || member (w .used) item);
   met = w .met;
+  sure = w .sure;
 }
+
+-- the lines with the item, if it is below 64
+unfoldable pub withLine : ℕ → ℕ → ℕ
+withLine word item = cond (ltb item 64) (bitOr word (2 ^ item)) word
 
 abbrev pub usingW : Summary → ℕ → ℕ → Summary
 usingW w item due = record {
@@ -84,6 +93,7 @@ usingW w item due = record {
   slack = w .slack;
   alive = w .alive && not (member (w .used) item);
   met = w .met + due;
+  sure = withLine (w .sure) item;
 }
 
 abbrev pub wrongF : ℕ → Place → Refusal

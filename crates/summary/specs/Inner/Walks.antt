@@ -10,14 +10,16 @@ use Rattle.calculus.specs.Derivation.{Scope}
 use Rattle.calculus.specs.Steps.{leftChoice, rightChoice}
 use Rattle.calculus.specs.Walk.{Walk, stops, choiceWalk}
 use Rattle.calculus.specs.Wanted.{Part, goal, meet}
-use Rattle.calculus.specs.Inner.Trace.{partWalk, Gathered, Trace}
+use Rattle.calculus.specs.Items.{Items}
+use Rattle.calculus.specs.Inner.Trace.{partWalk, Gathered}
+use Rattle.calculus.specs.Inner.Surely.{Traced}
 use Rattle.lines.specs.declared.LineSet.{LineSet}
 use Rattle.card.specs.declared.Refusal.{Refusal}
 use Rattle.card.specs.Verdict.{whereOf, step}
 use Rattle.card.specs.Format.{ruleCount, lineCount, nodeCount, leftAt, rightAt}
 use Rattle.card.specs.Fault.{Sound, goalPart, clausePart, heightAt}
 use Rattle.card.specs.Decode.{goalAt, clauseOf, scopeOf}
-use Rattle.scope.specs.Inner.Sets.{items, strictOf}
+use Rattle.scope.specs.Inner.Sets.{items, strictOf, LinesOf}
 use Rattle.scope.specs.Inner.Tables.{scopeIn, Entered, Kept}
 use Rattle.summary.specs.declared.Branch.{Branch}
 use Rattle.summary.specs.declared.Summary.{Summary}
@@ -35,15 +37,18 @@ from steps b at = drop at (take (b .given) steps)
 unfoldable pub gathered : ℕ → Summary → List ℕ → Gathered
 gathered P w l = record { list = l; used = items P (w .used); slack = w .slack; alive = w .alive }
 
--- The walk of the part p ended with the summary w; no must line was met without a step.
+-- The walk of the part p ended with the summary w; no must line was met without a step, and of the lines just those in `sure` are surely
+-- used.
 pub record EndsWith (strict : LineSet) (steps : List ℕ) (b : Branch) (es : Scope) (p : Part) (w : Summary) : Type 0 where
   pub onward : b .at ≤ w .at
   pub bounded : w .at ≤ b .given
   pub list : List ℕ
   pub along : list ++ from steps b (w .at) ≡ from steps b (b .at)
-  pub trace : Trace (b .depth) es p (gathered (b .rules) w list)
+  pub surely : Items
+  pub traced : Traced (b .depth) es p (gathered (b .rules) w list) surely
   pub counted : Counted strict (b .met) w
   pub pace : w .met + b .at ≤ b .met + w .at
+  pub sure : LinesOf (b .rules) (w .sure) surely
 
 -- The walk of the part p stops, with the refusal's number at the step that is its place.
 pub record StopsWith (steps : List ℕ) (b : Branch) (es : Scope) (p : Part) (f : Refusal) : Type 0 where

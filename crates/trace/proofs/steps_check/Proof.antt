@@ -1,10 +1,10 @@
 -- The walk of the goal, then the tests of its end and of its items.
 use Prim.Native.Nat.{_≤_}
 use native.Mathlib.Omega.{arith}
-use mathlib.Core.Path.{refl, _∙_, ap}
+use mathlib.Core.Path.{refl}
 use Rattle.card.proofs.CardChecked.{sound-front}
-use Rattle.lines.specs.Inner.Count.{countS}
-use Rattle.trace.proofs.FollowsExactly.{start-call, end-short, end-counted, end-found, stray-found}
+use Rattle.trace.specs.Inner.Listing.{toldFollowed, SurelyFollows}
+use Rattle.trace.proofs.FollowsExactly.{start-call, end-short, end-counted, end-found, end-sure, stray-found}
 use Rattle.trace.proofs.steps_check.Statement.{statement}
 use Rattle.trace.proofs.steps_check.Tie as tie
 
@@ -53,51 +53,45 @@ module _ (c : tie.After-walk) where
   abbrev entry : tie.Start
   entry = known .before
 
-enum-told : tie.Need-enum-told
-enum-told c = c .match .keys2
-
-found-requires : tie.Need-found-requires
-found-requires c κs = tt
-
-returns : tie.Need-returns
-returns c =
-    let w = c .before .before .before in
-    rw (c .found .ensures)
-    (stray-found (entry w .pre .0) (entry w .pre .1 .0) (entry w .pre .1 .1) (short (known w)) (at-enter w .enter .ensures .0)
-    (at-enter w .enter .ensures .1) _ (at-start w .start .ensures) _ (at-word w .word .ensures .0) (w .walk .ensures)
-    (c .before .enum-told .given .1))
-
-strict-lines-requires : tie.Need-strict-lines-requires
-strict-lines-requires c κs = entry (c .before .before .before) .pre .0
-
-count-requires : tie.Need-count-requires
-count-requires c κs = tt
-
-end-check-requires : tie.Need-end-check-requires
-end-check-requires c κs =
-    let at-walked = c .before .before .before in
+ended-requires : tie.Need-ended-requires
+ended-requires c κs =
+    let at-walked = c .before in
     let w = at-walked .before .before in (
       entry w .pre .0,
       (
         end-short (entry w .pre .0) (entry w .pre .1 .0) (entry w .pre .1 .1) (short (known w)) (at-enter w .enter .ensures .0)
             (at-enter w .enter .ensures .1) _ (at-start w .start .ensures) _ (at-word w .word .ensures .0) (w .walk .ensures) _
             (at-walked .walked .given .1),
-        (
-          end-counted (entry w .pre .0) (entry w .pre .1 .0) (entry w .pre .1 .1) (short (known w)) (at-enter w .enter .ensures .0)
-              (at-enter w .enter .ensures .1) _ (at-start w .start .ensures) _ (at-word w .word .ensures .0) (w .walk .ensures) _
-              (at-walked .walked .given .1),
-          c .count .ensures ∙ ap countS (c .before .strict-lines .ensures),
-        ),
+        end-counted (entry w .pre .0) (entry w .pre .1 .0) (entry w .pre .1 .1) (short (known w)) (at-enter w .enter .ensures .0)
+            (at-enter w .enter .ensures .1) _ (at-start w .start .ensures) _ (at-word w .word .ensures .0) (w .walk .ensures) _
+            (at-walked .walked .given .1),
       ),
     )
 
+enum-known-walked-2 : tie.Need-enum-known-walked-2
+enum-known-walked-2 c = c .match .keys2
+
+returns : tie.Need-returns
+returns c =
+    let at-walked = c .before .before in
+    let w = at-walked .before .before in (
+      end-found (entry w .pre .0) (entry w .pre .1 .0) (entry w .pre .1 .1) (short (known w)) (at-enter w .enter .ensures .0)
+          (at-enter w .enter .ensures .1) _ (at-start w .start .ensures) _ (at-word w .word .ensures .0) (w .walk .ensures) _
+          (at-walked .walked .given .1) (c .ended .ensures .0),
+      end-sure (entry w .pre .0) (entry w .pre .1 .0) (entry w .pre .1 .1) (short (known w)) (at-enter w .enter .ensures .0)
+          (at-enter w .enter .ensures .1) _ (at-start w .start .ensures) _ (at-word w .word .ensures .0) (w .walk .ensures) _
+          (at-walked .walked .given .1) _ (c .ended .ensures .0) (c .ended .ensures .1),
+    )
+
 returns-2 : tie.Need-returns-2
+unfolding toldFollowed SurelyFollows
 returns-2 c =
-    let at-walked = c .before .before .before .before in
-    let w = at-walked .before .before in
-    end-found (entry w .pre .0) (entry w .pre .1 .0) (entry w .pre .1 .1) (short (known w)) (at-enter w .enter .ensures .0)
-    (at-enter w .enter .ensures .1) _ (at-start w .start .ensures) _ (at-word w .word .ensures .0) (w .walk .ensures) _
-    (at-walked .walked .given .1) (c .end-check .ensures)
+    let w = c .before .before .before in (
+      stray-found (entry w .pre .0) (entry w .pre .1 .0) (entry w .pre .1 .1) (short (known w)) (at-enter w .enter .ensures .0)
+          (at-enter w .enter .ensures .1) _ (at-start w .start .ensures) _ (at-word w .word .ensures .0) (w .walk .ensures)
+          (c .before .walked2 .given .1),
+      tt,
+    )
 
 pub steps-check-spec : {M : Type 1} → statement M
 steps-check-spec =
@@ -108,10 +102,7 @@ steps-check-spec =
     word-requires
     walk-requires
     enum-known-walked
-    enum-told
-    found-requires
+    ended-requires
+    enum-known-walked-2
     returns
-    strict-lines-requires
-    count-requires
-    end-check-requires
     returns-2)

@@ -5,7 +5,7 @@ use Prim.Native.Nat.{_+_, _*_}
 use mathlib.Core.Logic.{inl, inr}
 use mathlib.Core.Bool.{Bool, true, false}
 use Rattle.calculus.specs.Formula.{topᴳ, oneᴳ, usable}
-use Rattle.calculus.specs.Inner.Trace.{trace-1, trace-⊤}
+use Rattle.calculus.proofs.SurelyByList.{traced-1, traced-⊤}
 use Rattle.card.specs.Format.{kindAt}
 use Rattle.card.specs.Decode.{clauseOf, scopeOf}
 use Rattle.card.proofs.CardChecked.{sound-front}
@@ -644,7 +644,7 @@ walk-returns-2 t c =
     let at-kind = at-match-keys2 .before in
     let start = at-kind .before .before .before in
     done-ends (start .pre .1 .0) _ (start .pre .1 .1) true topᴳ (reads-rest _ _ (sym (at-kind .kind .ensures .0) ∙ at-match-keys2 .match
-    .keys2) .0) (λ w e. trace-⊤ e) _ (c .ended .ensures)
+    .keys2) .0) (λ w e. traced-⊤ e) _ (c .ended .ensures)
 
 walk-returns-3 : (t : ℕ) → walk-lts.Need-returns-3 (walk-claims t) (walk-at t) walk.Post
 walk-returns-3 t c =
@@ -652,7 +652,7 @@ walk-returns-3 t c =
     let at-kind = at-match-keys3 .before in
     let start = at-kind .before .before .before in
     done-ends (start .pre .1 .0) _ (start .pre .1 .1) false oneᴳ (reads-done _ _ (sym (at-kind .kind .ensures .0) ∙ at-match-keys3 .match
-    .keys3)) (λ w e. trace-1 e) _ (c .ended2 .ensures)
+    .keys3)) (λ w e. traced-1 e) _ (c .ended2 .ensures)
 
 walk-returns-4 : (t : ℕ) → walk-lts.Need-returns-4 (walk-claims t) (walk-at t) walk.Post
 walk-returns-4 t c = c .walk-tensor .ensures

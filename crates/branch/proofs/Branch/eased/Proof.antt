@@ -4,7 +4,8 @@ use mathlib.Core.Bool.{true}
 use Prim.Native.Nat.{_-_}
 use borrow.Author.Needs.{needs}
 use Rattle.branch.specs.declared.Branch.{Branch}
-use Rattle.branch.proofs.CountsKept.{kept, counted-eased}
+use Rattle.branch.specs.Inner.Values.{easedB}
+use Rattle.branch.proofs.CountsKept.{kept, counted-freed}
 use Rattle.branch.proofs.Branch.eased.Statement.{statement}
 use Rattle.branch.proofs.Branch.eased.Tie as tie
 
@@ -17,7 +18,7 @@ sub-b c = search needs
 returns : tie.Need-returns
 returns c =
     let b = c .before .before .args .self in
-    kept (counted-eased b)
+    kept {c = easedB b} (counted-freed b)
     (ap (λ (x : Branch). record {
       at = x .at;
       count = x .count;

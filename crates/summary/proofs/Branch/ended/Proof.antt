@@ -10,7 +10,7 @@ empty-requires c κs = search needs
 returns : tie.Need-returns
 returns c =
     let a = c .before .args in
-    ap (λ u. record { at = a .self .at; used = u; slack = a .slack; alive = a .alive; met = a .self .met }) (c .empty .ensures)
+    ap (λ u. record { at = a .self .at; used = u; slack = a .slack; alive = a .alive; met = a .self .met; sure = 0 }) (c .empty .ensures)
 
 pub ended-spec : {M : Type 1} → statement M
 ended-spec = tie.close (tie.spec empty-requires returns)

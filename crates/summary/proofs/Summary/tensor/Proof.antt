@@ -1,6 +1,7 @@
 -- What the callees answer, put together.
 use mathlib.Core.Path.{_∙_, ap, ap₂}
 use mathlib.Core.Bool.{_&&_}
+use lib.Bits.{bitOr}
 use borrow.Author.Needs.{needs}
 use Rattle.lines.specs.Inner.Set.{isEmptyS, Words}
 use Rattle.summary.proofs.Summary.tensor.Statement.{statement}
@@ -32,14 +33,16 @@ words-other s = search needs
 
 returns : tie.Need-returns
 returns c =
-    let joined = c .before .before .before in
+    let whole = c .before .before in
+    let joined = whole .before .before .before in
     let empty = joined .before in
     let start = empty .before .before .before in
+    let w = start .args .self in
     let v = start .args .w in
     let shares = empty .is-empty .ensures ∙ ap isEmptyS (empty .before .meet .ensures) in
-    let alive = c .both2 .ensures ∙ ap₂ _&&_ (c .before .both .ensures) shares in
-    let slack = c .before .before .either .ensures in (
-      λ i. record { at = v .at; used = joined .join .ensures i; slack = slack i; alive = alive i; met = v .met },
+    let alive = whole .both2 .ensures ∙ ap₂ _&&_ (whole .before .both .ensures) shares in
+    let slack = whole .before .before .either .ensures in (
+      λ i. record { at = v .at; used = joined .join .ensures i; slack = slack i; alive = alive i; met = v .met; sure = bitOr (w .sure) (v .sure) },
       (words-self start, words-other start),
     )
 

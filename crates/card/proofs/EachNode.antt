@@ -1,0 +1,49 @@
+-- What holds of every node's reading, and of every clause in scope, of a sound card.
+use Prim.Native.Nat.{ℕ, zero, suc, _+_, _-_, _≤_, _<_}
+use native.Mathlib.Omega.{arith}
+use native.Mathlib.Nat.{eq-or-lt-of-le}
+use native.Mathlib.Decide.{decLt}
+use mathlib.Core.Path.{_≡_, sym, ap, subst, _∙_}
+use mathlib.Core.Logic.{⊎-elim}
+use mathlib.Core.List.{List}
+use Rattle.calculus.specs.Formula.{Clause}
+use Rattle.calculus.specs.Derivation.{Entry, size, entryAt, clauseAt}
+use Rattle.card.specs.Format.{nodeCount, ruleCount, lineCount, ruleNode, lineNode}
+use Rattle.card.specs.Fault.{Sound}
+use Rattle.card.specs.Decode.{NodeReading, readAt, clauseOf, ruleEntry, lineEntry, jobOf}
+use Rattle.card.proofs.NodesDecoded.{scope-size, rule-at, line-at}
+use Rattle.card.proofs.SoundNodes.{clause-lower, sound-rule-node, sound-line-node}
+
+module _ (bs : List ℕ) where
+  -- of every node, if of each where it is of those before it
+  pub each-node : (P : ℕ → NodeReading → Type 0)
+      → ((i : ℕ) → i < nodeCount bs → ((k : ℕ) → k < i → P k (readAt bs k)) → P i (readAt bs i)) → (i : ℕ) → i < nodeCount bs → P i (readAt bs i)
+  each-node P next i h = up-to (nodeCount bs) (omega arith) i h
+    where
+      up-to : (n : ℕ) → n ≤ nodeCount bs → (i : ℕ) → i < n → P i (readAt bs i)
+      up-to zero h i g = absurd (omega arith)
+      up-to (suc n) h i g = ⊎-elim
+          (λ e. next i (omega arith) (λ k f. up-to n (omega arith) k (omega arith)))
+          (λ l. up-to n (omega arith) i l)
+          (eq-or-lt-of-le {n = i} {m = n} (omega arith))
+
+  -- of every clause in scope, if of every node read as one
+  pub each-clause : Sound bs → (P : Clause → Type 0) → ((i : ℕ) → i < nodeCount bs → P (clauseOf bs i))
+      → (e : ℕ) → e < size (jobOf bs .scope) → P (clauseAt (jobOf bs .scope) e)
+  unfolding clauseAt ruleEntry lineEntry
+  each-clause s P all e h = go (decLt e (ruleCount bs))
+    where
+      rule : (i : ℕ) → i < ruleCount bs → P (clauseOf bs (ruleNode bs i))
+      rule i g = all (ruleNode bs i) (clause-lower bs (nodeCount bs) (ruleNode bs i) (sound-rule-node s i g))
+
+      line : (i : ℕ) → i < lineCount bs → P (clauseOf bs (lineNode bs i))
+      line i g = all (lineNode bs i) (clause-lower bs (nodeCount bs) (lineNode bs i) (sound-line-node s i g))
+
+      go : Dec (e < ruleCount bs) → P (clauseAt (jobOf bs .scope) e)
+      go (yes g) = subst P (sym (ap (λ (x : Entry). x .clause) (rule-at bs e g))) (rule e g)
+      go (no g) =
+          let i : ℕ = e - ruleCount bs in
+          let few : i < lineCount bs = omega (arith, scope-size bs) in
+          let here : e ≡ ruleCount bs + i = omega arith in
+          let entry = ap (λ (k : ℕ). entryAt (jobOf bs .scope) k) here ∙ line-at bs i few in
+          subst P (sym (ap (λ (x : Entry). x .clause) entry)) (line i few)
