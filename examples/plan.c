@@ -16,7 +16,7 @@
 #define ROOM (KIT_CARD_MAX + 1)
 
 static const char *const places[] = {"card", "node", "rule", "line", "sheet", "steps", "mark", "step"};
-static const char *const marks[] = {"left on the tray", "used", "taken by rest"};
+static const char *const marks[] = {"left on the tray", "used", "taken by rest", "used one way only"};
 
 /* Reads the file's beginning; 0 where that went well. */
 static int read_file(const char *name, uint8_t *bytes, size_t *len) {

@@ -47,6 +47,14 @@
 #define KIT_LEFT 254
 #define KIT_RIGHT 255
 
+/* Marks of a sheet: what becomes of a line. Of the two sides of an "either way" only one will be walked in the end. */
+enum kit_mark {
+    KIT_MARK_LEFT = 0,   /* a may line that no step uses: it stays on the tray, or a rest takes it */
+    KIT_MARK_USED = 1,   /* surely used: whichever side of each "either way" is walked, a step uses it */
+    KIT_MARK_REST = 2,   /* a must line that no step uses: a rest takes it */
+    KIT_MARK_ONE_WAY = 3 /* used one way only: one side of an "either way" uses it, the other does not */
+};
+
 /* What a refusal speaks of. Node, rule, line, mark and step have an index. */
 enum kit_place {
     KIT_PLACE_CARD = 0,
@@ -65,7 +73,8 @@ extern "C" {
 
 /* Plans a card. After planned with k, the first 5 + k + T bytes at sheet are the card's sheet (T is the number
  * of the card's lines), and those behind them keep what they held. After a refusal (1 to 11) all of them do. The k
- * steps begin at sheet[5]: each the number of the entry used, or KIT_LEFT or KIT_RIGHT for a choice.
+ * steps begin at sheet[5]: each the number of the entry used, or KIT_LEFT or KIT_RIGHT for a choice. The T marks begin
+ * at sheet[5 + k], one of enum kit_mark for each line.
  * A sheet buffer of 5 + s + T bytes, s the card's step limit, is enough; KIT_SHEET_MAX bytes are, for any card. */
 uint32_t kit_plan(const uint8_t *card, size_t card_len, uint8_t *sheet, size_t sheet_len);
 

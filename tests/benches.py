@@ -98,6 +98,8 @@ TWO = pack(*Card([(ATOM, 3, 0), (ATOM, 4, 0)], 0, [], [(0, 1), (1, 0)]))
 CHOICE = card(("both", ("one of", "b", ("never",)), "a"), [], [(("menu", "a", "b"), 1), ("b", 1)], 4, 8)
 # the rule c gives (d menu a); never one of d, with a lent c
 OFFER = card(("lend", "c", ("one of", ("never",), "d")), [gives("c", ("menu", "d", "a"))], [], 4, 8)
+# must a; a either way rest
+ONE_WAY = card(("either", "a", ("rest",)), [], [("a", 1)], 4, 8)
 COVERED = pack(*Card([(REST, 0, 0)], 0, [], [(0, 1)] * 40))
 LARGEST = of_done(256, 32, 32, s=200), of_done(255, 32, 32, s=100)
 
@@ -111,6 +113,8 @@ JOINED = [
     ("all kinds in the first card", KINDS, TWO, planned([6, 1, 6, 1, 4], [1, 0, 0, 1, 0])),
     ("choices in both cards", CHOICE, OFFER, planned([254, 2, 1, 254, 255, 0, 254, 3], [1, 1])),
     ("choices in both cards, the other way round", OFFER, CHOICE, planned([255, 0, 254, 3, 254, 2, 1, 254], [1, 1])),
+    ("a line used one way only in each card", ONE_WAY, ONE_WAY, planned([0, 1], [3, 3])),
+    ("a line used one way only in the first card", ONE_WAY, RULE, planned([1, 0, 2], [3, 1])),
     ("lines in the first card alone", TWO, of_done(), planned([0], [1, 0])),
     ("lines in the second card alone", of_done(), TWO, planned([0], [1, 0])),
     ("a line of the first card for the second's goal", MAY, WANT, planned([0], [1])),

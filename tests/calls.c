@@ -1,5 +1,5 @@
 /* The calls of kit_planner.h as a C program meets them: the sample card planned, checked and read, two cards joined,
- * null pointers lent, and refusals by number, card, place, index and reason. It is C99 and C++11 alike;
+ * null pointers lent, marks, and refusals by number, card, place, index and reason. It is C99 and C++11 alike;
  * tests/calls.sh compiles it as both. It ends at the first check that fails. */
 #include "kit_planner.h"
 
@@ -329,6 +329,36 @@ static void choices(void) {
     told(kit_check(other, sizeof other), 6, NODE, 2);
 }
 
+/* Name 2 is a must line, and the goal "2 either way rest": one side uses the line, the other leaves it to rest. */
+static void one_way(void) {
+    static const uint8_t card[29] = {
+        0x00, 0x1D, 0x01, 0x00, 0x01, 0x00, 0x03, 0x00, 0x02, 0x01, 0x01, /* front: d = 1, s = 1 */
+        0x01, 0x00, 0x02, 0x00, 0x00, /* node 0: name 2 */
+        0x02, 0x00, 0x00, 0x00, 0x00, /* node 1: rest */
+        0x05, 0x00, 0x00, 0x00, 0x01, /* node 2: 2 either way rest, the goal */
+        0x00, 0x00, 0x01 /* must 0 */
+    };
+    static const uint8_t wanted[7] = {0x00, 0x07, 0x01, 0x01, 0x01, 0x00, KIT_MARK_ONE_WAY};
+    static const uint8_t others[4] = {KIT_MARK_LEFT, KIT_MARK_USED, KIT_MARK_REST, 4};
+    uint8_t sheet[KIT_SHEET_MAX], both_ways[29];
+    size_t i;
+    check(kit_plan(card, sizeof card, sheet, sizeof sheet) == 1, "a card with two ways is planned");
+    check(memcmp(sheet, wanted, sizeof wanted) == 0, "its line is used one way only");
+    check(kit_read(card, sizeof card, sheet, 7) == 1, "its sheet is accepted");
+    for (i = 0; i < sizeof others; i++) {
+        sheet[6] = others[i];
+        told(kit_read(card, sizeof card, sheet, 7), 14, MARK, 0);
+    }
+    memcpy(both_ways, card, sizeof card);
+    both_ways[10] = 2; /* s */
+    both_ways[25] = 0; /* 2 either way 2 */
+    check(kit_plan(both_ways, sizeof both_ways, sheet, sizeof sheet) == 2, "2 either way 2 is planned");
+    check(sheet[7] == KIT_MARK_USED, "a line that both sides use is surely used");
+    check(kit_read(both_ways, sizeof both_ways, sheet, 8) == 2, "and that sheet is accepted");
+    sheet[7] = KIT_MARK_ONE_WAY;
+    told(kit_read(both_ways, sizeof both_ways, sheet, 8), 14, MARK, 0);
+}
+
 /* A card is checked as kit_plan checks it. One that cannot be planned is sound all the same. */
 static void checked(void) {
     uint8_t card[40];
@@ -370,6 +400,7 @@ static void constants(void) {
     check(KIT_CARD_MAX == 11 + 5 * 512 + 2 * 64 + 3 * 64, "the longest card");
     check(KIT_SHEET_MAX == 5 + 255 + 64, "the longest sheet");
     check(KIT_LEFT == 254 && KIT_RIGHT == 255, "the two choices");
+    check(KIT_MARK_LEFT == 0 && KIT_MARK_USED == 1 && KIT_MARK_REST == 2 && KIT_MARK_ONE_WAY == 3, "the four marks");
     check(strcmp(KIT_VERSION, "0.3.0") == 0, "the version");
 }
 
@@ -388,6 +419,7 @@ int main(void) {
     null_of_one_card();
     null_of_two_cards();
     choices();
+    one_way();
     checked();
     reasons();
     constants();

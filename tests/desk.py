@@ -464,16 +464,16 @@ def held_up_none(child, ours, folder, sheets):
 def many_cards(kit, folder):
     """However many at a time, the same is told."""
     outputs = {kit.run("plan", "--json", "-j", str(n), "cards", "cards/broken").stdout for n in (1, 2, 8)}
-    check(len(outputs) == 1 and len(next(iter(outputs)).splitlines()) == 21, "-j changes what is told")
+    check(len(outputs) == 1 and len(next(iter(outputs)).splitlines()) == 22, "-j changes what is told")
     kit.run("plan", "cards", "-o", str(folder))
     for sheet in ROOT.glob("cards/*.sheet"):
         check((folder / sheet.name).read_bytes() == sheet.read_bytes(), f"{sheet.name} among many")
-    check(len(list(folder.iterdir())) == 6, "a sheet for each planned card")
+    check(len(list(folder.iterdir())) == 7, "a sheet for each planned card")
     for card in ROOT.glob("cards/*.card"):
         (folder / card.name).write_bytes(card.read_bytes())
     check(kit.run("plan", str(folder), "-o", str(folder)).returncode == 1, "sheets beside their cards")
     told = kit.out("read", "cards", str(folder))
-    check(told.endswith(b"6 cards: 6 accepted, 0 refused, 0 errors\n"), "cards of one folder with sheets of another")
+    check(told.endswith(b"7 cards: 7 accepted, 0 refused, 0 errors\n"), "cards of one folder with sheets of another")
     fails(kit, "two cards, one sheet", "plan", "cards/pump.card", "cards/pump.card", "-o", str(folder))
 
 

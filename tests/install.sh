@@ -117,6 +117,9 @@ examples() {
     # goal rest, must 2, may 2
     card rest '001B0100020002000104080100020000020000000000000100 0000'
     both rest 0 "$(printf '%s\n' 'planned, steps: 0' 'line 0: taken by rest' 'line 1: left on the tray')"
+    # goal "2 either way rest", must 2
+    card one-way '001D01000100030002010101000200000200000000050000000100 0001'
+    both one-way 0 "$(printf '%s\n' 'planned, steps: 1' 'step 0: line 0' 'line 0: used one way only')"
     cp cards/one-of.card "$folder/one-of"
     both one-of 0 "$(printf '%s\n' 'planned, steps: 4' 'step 0: right' 'step 1: line 0' 'step 2: line 1' 'step 3: line 2' \
         'line 0: used' 'line 1: used' 'line 2: used' 'line 3: left on the tray')"

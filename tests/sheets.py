@@ -75,7 +75,7 @@ ITEMS = [
     ("a lent clause used twice", (tray(lend(A, both(A, A))), sheet([0, 0])), NINETEEN),
     ("sides of either way that do not agree", (tray(either(A, B), must=[A, B]), sheet([0, 1], [1, 1])), NINETEEN),
     ("sides of either way that agree", (tray(either(both(A, B), both(B, A)), must=[A, B]), sheet([0, 1, 1, 0], [1, 1])), "accepted 4"),
-    ("either way, rest on one side", (tray(either(A, REST), must=[A]), sheet([0], [1])), "accepted 1"),
+    ("either way, rest on one side", (tray(either(A, REST), must=[A]), sheet([0], [3])), "accepted 1"),
     ("used twice, and a step missing: 18", (tray(all_of([A, A, A]), must=[A]), sheet([0, 0], [1])), at(18, 2)),
     ("used twice, and a step too many: 18", (tray(both(A, A), must=[A]), sheet([0, 0, 0], [1])), at(18, 2)),
     ("used twice, and a wrong step: 13", (tray(all_of([A, A, B]), must=[A]), sheet([0, 0, 0], [1])), at(13, 2)),
@@ -193,9 +193,58 @@ CHOICES = [
 ]
 
 
+def marked(marks):
+    """b either way rest, beside a. The list 0 1 has the marks 1 3 2 0: a is surely used, b one way only, the rest takes must c."""
+    return tray(both(A, either(both(B, REST), REST)), must=[A, B, C], may=[C]), sheet([0, 1], marks)
+
+
+def two_equal(steps, marks):
+    """a and rest, either way, with two may lines a. Each way may use its own or the same."""
+    return tray(either(both(A, REST), both(A, REST)), may=[A, A]), sheet(steps, marks)
+
+
+def wrong(i):
+    return f"refused 14 mark {i}"
+
+
+# Marks 1 and 3: surely used, and in the list but not surely (02, #105).
+MARKS = [
+    ("all four marks", marked([1, 3, 2, 0]), "accepted 2"),
+    ("1 where 3 is true", marked([1, 1, 2, 0]), wrong(1)),
+    ("0 where 3 is true", marked([1, 0, 2, 0]), wrong(1)),
+    ("2 where 3 is true", marked([1, 2, 2, 0]), wrong(1)),
+    ("4 where 3 is true", marked([1, 4, 2, 0]), wrong(1)),
+    ("3 where 1 is true", marked([3, 3, 2, 0]), wrong(0)),
+    ("3 for a must line that is not in the list", marked([1, 3, 3, 0]), wrong(2)),
+    ("3 for a may line that is not in the list", marked([1, 3, 2, 3]), wrong(3)),
+    ("1 for 3, then 3 for 2: the first", marked([1, 1, 3, 0]), wrong(1)),
+    ("3 for 1, then 1 for 3: the first", marked([3, 1, 2, 0]), wrong(0)),
+    ("3 for 2, then 3 for 0: the first", marked([1, 3, 3, 3]), wrong(2)),
+    ("used on both sides, mark 1", (tray(either(A, A), must=[A]), sheet([0, 0], [1])), "accepted 2"),
+    ("used on both sides, mark 3", (tray(either(A, A), must=[A]), sheet([0, 0], [3])), wrong(0)),
+    ("no either way, mark 3", (tray(A, must=[A]), sheet([0], [3])), wrong(0)),
+    ("one side, mark 1", (tray(either(A, REST), must=[A]), sheet([0], [1])), wrong(0)),
+    ("one side, mark 2", (tray(either(A, REST), must=[A]), sheet([0], [2])), wrong(0)),
+    ("one side of a may line, mark 0", (tray(either(A, REST), may=[A]), sheet([0], [0])), wrong(0)),
+    ("both sides at different places", (tray(either(both(A, REST), both(B, A)), must=[A, B]), sheet([0, 1, 0], [1, 3])), "accepted 3"),
+    ("both sides at different places, marks 3 3", (tray(either(both(A, REST), both(B, A)), must=[A, B]), sheet([0, 1, 0], [3, 3])), wrong(0)),
+    ("two equal lines, another each way", two_equal([0, 1], [3, 3]), "accepted 2"),
+    ("two equal lines, another each way, marks 1 1", two_equal([0, 1], [1, 1]), wrong(0)),
+    ("two equal lines, the second both ways", two_equal([1, 1], [0, 1]), "accepted 2"),
+    ("two equal lines, the second both ways, mark 3", two_equal([1, 1], [0, 3]), wrong(1)),
+    ("a lent clause's condition one way", (tray(lend(gives(A, C), either(C, REST)), must=[A]), sheet([1, 0], [3])), "accepted 2"),
+    ("a lent clause's condition both ways", (tray(lend(gives(A, C), either(C, C)), must=[A]), sheet([1, 0, 1, 0], [1])), "accepted 4"),
+    ("one of with either way, left", (tray(one_of(either(A, REST), A), must=[A]), sheet([LEFT, 0], [3])), "accepted 2"),
+    ("one of with either way, right", (tray(one_of(either(A, REST), A), must=[A]), sheet([RIGHT, 0], [1])), "accepted 2"),
+    ("one of with either way, the other side's mark", (tray(one_of(either(A, REST), A), must=[A]), sheet([RIGHT, 0], [3])), wrong(0)),
+    ("sides that do not agree, marks 3 3: 19", (tray(either(A, B), must=[A, B]), sheet([0, 1], [3, 3])), NINETEEN),
+    ("never one way, mark 3: 19", (tray(either(A, NEVER), must=[A]), sheet([0], [3])), NINETEEN),
+]
+
+
 def main():
     given, wanted = bytearray(), bytearray()
-    for label, (card, data), answer in STEPS + ITEMS + ORDER + SHOWN + LONGEST + CHOICES:
+    for label, (card, data), answer in STEPS + ITEMS + ORDER + SHOWN + LONGEST + CHOICES + MARKS:
         text = label.encode()
         given += bytes([len(text)]) + text + word(len(card)) + word(len(data)) + card + data
         wanted += f"{label}: {answer}\n".encode()

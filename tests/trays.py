@@ -33,7 +33,7 @@ TRAYS = [
     ("must a, a both a", tray(both(A, A), must=[A]), ELEVEN),
     ("must a, must a, a both a", tray(both(A, A), must=[A, A]), planned([0, 1], [1, 1])),
     ("must a, a either way a", tray(either(A, A), must=[A]), planned([0, 0], [1])),
-    ("must a, a either way rest", tray(either(A, REST), must=[A]), planned([0], [1])),
+    ("must a, a either way rest", tray(either(A, REST), must=[A]), planned([0], [3])),
     ("must a, must b, rest both a", tray(both(REST, A), must=[A, B]), planned([0], [1, 2])),
     ("may a, must a, a", tray(A, lines=[(A, 0), (A, 1)]), planned([1], [0, 1])),
     ("must a, must b, both orders", tray(either(both(A, B), both(B, A)), must=[A, B]), planned([0, 1, 1, 0], [1, 1])),
@@ -46,7 +46,7 @@ TRAYS = [
     ("the same with s 2", tray(A, rules=[gives(A, A), A], d=3, s=2), planned([0, 1], [])),
     ("may a, a either way done", tray(either(A, DONE), may=[A]), ELEVEN),
     ("rest in one way excuses nothing in the other", tray(either(REST, A), must=[A, B]), ELEVEN),
-    ("rest on both ways", tray(either(both(A, REST), both(B, REST)), must=[A, B]), planned([0, 1], [1, 1])),
+    ("rest on both ways", tray(either(both(A, REST), both(B, REST)), must=[A, B]), planned([0, 1], [3, 3])),
     ("d 0, a", tray(A, must=[A], d=0), ELEVEN),
     ("d 0, rest", tray(REST, must=[A], d=0), planned([], [2])),
     ("s 0, a", tray(A, must=[A], s=0), ELEVEN),
@@ -106,6 +106,41 @@ TRAYS += [
     ("d 0, 64 choices", tray(all_of([one_of(DONE, A)] * 32 + [one_of(A, DONE)] * 32), d=0, s=64), planned([LEFT] * 32 + [RIGHT] * 32, [])),
     ("d 0, 64 choices, s 63", tray(all_of([one_of(DONE, A)] * 32 + [one_of(A, DONE)] * 32), d=0, s=63), ELEVEN),
 ]
+# Marks 1 and 3: surely used, and in the list but not surely (02, #105).
+TRAYS += [
+    ("either way inside both", tray(both(A, either(B, REST)), must=[A, B]), planned([0, 1], [1, 3])),
+    ("both sides use it at different places", tray(either(both(A, REST), both(B, A)), must=[A, B]), planned([0, 1, 0], [1, 3])),
+    ("one side by a recipe", tray(either(A, C), rules=[gives(A, C)], must=[A]), planned([1, 0, 1], [1])),
+    ("a condition on one side alone",
+        tray(either(both(A, C), both(A, REST)), rules=[gives(B, C)], must=[A, B]), planned([1, 0, 2, 1], [1, 3])),
+    ("the right side alone", tray(either(REST, A), must=[A]), planned([0], [3])),
+    ("two either ways side by side", tray(both(either(A, REST), either(B, REST)), must=[A, B]), planned([0, 1], [3, 3])),
+    ("either way inside either way", tray(either(both(A, either(B, REST)), both(A, REST)), must=[A, B]), planned([0, 1, 0], [1, 3])),
+    ("either way inside either way, each part uses it", tray(either(either(A, A), A), must=[A]), planned([0, 0, 0], [1])),
+    ("either way inside either way, all parts but one", tray(either(either(A, A), either(A, REST)), must=[A]), planned([0, 0, 0], [3])),
+    ("either way inside either way, one part of each", tray(either(either(A, REST), either(REST, A)), must=[A]), planned([0, 0], [3])),
+    ("a lend on one side", tray(either(lend(B, both(A, B)), REST), must=[A]), planned([0, 1], [3])),
+    ("a lend on one side, its line on both", tray(either(lend(B, both(A, B)), both(A, REST)), must=[A]), planned([0, 1, 0], [1])),
+    ("either way under a lend", tray(lend(B, either(both(A, B), both(A, REST))), must=[A]), planned([0, 1, 0], [1])),
+    ("a lent clause's condition on one side", tray(lend(gives(A, C), either(C, REST)), must=[A]), planned([1, 0], [3])),
+    ("a lent clause's condition on both sides", tray(lend(gives(A, C), either(C, C)), must=[A]), planned([1, 0, 1, 0], [1])),
+    ("a lent clause's condition, and the line itself", tray(lend(gives(A, C), either(C, both(A, REST))), must=[A]), planned([1, 0, 0], [1])),
+    ("one of on one side", tray(either(one_of(B, A), REST), must=[A]), planned([RIGHT, 0], [3])),
+    ("one of on one side, its line on both", tray(either(one_of(B, A), A), must=[A]), planned([RIGHT, 0, 0], [1])),
+    ("either way as the side taken", tray(one_of(B, either(A, REST)), must=[A]), planned([RIGHT, 0], [3])),
+    ("a menu on one side", tray(either(B, REST), must=[menu(A, B)]), planned([0, RIGHT], [3])),
+    ("a menu on both sides, each its own way", tray(either(A, B), must=[menu(A, B)]), planned([0, LEFT, 0, RIGHT], [1])),
+    ("a condition inside a menu on one side",
+        tray(either(both(A, REST), both(A, REST)), must=[OFFER, B], may=[C], s=7), planned([0, LEFT, 2, 1, 0, RIGHT, 1], [1, 1, 3])),
+    ("a line in a condition of a line, one side", tray(either(A, REST), must=[gives(B, A), B]), planned([0, 1], [3, 3])),
+    ("a line in a condition of a line, and itself", tray(either(A, both(B, REST)), must=[gives(B, A), B]), planned([0, 1, 1], [3, 1])),
+    ("either way in a condition", tray(C, rules=[gives(either(A, REST), gives(B, C))], must=[A, B]), planned([0, 2, 1], [3, 1])),
+    ("a rule serves beside the line", tray(either(both(A, A), REST), rules=[A], must=[A]), planned([0, 1], [3])),
+    ("a rule serves both ways, rest takes the line", tray(either(both(A, REST), both(A, REST)), rules=[A], must=[A]), planned([0, 0], [2])),
+    ("one of two equal lines both ways", tray(either(both(A, REST), both(A, REST)), must=[A, A]), planned([0, 0], [1, 2])),
+    ("may and must lines one way", tray(either(both(A, B), REST), lines=[(A, 0), (B, 1)]), planned([0, 1], [3, 3])),
+    ("all four marks", tray(both(A, either(both(B, REST), REST)), must=[A, B, C], may=[C]), planned([0, 1], [1, 3, 2, 0])),
+]
 for n in (8, 32, 64):
     TRAYS.append((f"{n} equal must lines, {n} wanted", tray(all_of([A] * n), must=[A] * n, s=255), planned(list(range(n)), [1] * n)))
     TRAYS.append((f"{n} equal must lines, {n - 1} wanted", tray(all_of([A] * (n - 1)), must=[A] * n, s=255), ELEVEN))
@@ -143,7 +178,7 @@ def proved():
 def main():
     outcomes = {data: outcome for _, data, outcome in TRAYS}
     starred = list(proved())
-    if len(starred) != 26 or any(outcomes.get(data) != outcome for data, outcome in starred):
+    if len(starred) != 30 or any(outcomes.get(data) != outcome for data, outcome in starred):
         sys.exit("planner/specs/Trays.antt: not the cards and outcomes of this script")
     cards, found = bytearray(), bytearray()
     for label, data, outcome, room in [(*t, ANY) for t in TRAYS] + BUFFERS:

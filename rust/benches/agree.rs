@@ -19,10 +19,18 @@ const NOW_LIMIT: Duration = Duration::from_secs(5);
 struct Counts {
     cards: usize,
     planned: usize,
+    one_way: usize,
     refused: usize,
     left_out: usize,
     unanswered: usize,
     differ: usize,
+}
+
+/// Whether two sheets are the same but for marks that are 3 now and were 1, as a planner without mark 3 has them.
+fn only_one_way(before: &[u8], now: &[u8]) -> bool {
+    let marks = 5 + usize::from(now[3]);
+    before.len() == now.len()
+        && before.iter().zip(now).enumerate().all(|(i, (&b, &n))| b == n || i >= marks && (b, n) == (1, 3))
 }
 
 fn compare(before: &mut Asked, now: &mut Asked, card: &[u8], counts: &mut Counts) {
@@ -36,12 +44,18 @@ fn compare(before: &mut Asked, now: &mut Asked, card: &[u8], counts: &mut Counts
             counts.unanswered += 1;
             println!("no answer now in {} s: {card:02x?}", NOW_LIMIT.as_secs());
         }
-        Some(a) if a.number != wanted.number || a.sheet != wanted.sheet => {
+        Some(a) if a.number == wanted.number && a.sheet == wanted.sheet => match a.number >> 24 {
+            0 => counts.planned += 1,
+            _ => counts.refused += 1,
+        },
+        Some(a) if a.number == wanted.number && only_one_way(&wanted.sheet, &a.sheet) => {
+            counts.planned += 1;
+            counts.one_way += 1;
+        }
+        Some(a) => {
             counts.differ += 1;
             println!("{:08x} before, {:08x} now, or another sheet: {card:02x?}", wanted.number, a.number);
         }
-        Some(a) if a.number >> 24 == 0 => counts.planned += 1,
-        Some(_) => counts.refused += 1,
     }
 }
 
@@ -101,8 +115,8 @@ fn main() {
         BEFORE_LIMIT.as_millis()
     );
     println!(
-        "{:<19}{:>7}{:>9}{:>9}{:>10}{:>8}{:>15}",
-        "cards", "", "planned", "refused", "left out", "differ", "none now"
+        "{:<19}{:>7}{:>9}{:>13}{:>9}{:>10}{:>8}{:>15}",
+        "cards", "", "planned", "with 3 for 1", "refused", "left out", "differ", "none now"
     );
     let mut kinds = without_choices();
     if all_choose() {
@@ -112,8 +126,10 @@ fn main() {
     for (kind, cards) in kinds {
         let mut c = Counts::default();
         cards.iter().for_each(|card| compare(&mut before, &mut now, card, &mut c));
-        let Counts { cards, planned, refused, left_out, unanswered, differ } = c;
-        println!("{kind:<19}{cards:>7}{planned:>9}{refused:>9}{left_out:>10}{differ:>8}{unanswered:>15}");
+        let Counts { cards, planned, one_way, refused, left_out, unanswered, differ } = c;
+        println!(
+            "{kind:<19}{cards:>7}{planned:>9}{one_way:>13}{refused:>9}{left_out:>10}{differ:>8}{unanswered:>15}"
+        );
         wrong += differ + unanswered;
     }
     assert_eq!(wrong, 0, "the planners do not answer alike");

@@ -161,20 +161,24 @@ pub struct BenchRefusal {
     pub refusal: Refusal,
 }
 
-/// What has become of a line.
+/// What has become of a line. Of the two sides of an "either way" only one will be walked in the end, so a line that
+/// the steps use can still stay unused: [`Mark::Used`] and [`Mark::OneWay`] tell which.
 ///
 /// ```
 /// assert_eq!(kit_planner::Mark::Left.to_string(), "left on the tray");
+/// assert_eq!(kit_planner::Mark::OneWay.to_string(), "used one way only");
 /// ```
 #[derive(Clone, Copy, Debug, PartialEq, Eq)]
 #[non_exhaustive]
 pub enum Mark {
     /// No step uses it, and it is a may line: it stays on the tray, or a rest takes it.
     Left = 0,
-    /// A step uses it.
+    /// It is surely used: whichever side of each "either way" is walked, a step uses it.
     Used = 1,
     /// No step uses it, and it is a must line: a rest takes it.
     Covered = 2,
+    /// A step uses it, but not surely: one side of an "either way" uses it, the other does not.
+    OneWay = 3,
 }
 
 /// What a step of a sheet says. An entry's number is at most 230, so it is never taken for a choice.
@@ -445,6 +449,7 @@ impl Mark {
             0 => Mark::Left,
             1 => Mark::Used,
             2 => Mark::Covered,
+            3 => Mark::OneWay,
             _ => unreachable!("no mark has the number {number}"),
         }
     }
@@ -502,6 +507,13 @@ impl Sheet {
     /// let sheet = kit_planner::plan_sheet(&card)?;
     /// assert_eq!(sheet.marks().len(), 2);
     /// assert!(sheet.marks().eq([Mark::Covered, Mark::Left]));
+    ///
+    /// // The goal is "name 2 either way rest": one side uses the line, the other leaves it to rest.
+    /// let card = [
+    ///     0, 29, 1, 0, 1, 0, 3, 0, 2, 4, 8, 1, 0, 2, 0, 0, 2, 0, 0, 0, 0, 5, 0, 0, 0, 1, 0, 0, 1,
+    /// ];
+    /// let sheet = kit_planner::plan_sheet(&card)?;
+    /// assert!(sheet.marks().eq([Mark::OneWay]));
     /// # Ok::<(), kit_planner::Refusal>(())
     /// ```
     pub fn marks(&self) -> impl ExactSizeIterator<Item = Mark> + DoubleEndedIterator + Clone + '_ {
@@ -547,6 +559,7 @@ impl fmt::Display for Mark {
             Mark::Left => "left on the tray",
             Mark::Used => "used",
             Mark::Covered => "taken by rest",
+            Mark::OneWay => "used one way only",
         })
     }
 }
@@ -630,12 +643,30 @@ mod tests {
         assert_eq!(format!("{sheet:?}"), "Sheet { steps: [0], marks: [1] }");
         assert_eq!(sheet.clone(), sheet);
         let mut bytes = [0; SHEET_MAX];
-        bytes[..10].copy_from_slice(&[0, 10, 1, 2, 3, 9, 8, 0, 1, 2]);
-        let sheet = Sheet { bytes, len: 10 };
+        bytes[..11].copy_from_slice(&[0, 11, 1, 2, 4, 9, 8, 0, 1, 2, 3]);
+        let sheet = Sheet { bytes, len: 11 };
         let words: Vec<_> = sheet.marks().map(|mark| (mark as u8, mark.to_string())).collect();
-        let wanted = [(0, "left on the tray"), (1, "used"), (2, "taken by rest")];
+        let wanted = [(0, "left on the tray"), (1, "used"), (2, "taken by rest"), (3, "used one way only")];
         assert_eq!(words, wanted.map(|(number, word)| (number, word.to_string())));
         assert_eq!(sheet.steps(), [9, 8]);
+    }
+
+    /// Name 2 must be used one way; the other way a rest takes it.
+    const ONE_WAY: [u8; 29] =
+        [0, 29, 1, 0, 1, 0, 3, 0, 2, 4, 8, 1, 0, 2, 0, 0, 2, 0, 0, 0, 0, 5, 0, 0, 0, 1, 0, 0, 1];
+
+    #[test]
+    fn a_line_used_one_way_only() {
+        let sheet = plan_sheet(&ONE_WAY).expect("the rest takes the line the other way");
+        assert_eq!(sheet.as_bytes(), [0, 7, 1, 1, 1, 0, 3]);
+        assert!(sheet.marks().eq([Mark::OneWay]));
+        assert_eq!(read(&ONE_WAY, sheet.as_bytes()), Ok(1));
+        for mark in [0, 1, 2, 4, 255] {
+            let wrong = read(&ONE_WAY, &[0, 7, 1, 1, 1, 0, mark]);
+            assert_eq!(wrong, Err(Refusal { number: 14, place: Place::Mark(0) }));
+        }
+        let surely = read(&SMALL, &[0, 7, 1, 1, 1, 0, 3]);
+        assert_eq!(surely, Err(Refusal { number: 14, place: Place::Mark(0) }));
     }
 
     #[test]

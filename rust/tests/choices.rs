@@ -4,7 +4,7 @@ mod cards;
 mod met;
 mod model;
 
-use cards::{any_step, Draft, Random};
+use cards::{any_step, damage_mark, written, Draft, Random};
 use kit_planner::{Place, Refusal};
 use model::decode::{self, Card, LEFT, RIGHT};
 use std::collections::BTreeMap;
@@ -12,42 +12,6 @@ use std::collections::BTreeMap;
 const BUDGET: usize = 20_000;
 /// Room for any card's sheet.
 const ROOM: usize = 324;
-
-/// A formula's node. Names are letters; T is rest, 1 done, 0 never; the others stand before their two parts: * both,
-/// & either way, - lend, > recipe, + one of, | menu.
-fn formula(c: &mut Draft, text: &mut std::str::Chars) -> usize {
-    let kind = match text.next().expect("a formula") {
-        name @ 'a'..='z' => return c.name(name as usize - 'a' as usize + 1),
-        'T' => return c.add(2, 0, 0),
-        '1' => return c.add(3, 0, 0),
-        '0' => return c.add(9, 0, 0),
-        '*' => 4,
-        '&' => 5,
-        '-' => 6,
-        '>' => 7,
-        '+' => 8,
-        '|' => 10,
-        other => panic!("{other} is no formula"),
-    };
-    let left = formula(c, text);
-    let right = formula(c, text);
-    c.add(kind, left, right)
-}
-
-/// A card: its limits, its goal, its rules and lines with spaces between, a may line behind a question mark.
-fn card(d: u8, s: u8, goal: &str, rules: &str, lines: &str) -> Vec<u8> {
-    let mut c = Draft::limits(d, s);
-    c.goal = formula(&mut c, &mut goal.chars());
-    for rule in rules.split_whitespace() {
-        let node = formula(&mut c, &mut rule.chars());
-        c.rules.push(node);
-    }
-    for line in lines.split_whitespace() {
-        let node = formula(&mut c, &mut line.trim_start_matches('?').chars());
-        c.lines.push((node, u8::from(!line.starts_with('?'))));
-    }
-    c.bytes()
-}
 
 fn decoded(bytes: &[u8]) -> Card {
     decode::card(bytes).expect("a sound card")
@@ -140,14 +104,14 @@ fn lists_are(bytes: &[u8], wanted: &[&[u8]]) {
 #[test]
 fn worked_lists() {
     for &((d, s), goal, rules, lines, wanted) in WORKED {
-        lists_are(&card(d, s, goal, rules, lines), wanted);
+        lists_are(&written(d, s, goal, rules, lines), wanted);
     }
 }
 
 #[test]
 fn worked_cards_are_planned_and_read() {
     for &((d, s), goal, rules, lines, wanted) in WORKED {
-        let bytes = card(d, s, goal, rules, lines);
+        let bytes = written(d, s, goal, rules, lines);
         let mut sheet = vec![0; ROOM];
         let answer = kit_planner::plan(&bytes, &mut sheet);
         let first = wanted.first().ok_or(Refusal { number: 11, place: Place::Card });
@@ -212,7 +176,7 @@ const REFUSED: &[Refused] = &[
 #[test]
 fn worked_refusals() {
     for &((d, s), goal, rules, lines, steps, number, step) in REFUSED {
-        let bytes = card(d, s, goal, rules, lines);
+        let bytes = written(d, s, goal, rules, lines);
         let sheet = model::sheet(&decoded(&bytes), steps);
         let place = step.map_or(Place::Steps, Place::Step);
         let wanted = Err(Refusal { number, place });
@@ -355,7 +319,8 @@ fn every_list(entries: u8, most: usize) -> Vec<Vec<u8>> {
     all
 }
 
-/// Of all step lists there are, the reader accepts just the lists that the model finds, and none begins another.
+/// Of all step lists there are, the reader accepts just the lists that the model finds, and none begins another. With a
+/// mark changed it answers as the model does.
 #[test]
 fn every_list_is_read() {
     let mut r = Random::new(31);
@@ -370,9 +335,12 @@ fn every_list_is_read() {
         let entries = (draft.rules.len() + draft.lines.len() + 1) as u8;
         let mut accepted = Vec::new();
         for list in every_list(entries, card.s) {
-            let sheet = model::sheet(&card, &list);
+            let mut sheet = model::sheet(&card, &list);
             let answer = kit_planner::read(&bytes, &sheet);
             assert_eq!(answer, model::read(&bytes, &sheet), "card {bytes:02x?}, list {list:?}");
+            damage_mark(&mut r, &mut sheet);
+            let damaged = kit_planner::read(&bytes, &sheet);
+            assert_eq!(damaged, model::read(&bytes, &sheet), "card {bytes:02x?}, sheet {sheet:02x?}");
             accepted.extend(answer.is_ok().then_some(list));
             read += 1;
         }

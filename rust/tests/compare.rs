@@ -44,6 +44,7 @@ fn plans_agree() {
     met.all(&[1, 2, 3, 4, 5, 6, 7, 8, 9, 10, 11]);
     met.enough(9_500);
     met.chose(400);
+    met.marked(150);
 }
 
 #[test]
@@ -111,12 +112,15 @@ fn counting_agrees() {
 
 mod reading {
     use super::*;
-    use cards::damage;
+    use cards::{damage, damage_mark};
 
     fn compare_read(met: &mut Met, card: &[u8], sheet: &[u8]) {
         let answer = kit_planner::read(card, sheet);
         assert_eq!(answer, model::read(card, sheet), "card {card:02x?}, sheet {sheet:02x?}");
         met.count(&answer);
+        if let Ok(k) = answer {
+            met.mark(&sheet[5 + k..]);
+        }
     }
 
     /// One fault, or none, anywhere in a sheet.
@@ -127,7 +131,7 @@ mod reading {
             1 => sheet.push(r.below(3) as u8),
             2 if n >= 5 => sheet[r.below(5)] = r.below(12) as u8,
             3 if n > 5 => sheet[5 + r.below(n - 5)] = any_step(r, 10),
-            4 if n > 5 => sheet[n - 1] = r.below(4) as u8,
+            4 if n > 5 => damage_mark(r, sheet),
             5 if n > 6 => sheet.swap(5 + r.below(n - 5), 5 + r.below(n - 5)),
             _ if n >= 5 => {
                 let k = r.below(10);
@@ -178,6 +182,7 @@ mod reading {
         drawn.chose(2_000);
         met.all(&[1, 2, 3, 4, 5, 6, 7, 8, 9, 12, 13, 14, 17, 18, 19]);
         met.enough(6_400);
+        met.marked(150);
     }
 
     /// One fault in the steps: one of them changed, some cut off, more behind them, two swapped, one twice, one
@@ -208,7 +213,7 @@ mod reading {
             for _ in 0..4 {
                 let mut sheet = model::sheet(&card, &steps);
                 if r.once_in(6) {
-                    *sheet.last_mut().expect("five bytes or more") ^= 1;
+                    damage_mark(&mut r, &mut sheet);
                 }
                 compare_read(&mut met, &bytes, &sheet);
                 damage_steps(&mut r, &mut steps);
@@ -219,6 +224,7 @@ mod reading {
         drawn.chose(4_000);
         met.each(&[12, 13, 14, 17, 18, 19], 1_800);
         met.enough(12_000);
+        met.marked(300);
     }
 
     /// The walk wants 256 steps, so the last is missing from a sheet of the most steps that there can be. A missing

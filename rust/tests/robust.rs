@@ -3,7 +3,7 @@ mod cards;
 mod met;
 mod model;
 
-use cards::{any_card, Draft, Random};
+use cards::{any_card, damage_mark, Draft, Random};
 use met::Met;
 use model::bench;
 use std::ffi::c_void;
@@ -110,7 +110,11 @@ fn nothing_outside_is_touched() {
         let size = answer.map_or(0, |k| 5 + k + usize::from(card[4]));
         assert_eq!(sheet[..size], wanted.unwrap_or_default()[..]);
         assert_eq!(sheet[size..], old[size..]);
-        for part in [sheet.to_vec(), sheet[..size].to_vec()] {
+        let mut marked = sheet[..size].to_vec();
+        if size > 0 {
+            damage_mark(&mut r, &mut marked);
+        }
+        for part in [sheet.to_vec(), sheet[..size].to_vec(), marked] {
             let sheet = sheets.lock(&part, r.once_in(2));
             assert_eq!(kit_planner::read(card, sheet), model::read(card, sheet), "card {card:02x?}");
         }

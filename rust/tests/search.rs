@@ -95,8 +95,12 @@ fn main() {
     }
     let sum = |of: fn(&Met) -> usize| all.iter().map(of).sum::<usize>();
     let (compared, left_out, long) = (sum(Met::searched), sum(Met::left_out), sum(|m| m.long));
-    println!("\n{compared} compared, {left_out} left out, {long} lists long");
+    let one_way = sum(|m| m.marks[3]);
+    println!(
+        "\n{compared} compared, {left_out} left out, {long} lists long, {one_way} lines used one way only"
+    );
     assert!(compared >= 20_000, "too few compared");
     assert!(left_out * 12 < compared + left_out, "one in twelve or more left out");
     assert!(long >= 1_000, "too few long lists");
+    assert!(one_way >= 100, "too few lines used one way only");
 }

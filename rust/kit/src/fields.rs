@@ -196,6 +196,7 @@ pub fn mark_word(mark: u8) -> &'static str {
         0 => "left on the tray",
         1 => "used",
         2 => "taken by rest",
+        3 => "used one way only",
         _ => "unknown",
     }
 }

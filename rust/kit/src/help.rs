@@ -28,7 +28,8 @@ kit plan CARD.. [-o SHEET] [-j N] [--names FILE] [--json]
 
 Plans each card: the steps in order, with the entry used (rule 0, line 2, lent 1), what it gives
 and what for, or with the side chosen (left, right) and what that is; then each line of the tray
-with its mark in words. Or the refusal and its reason.
+with its mark in words: used, used one way only (one side of an either way uses it, the other does
+not), taken by rest, or left on the tray. Or the refusal and its reason.
 
     -o SHEET      writes the sheet's bytes; with several cards a folder, for a file NAME.sheet each;
                   - writes them to standard output, and nothing else

@@ -2,7 +2,7 @@
 //! before its choices and these before its conditions.
 use crate::card::{Entry, Sound};
 use crate::kinds;
-use std::collections::BTreeMap;
+use std::collections::{BTreeMap, BTreeSet};
 
 /// The words for the two sides of a choice.
 pub const SIDES: [&str; 2] = ["left", "right"];
@@ -304,6 +304,21 @@ impl Walker<'_> {
         }
         conditions.reverse();
         Ok((choices, conditions))
+    }
+}
+
+/// The entries that a way surely uses: whichever side of each either way is walked.
+pub fn surely(taken: &[Step], way: &Way) -> BTreeSet<usize> {
+    match way {
+        Way::Rest | Way::Done | Way::Never { .. } => BTreeSet::new(),
+        Way::Need { step, conditions, .. } => {
+            let mut used = BTreeSet::from([use_at(taken, *step).number]);
+            used.extend(conditions.iter().flat_map(|condition| surely(taken, condition)));
+            used
+        }
+        Way::Both(parts) => &surely(taken, &parts[0]) | &surely(taken, &parts[1]),
+        Way::Either(parts) => &surely(taken, &parts[0]) & &surely(taken, &parts[1]),
+        Way::OneOf { goal, .. } | Way::Lend { goal, .. } => surely(taken, goal),
     }
 }
 

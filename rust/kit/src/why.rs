@@ -6,8 +6,8 @@ use crate::files::MOST;
 use crate::kinds::{Holds, KINDS};
 use crate::names::Names;
 use crate::way::{
-    amiss, side_of, use_at, walk, Amiss, Choice, Offer, Serves, Step, Stop, Stopped, Turn, Use, Walk, Wanted,
-    SIDES,
+    amiss, side_of, surely, use_at, walk, Amiss, Choice, Offer, Serves, Step, Stop, Stopped, Turn, Use, Walk,
+    Wanted, SIDES,
 };
 use kit_planner::{Place, Refusal};
 
@@ -264,22 +264,28 @@ fn wrong_front(card: Sound, sheet: &[u8]) -> Why {
     front(3, 1, format!("k is {k}; the card allows {}", count(card.step_limit(), "step")))
 }
 
+/// 14: the mark that is there, and the true one.
 fn wrong_mark(card: Sound, sheet: &[u8], line: usize) -> Why {
     let k = usize::from(sheet[3]);
     let (from, at) = (5 + k, 5 + k + line);
-    let mark = sheet[at];
-    let stands = sheet[5..from].contains(&((card.rules() + line) as u8));
-    let right = match (stands, card.line(line).must) {
-        (true, _) => "1: a step uses the line",
-        (false, 1) => "2: no step uses this must line, so a rest takes it",
-        (false, _) => "0: no step uses this may line",
-    };
-    Why::new(
-        at,
-        1,
-        (from, sheet.len() - from),
-        format!("the mark of line {line} is {mark}; it must be {right}"),
-    )
+    let (mark, right) = (sheet[at], true_mark(card, &sheet[5..from], line));
+    let words = format!("the mark of line {line} is {mark}; it must be {right}");
+    Why::new(at, 1, (from, sheet.len() - from), words)
+}
+
+/// A line's true mark for the list of a derivation, and why it is that.
+fn true_mark(card: Sound, steps: &[u8], line: usize) -> &'static str {
+    let number = card.rules() + line;
+    let Walk { taken, end } = walk(card, steps);
+    let surely = end.is_ok_and(|way| surely(&taken, &way).contains(&number));
+    let uses = steps.iter().filter(|&&step| usize::from(step) == number).count();
+    match (uses, surely, card.line(line).must) {
+        (0, _, 1) => "2: no step uses this must line, so a rest takes it",
+        (0, ..) => "0: no step uses this may line",
+        (1, true, _) => "1: a step uses the line",
+        (_, true, _) => "1: both sides of an either way use the line",
+        (_, false, _) => "3: one side of an either way uses the line, the other does not",
+    }
 }
 
 /// What is to be served, in words.

@@ -8,6 +8,7 @@ use desk::fields::{card_fields, sheet_fields, Field};
 use desk::names::Names;
 use desk::picture::{svg, Drawn};
 use desk::way::walk;
+use kit_planner::Mark;
 
 /// Every byte stands in just one field, and the fields in order.
 fn whole(bytes: &[u8], fields: &[Field]) {
@@ -60,6 +61,24 @@ fn every_byte_of_a_sheet_is_drawn() {
         let steps = sheet.get(5..).unwrap_or_default();
         whole(&sheet, &sheet_fields(*card, &sheet, &walk(card, steps).taken, &names));
     }
+}
+
+/// Marks are drawn in the library's words for them, and what is none as unknown.
+#[test]
+fn every_mark_is_drawn_in_words() {
+    let mut draft = Draft::limits(1, 1);
+    let name = draft.name(1);
+    draft.may(&[name; 5]);
+    let bytes = draft.bytes();
+    let card = Sound::checked(&bytes).expect("it is sound");
+    let sheet = [0, 10, 1, 0, 5, 0, 1, 2, 3, 4];
+    let fields = sheet_fields(*card, &sheet, &walk(card, &[]).taken, &Names::default());
+    let told: Vec<_> = fields[4..].iter().map(|field| field.value.clone()).collect();
+    let marks = [Mark::Left, Mark::Used, Mark::Covered, Mark::OneWay];
+    for (i, mark) in marks.into_iter().enumerate() {
+        assert_eq!(told[mark as usize], format!("{i}, line {i} is {mark}"));
+    }
+    assert_eq!(told[4], "4, line 4 is unknown");
 }
 
 #[test]

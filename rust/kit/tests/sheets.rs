@@ -34,7 +34,7 @@ fn damage(r: &mut Random, sheet_bytes: &[u8], entries: usize) -> (Vec<u8>, Optio
         3 => steps.insert(r.below(k + 1), any_step(r, entries + 2)),
         4 if !marks.is_empty() => {
             let i = r.below(marks.len());
-            marks[i] = r.below(4) as u8;
+            marks[i] = r.below(5) as u8;
         }
         5 => steps.iter_mut().filter(|step| **step > 253).take(1).for_each(|side| *side ^= 1),
         _ if k > 0 => steps[r.below(k)] = any_step(r, entries + 2),
@@ -87,8 +87,17 @@ fn planned(r: &mut Random) -> Option<(Vec<u8>, Sheet)> {
     Some((draft.bytes(), sheet))
 }
 
+/// The mark that a reason tells to be the true one is: with it in its place no mark up to there is wrong any more.
+fn mended(card: &[u8], sheet: &[u8], line: u16, words: &str) {
+    let (_, right) = words.split_once("it must be ").expect("the true mark is told");
+    let (at, mut sheet) = (5 + usize::from(sheet[3]) + usize::from(line), sheet.to_vec());
+    sheet[at] = right[..1].parse().expect("a mark's number");
+    let later = |refusal: Refusal| matches!(refusal.place, Place::Mark(i) if i > line);
+    assert!(kit_planner::read(card, &sheet).err().is_none_or(later), "{words}");
+}
+
 /// Words of which each stands in many of the reasons.
-const REASONS: [&str; 9] = [
+const REASONS: [&str; 11] = [
     "again at step",
     "must be used",
     "is left over",
@@ -98,6 +107,8 @@ const REASONS: [&str; 9] = [
     "but an entry has to stand there",
     "is missing: a choice of",
     "is wanted in step",
+    "both sides of an either way use",
+    "one side of an either way uses",
 ];
 
 #[test]
@@ -122,6 +133,9 @@ fn every_refusal_has_its_reason() {
             };
             let why = why::sheet(card, &sheet, refusal, &names);
             told(&why, &sheet, refusal);
+            if let Place::Mark(line) = refusal.place {
+                mended(&bytes, &sheet, line, &why.words);
+            }
             if let (12, Some(at), Some(wrong)) = (refusal.number, changed, why.wrong) {
                 assert!((wrong.at..wrong.at + wrong.len).contains(&at), "{}", why.words);
             }
@@ -141,14 +155,20 @@ fn every_refusal_has_its_reason() {
     }
 }
 
-/// The reason that is told of these steps on a text card, with marks that are all 1.
-fn reason(text: &str, steps: &[u8]) -> String {
+/// The reason that is told of these steps and marks on a text card.
+fn reason_of(text: &str, steps: &[u8], marks: &[u8]) -> String {
     let text = format!("limits nesting 2 steps 9\n{text}");
     let bytes = parse(&text, &Names::default()).expect("the text is right").bytes;
     let card = Sound::checked(&bytes).expect("it is sound");
-    let sheet = sheet(steps, &vec![1; card.lines()]);
+    let sheet = sheet(steps, marks);
     let refusal = kit_planner::read(&bytes, &sheet).expect_err("it is refused");
     format!("{}: {}", refusal.number, why::sheet(card, &sheet, refusal, &Names::default()).words)
+}
+
+/// The same with marks that are all 1.
+fn reason(text: &str, steps: &[u8]) -> String {
+    let lines = text.lines().filter(|line| line.starts_with("must ") || line.starts_with("may ")).count();
+    reason_of(text, steps, &vec![1; lines])
 }
 
 #[test]
@@ -229,6 +249,33 @@ fn reasons_of_menus_and_never_in_words() {
     assert_eq!(
         reason("goal 1\nrule ((2 one of never) gives 1)\n", &[0, 255]),
         "19: never is wanted for condition 0 of step 0 (rule 0), chosen right, and nothing meets it"
+    );
+}
+
+#[test]
+fn reasons_of_marks_in_words() {
+    let one_way =
+        "the mark of line 0 is 1; it must be 3: one side of an either way uses the line, the other does not";
+    assert_eq!(reason("goal (1 either way rest)\nmust 1\n", &[0]), format!("14: {one_way}"));
+    assert_eq!(
+        reason("goal (2 either way rest)\nmay 1\nrule (1 gives 2)\n", &[0, 1]),
+        format!("14: {one_way}")
+    );
+    let ways = "goal ((1 both rest) either way (2 both (1 both rest)))\nmust 1\nmust 2\nmust 3\nmay 3\n";
+    let told = |marks: &[u8]| reason_of(ways, &[0, 1, 0], marks);
+    assert_eq!(
+        told(&[3, 3, 2, 0]),
+        "14: the mark of line 0 is 3; it must be 1: both sides of an either way use the line"
+    );
+    assert_eq!(told(&[1, 1, 2, 0]), format!("14: {}", one_way.replace("line 0", "line 1")));
+    assert_eq!(
+        told(&[1, 3, 3, 0]),
+        "14: the mark of line 2 is 3; it must be 2: no step uses this must line, so a rest takes it"
+    );
+    assert_eq!(told(&[1, 3, 2, 3]), "14: the mark of line 3 is 3; it must be 0: no step uses this may line");
+    assert_eq!(
+        reason_of("goal 1\nmust 1\n", &[0], &[3]),
+        "14: the mark of line 0 is 3; it must be 1: a step uses the line"
     );
 }
 

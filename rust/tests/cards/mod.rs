@@ -228,6 +228,42 @@ impl Draft {
     }
 }
 
+/// A formula's node. Names are letters; T is rest, 1 done, 0 never; the others stand before their two parts: * both,
+/// & either way, - lend, > recipe, + one of, | menu.
+fn formula(c: &mut Draft, text: &mut std::str::Chars) -> usize {
+    let kind = match text.next().expect("a formula") {
+        name @ 'a'..='z' => return c.name(name as usize - 'a' as usize + 1),
+        'T' => return c.add(2, 0, 0),
+        '1' => return c.add(3, 0, 0),
+        '0' => return c.add(9, 0, 0),
+        '*' => 4,
+        '&' => 5,
+        '-' => 6,
+        '>' => 7,
+        '+' => 8,
+        '|' => 10,
+        other => panic!("{other} is no formula"),
+    };
+    let left = formula(c, text);
+    let right = formula(c, text);
+    c.add(kind, left, right)
+}
+
+/// A card: its limits, its goal, its rules and lines with spaces between, a may line behind a question mark.
+pub fn written(d: u8, s: u8, goal: &str, rules: &str, lines: &str) -> Vec<u8> {
+    let mut c = Draft::limits(d, s);
+    c.goal = formula(&mut c, &mut goal.chars());
+    for rule in rules.split_whitespace() {
+        let node = formula(&mut c, &mut rule.chars());
+        c.rules.push(node);
+    }
+    for line in lines.split_whitespace() {
+        let node = formula(&mut c, &mut line.trim_start_matches('?').chars());
+        c.lines.push((node, u8::from(!line.starts_with('?'))));
+    }
+    c.bytes()
+}
+
 fn put_length(bytes: &mut [u8]) {
     let n = bytes.len();
     if n >= 2 {
@@ -298,5 +334,13 @@ pub fn any_step(r: &mut Random, entries: usize) -> u8 {
     match r.below(5) {
         0 => r.pick(&[254, 255]),
         _ => r.below(entries) as u8,
+    }
+}
+
+/// Another mark, or the same, for some line, where the sheet has lines: 0 to 3, or 4, which is none.
+pub fn damage_mark(r: &mut Random, sheet: &mut [u8]) {
+    let (n, t) = (sheet.len(), usize::from(sheet[4]));
+    if t > 0 && t <= n - 5 {
+        sheet[n - 1 - r.below(t)] = r.below(5) as u8;
     }
 }

@@ -29,6 +29,7 @@ pub fn compare_plan(
     if let (Ok(k), Ok(sheet)) = (answer, wanted) {
         assert_eq!(kit_planner::read(card, &sheet), Ok(k), "card {card:02x?}");
         met.choose(&sheet[5..5 + k]);
+        met.mark(&sheet[5 + k..]);
         met.longest = met.longest.max(k);
         met.long += usize::from(k >= LONG);
     }
@@ -46,6 +47,8 @@ pub struct Met {
     pub given_up: usize,
     /// How often left and right stand in the lists.
     pub chosen: [usize; 2],
+    /// How often each mark stands in the sheets.
+    pub marks: [usize; 4],
     /// The most steps of a sheet, and how many sheets are long.
     pub longest: usize,
     pub long: usize,
@@ -78,6 +81,16 @@ impl Met {
     /// Left and right were taken so often.
     pub fn chose(&self, least: usize) {
         assert!(self.chosen.iter().all(|&n| n >= least), "fewer than {least} choices a side: {self:?}");
+    }
+
+    /// Counts the marks of a sheet that is accepted.
+    pub fn mark(&mut self, marks: &[u8]) {
+        marks.iter().for_each(|&mark| self.marks[usize::from(mark)] += 1);
+    }
+
+    /// Each mark was met so often.
+    pub fn marked(&self, least: usize) {
+        assert!(self.marks.iter().all(|&n| n >= least), "fewer than {least} of a mark: {self:?}");
     }
 
     /// Each of these was met.

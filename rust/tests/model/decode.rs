@@ -86,16 +86,6 @@ impl Card {
         let musts = (0..self.lines.len()).filter(|&i| self.lines[i].1);
         musts.fold(Items::default(), |s, i| s.with(Items::one(self.rules.len() + i)))
     }
-
-    pub fn mark(&self, list: &[u8], i: usize) -> u8 {
-        if list.contains(&((self.rules.len() + i) as u8)) {
-            1
-        } else if self.lines[i].1 {
-            2
-        } else {
-            0
-        }
-    }
 }
 
 /// A node read as a goal and as a clause, where it can be, and its height.

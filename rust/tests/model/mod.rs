@@ -31,6 +31,9 @@ impl Items {
     pub fn without(self, o: Items) -> Items {
         Items([self.0[0] & !o.0[0], self.0[1] & !o.0[1]])
     }
+    pub fn shared(self, o: Items) -> Items {
+        self.without(self.without(o))
+    }
     pub fn within(self, o: Items) -> bool {
         self.without(o) == Items::default()
     }
@@ -48,43 +51,46 @@ pub struct Entry {
 
 pub type Scope = Vec<Entry>;
 
-/// A list with the items it uses, and whether some rest takes any others.
+/// A list with the items it uses, those of them that it surely uses, and whether some rest takes any others.
 #[derive(Clone, Debug)]
 pub struct Way {
     pub list: Vec<u8>,
     pub used: Items,
+    pub surely: Items,
     pub slack: bool,
 }
 
 impl Way {
     pub fn none(slack: bool) -> Way {
-        Way { list: Vec::new(), used: Items::default(), slack }
+        Way { list: Vec::new(), used: Items::default(), surely: Items::default(), slack }
     }
 
-    fn beside(&self, right: &Way, used: Items, slack: bool) -> Way {
-        Way { list: [&self.list[..], &right.list[..]].concat(), used, slack }
+    fn beside(&self, right: &Way, surely: Items, slack: bool) -> Way {
+        let list = [&self.list[..], &right.list[..]].concat();
+        Way { list, used: self.used.with(right.used), surely, slack }
     }
 
-    /// both: each item goes to one part.
+    /// both: each item goes to one part, and what either part surely uses is surely used.
     pub fn both(&self, right: &Way) -> Option<Way> {
         let slack = self.slack || right.slack;
         let apart = self.used.apart(right.used);
-        apart.then(|| self.beside(right, self.used.with(right.used), slack))
+        apart.then(|| self.beside(right, self.surely.with(right.surely), slack))
     }
 
-    /// either way: all items go to each part.
+    /// either way: all items go to each part, and only what each part surely uses is surely used.
     pub fn either(&self, right: &Way) -> Option<Way> {
         let used = self.used.with(right.used);
         let left_takes = self.slack || self.used == used;
         let right_takes = right.slack || right.used == used;
         let slack = self.slack && right.slack;
-        (left_takes && right_takes).then(|| self.beside(right, used, slack))
+        (left_takes && right_takes).then(|| self.beside(right, self.surely.shared(right.surely), slack))
     }
 
     /// lend: the clause e is used inside, or some rest inside takes it.
     pub fn lent(mut self, e: usize) -> Option<Way> {
         let spent = self.slack || self.used.has(e);
         self.used = self.used.without(Items::one(e));
+        self.surely = self.surely.without(Items::one(e));
         spent.then_some(self)
     }
 
@@ -94,13 +100,14 @@ impl Way {
         self
     }
 
-    /// name: entry e, then its choices and the way of its conditions.
+    /// name: entry e, then its choices and the way of its conditions. An item is surely used here.
     pub fn using(mut self, e: usize, stays: bool) -> Option<Way> {
         if !stays {
             if self.used.has(e) {
                 return None;
             }
             self.used = self.used.with(Items::one(e));
+            self.surely = self.surely.with(Items::one(e));
         }
         self.list.insert(0, e as u8);
         Some(self)
@@ -205,8 +212,25 @@ pub fn sheet(card: &Card, list: &[u8]) -> Vec<u8> {
     let size = 5 + list.len() + card.lines.len();
     let mut bytes = vec![(size / 256) as u8, (size % 256) as u8, 1, list.len() as u8, card.lines.len() as u8];
     bytes.extend(list);
-    bytes.extend((0..card.lines.len()).map(|i| card.mark(list, i)));
+    bytes.extend(marks(card, list));
     bytes
+}
+
+/// Each line's true mark for a list, by the way that the list goes: 1 surely used, 3 in the list but not surely, 2 must
+/// and not in it, 0 may and not in it. Where the steps go no way nothing is surely used.
+pub fn marks(card: &Card, list: &[u8]) -> Vec<u8> {
+    let walked = walk(&mut card.scope(), &card.goal, card.d, list);
+    let surely = walked.map_or(Items::default(), |(way, _)| way.surely);
+    let mark = |(i, &(_, must)): (usize, &(Rc<Clause>, bool))| {
+        let e = card.rules.len() + i;
+        match (surely.has(e), list.contains(&(e as u8)), must) {
+            (true, ..) => 1,
+            (false, true, _) => 3,
+            (false, false, true) => 2,
+            (false, false, false) => 0,
+        }
+    };
+    card.lines.iter().enumerate().map(mark).collect()
 }
 
 /// What planning a card into a buffer of so many bytes answers: the sheet or a refusal; none where the budget
@@ -383,7 +407,8 @@ pub fn read(bytes: &[u8], sheet: &[u8]) -> Result<usize, Refusal> {
     if !listed(&card, steps) {
         return refused(19, Place::Steps);
     }
-    match (0..t).find(|&i| sheet[5 + k + i] != card.mark(steps, i)) {
+    let marks = marks(&card, steps);
+    match (0..t).find(|&i| sheet[5 + k + i] != marks[i]) {
         Some(i) => refused(14, Place::Mark(i as u16)),
         None => Ok(k),
     }
