@@ -22,7 +22,7 @@ use Rattle.card.specs.Format.{Bytes, ruleCount, lineCount, stepLimit}
 use Rattle.card.specs.Verdict.{Where, sound, fault, sheet, step, steps as whole-steps}
 use Rattle.card.specs.Fault.{firstFault, Sound}
 use Rattle.card.specs.Decode.{jobOf}
-use Rattle.card.specs.Sheet.{sheetOf}
+use Rattle.card.specs.Sheet.{markOf, sheetOf}
 use Rattle.card.proofs.StepsFitAByte.{entries-fit}
 use Rattle.planning.specs.Plan.{PlanVerdict, planned, refused as not-planned, roomOf, Planning, PlanDecided, Carries}
 use Rattle.planner.proofs.PlannedExactly.{plan-decided, plan-determined, planned-exactly, planned-sheet}
@@ -105,6 +105,15 @@ one-sheet bs l x y = ap (λ U. sheetOf bs U l) (listed-surely x y)
 
 pub surely-in-list : (bs : List ℕ) (d : Derivation (jobOf bs)) (i : ℕ) → surely (d .tree) i ≡ true → stands i (steps (d .tree)) ≡ true
 surely-in-list bs d = surely-stands (d .tree)
+
+-- "Mark 1 now means surely used, mark 3 in the list but not surely."
+module _ (bs : List ℕ) (d : Derivation (jobOf bs)) (i : ℕ) where
+  pub mark-one-means : (markOf bs (surely (d .tree)) (steps (d .tree)) i ≡ 1) ↔ (surely (d .tree) (ruleCount bs + i) ≡ true)
+  mark-one-means = MarksMean.mark-one bs d i
+
+  pub mark-three-means : (markOf bs (surely (d .tree)) (steps (d .tree)) i ≡ 3)
+      ↔ ((stands (ruleCount bs + i) (steps (d .tree)) ≡ true) × (surely (d .tree) (ruleCount bs + i) ≡ false))
+  mark-three-means = MarksMean.mark-three bs d i
 
 -- What they mean to the fitter, who walks one side of each "either way": mark 1 is a line that every run uses, mark 3 one that some run uses
 -- and some does not.
