@@ -401,7 +401,7 @@ static void constants(void) {
     check(KIT_SHEET_MAX == 5 + 255 + 64, "the longest sheet");
     check(KIT_LEFT == 254 && KIT_RIGHT == 255, "the two choices");
     check(KIT_MARK_LEFT == 0 && KIT_MARK_USED == 1 && KIT_MARK_REST == 2 && KIT_MARK_ONE_WAY == 3, "the four marks");
-    check(strcmp(KIT_VERSION, "0.3.0") == 0, "the version");
+    check(strcmp(KIT_VERSION, "0.4.0") == 0, "the version");
 }
 
 int main(void) {

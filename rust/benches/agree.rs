@@ -6,7 +6,7 @@ mod cards;
 #[path = "../tests/families/mod.rs"]
 mod families;
 
-use archives::{all_choose, Asked, ARCHIVES};
+use archives::{all_choose, only_one_way, Asked, ARCHIVES};
 use cards::{any_card_of, Draft, Random, ALL, SEVEN};
 use families::{choices, deep, dones, kits, recursive, FAMILIES};
 use std::time::Duration;
@@ -24,13 +24,6 @@ struct Counts {
     left_out: usize,
     unanswered: usize,
     differ: usize,
-}
-
-/// Whether two sheets are the same but for marks that are 3 now and were 1, as a planner without mark 3 has them.
-fn only_one_way(before: &[u8], now: &[u8]) -> bool {
-    let marks = 5 + usize::from(now[3]);
-    before.len() == now.len()
-        && before.iter().zip(now).enumerate().all(|(i, (&b, &n))| b == n || i >= marks && (b, n) == (1, 3))
 }
 
 fn compare(before: &mut Asked, now: &mut Asked, card: &[u8], counts: &mut Counts) {

@@ -6,7 +6,7 @@ mod cards;
 #[path = "../tests/families/mod.rs"]
 mod families;
 
-use archives::{all_choose, Answer, Archive, Asked, ARCHIVES, ROOM};
+use archives::{all_choose, only_one_way, Answer, Archive, Asked, ARCHIVES, ROOM};
 use families::choices::CHOOSING;
 use families::dones::DONES;
 use families::{Family, FAMILIES, HARD};
@@ -74,9 +74,9 @@ fn table(asked: &mut [Asked], families: &'static [Family]) -> Vec<Row> {
     rows
 }
 
-/// The times of the reading of the card's sheet, if it has one; both readers accept it.
+/// The times of the reading of the card's sheet, if it has one, and the same of both planners; both readers accept it.
 fn reading_times(card: &[u8], answer: &Answer, answers: &[Option<Answer>]) -> Option<Times> {
-    if answer.number >> 24 != 0 {
+    if answer.number >> 24 != 0 || answers.iter().flatten().any(|other| other.sheet != answer.sheet) {
         return None;
     }
     let length = u16::from_be_bytes([answer.sheet[0], answer.sheet[1]]);
@@ -110,7 +110,8 @@ fn check(family: &Family, n: usize, answers: &[Option<Answer>]) {
         assert_eq!(planned, family.planned, "{} {n}", family.name);
     }
     if let [Some(a), Some(b)] = answers {
-        assert!(a.number == b.number && a.sheet == b.sheet, "{} {n}: the answers differ", family.name);
+        let alike = a.sheet == b.sheet || only_one_way(&a.sheet, &b.sheet);
+        assert!(a.number == b.number && alike, "{} {n}: the answers differ", family.name);
     }
 }
 

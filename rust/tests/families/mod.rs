@@ -50,7 +50,9 @@ pub const FAMILIES: &[Family] = &[
     planned("two makers, n wanted", &[8, 16, 32, 64], |n| makers(n, n)),
     refused("two makers, n + 1 wanted", &[8, 16, 32, 64], |n| makers(n, n + 1)),
     straight("either way over n lines", &[8, 16, 32, 64], either),
+    straight("either way, half to rest", &[8, 16, 32, 64], either_half),
     straight("n either ways side by side", &[4, 8, 16, 32], either_ways),
+    straight("n either ways, a side rests", &[8, 16, 32, 64], side_rests),
     refused("either way, one over", &[8, 16, 32, 64], either_over),
     straight("6n lends, n uses deep", &[3, 7, 14], lends_deep),
     straight("n lends side by side", &[8, 16, 32, 64], lends),
@@ -236,6 +238,26 @@ fn either(n: usize) -> Draft {
     names.sort_by(|a, b| b.cmp(a));
     let other = c.both(&names);
     c.goal = c.add(5, c.goal, other);
+    c
+}
+
+/// n must lines of distinct names, all wanted one way; the other way every other one, and the rest takes the others.
+fn either_half(n: usize) -> Draft {
+    let mut c = distinct(n);
+    let mut goals: Vec<usize> = c.lines.iter().map(|l| l.0).step_by(2).collect();
+    goals.push(c.add(2, 0, 0));
+    let other = c.both(&goals);
+    c.goal = c.add(5, c.goal, other);
+    c
+}
+
+/// n must lines of distinct names, each used one way and left to a rest the other.
+fn side_rests(n: usize) -> Draft {
+    let mut c = distinct(n);
+    let rest = c.add(2, 0, 0);
+    let names: Vec<usize> = c.lines.iter().map(|l| l.0).collect();
+    let goals: Vec<usize> = names.iter().map(|&name| c.add(5, name, rest)).collect();
+    c.goal = c.both(&goals);
     c
 }
 
