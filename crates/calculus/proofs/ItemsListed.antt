@@ -1,7 +1,7 @@
 -- Lines and lent clauses in a list are items.
 use Prim.Native.Nat.{ℕ, _<_}
 use native.Mathlib.Omega.{arith}
-use mathlib.Core.Path.{_≡_, refl, sym, ap, _∙_}
+use mathlib.Core.Path.{_≡_, sym, ap, _∙_}
 use mathlib.Core.Logic.{_⊎_, inl, inr, ⊎-elim, ⊎-map}
 use mathlib.Core.Bool.{Bool, true, false, not, _||_, false≢true}
 use mathlib.Core.List.{List, _∷_, _++_}
@@ -12,14 +12,10 @@ use Rattle.calculus.specs.Items.{Items, _∪_, _∖_, only, Splits}
 use Rattle.calculus.specs.Derivation.{Scope, Entry, size, linearAt, lend, Derives, res-1, res-⊤, res-⊗, res-&, res-⊕₁, res-⊕₂, res-⊸}
 use Rattle.calculus.specs.Derivation.{res-atm-int, res-atm-lin}
 use Rattle.calculus.specs.Steps.{steps, stands, leftChoice, rightChoice}
-use Rattle.calculus.proofs.SetLaws.{and-left, or-right}
+use Rattle.calculus.proofs.SetLaws.{and-left, or-right, or-cases}
 use Rattle.calculus.proofs.SummaryExact.{lend-size}
 use Rattle.calculus.proofs.RenamingKeeps.{entry-before}
 use Rattle.calculus.proofs.StepsBounded.{stands-parts}
-
-pub or-cases : (a b : Bool) → (a || b) ≡ true → (a ≡ true) ⊎ (b ≡ true)
-or-cases true b h = inl refl
-or-cases false b h = inr h
 
 pub lent-linear : (es : Scope) (D : Clause) (e : ℕ) → e < size es → linearAt (lend es D) e ≡ linearAt es e
 unfolding linearAt

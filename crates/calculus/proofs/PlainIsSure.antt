@@ -12,10 +12,10 @@ use Rattle.calculus.specs.Derivation.{Scope, Entry, Derives, size, claus
 use Rattle.calculus.specs.Derivation.{res-⊕₂, res-⊸, res-atm-int, res-atm-lin}
 use Rattle.calculus.specs.Steps.{steps, surely, stands, leftChoice, rightChoice}
 use Rattle.calculus.specs.Inner.Plain.{weighᴳ, weighᴰ, Light}
-use Rattle.calculus.proofs.SetLaws.{or-right}
+use Rattle.calculus.proofs.SetLaws.{or-right, or-cases}
 use Rattle.calculus.proofs.SummaryExact.{lend-size}
 use Rattle.calculus.proofs.RenamingKeeps.{in-scope, lent-cases, entry-before, entry-lent}
-use Rattle.calculus.proofs.ItemsListed.{or-cases, stands-in, stands-cons, lent-linear, used-item}
+use Rattle.calculus.proofs.ItemsListed.{stands-in, stands-cons, lent-linear, used-item}
 
 -- Weights
 

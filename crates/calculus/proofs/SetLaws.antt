@@ -197,13 +197,17 @@ pub or-false : (a b : Bool) → (a || b) ≡ false → (a ≡ false) × (b ≡ f
 or-false true b h = absurd (false≢true (sym h))
 or-false false b h = (refl, h)
 
+pub or-cases : (a b : Bool) → (a || b) ≡ true → (a ≡ true) ⊎ (b ≡ true)
+or-cases true b h = inl refl
+or-cases false b h = inr h
+
+pub or-map : (a b c d : Bool) → (a || b) ≡ true → (a ≡ true → c ≡ true) → (b ≡ true → d ≡ true) → (c || d) ≡ true
+or-map true b c d h f g = ap (λ (x : Bool). x || d) (f refl)
+or-map false b c d h f g = or-right c d (g h)
+
 pub ∪-cases : (I J : Items) (i : ℕ) → (I ∪ J) i ≡ true → (I i ≡ true) ⊎ (J i ≡ true)
 unfolding _∪_
-∪-cases I J i = at (I i)
-  where
-    at : (b : Bool) → (b || J i) ≡ true → (b ≡ true) ⊎ (J i ≡ true)
-    at true h = inl refl
-    at false h = inr h
+∪-cases I J i = or-cases (I i) (J i)
 
 pub ∖-within : (I J : Items) → Within (I ∖ J) I
 unfolding _∖_

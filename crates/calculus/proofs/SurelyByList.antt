@@ -16,13 +16,9 @@ use Rattle.calculus.specs.Inner.Trace.{Ends, Fails, Tensors, Withs, Lend
 use Rattle.calculus.specs.Inner.Trace.{Gathered, Trace, trace-1, trace-⊤, trace-0, trace-⊗, trace-&, trace-⊸, trace-side, trace-rule}
 use Rattle.calculus.specs.Inner.Trace.{trace-item, trace-head, trace-recipe}
 use Rattle.calculus.specs.Inner.Surely.{Sure, sure, inTurn, taken, usedFirst, goalSurely, entrySurely, nameSurely, surelyOf, surelyIn, Traced}
-use Rattle.calculus.proofs.SetLaws.{and-left, or-right}
+use Rattle.calculus.proofs.SetLaws.{and-left, or-right, or-map}
 use Rattle.calculus.proofs.StepsBounded.{stands-parts}
 use Rattle.calculus.proofs.TraceExact.{goalAt}
-
-either : {a b c : Bool} (x : Bool) → (x || b) ≡ true → (x ≡ true → a ≡ true) → (b ≡ true → c ≡ true) → (a || c) ≡ true
-either {a} {c = c} true h f g = ap (λ (y : Bool). y || c) (f refl)
-either {a} false h f g = or-right a _ (g h)
 
 -- two parts one after the other, each read off its list
 in-turn : (op : Items → Items → Items) (n : ℕ) (es : Scope) (G H : Goal) (k m r : List ℕ) {U W : Items}
@@ -176,11 +172,11 @@ pub surely-stands : {es : Scope} {I : Items} {G : Goal} (d : Derives es I G) (i 
 unfolding steps surely stands ∅ _∪_ _∩_ only
 surely-stands (res-1 n) i h = h
 surely-stands res-⊤ i h = h
-surely-stands (res-⊗ s c d) i h = stands-parts i (steps c) (steps d) ∙ either (surely c i) h (surely-stands c i) (surely-stands d i)
+surely-stands (res-⊗ s c d) i h = stands-parts i (steps c) (steps d) ∙ or-map (surely c i) (surely d i) _ _ h (surely-stands c i) (surely-stands d i)
 surely-stands (res-& c d) i h =
     stands-parts i (steps c) (steps d) ∙ ap (λ (b : Bool). b || stands i (steps d)) (surely-stands c i (and-left (surely c i) _ h))
 surely-stands (res-⊕₁ d) i h = or-right (eqb i leftChoice) _ (surely-stands d i h)
 surely-stands (res-⊕₂ d) i h = or-right (eqb i rightChoice) _ (surely-stands d i h)
 surely-stands (res-⊸ f d) i h = surely-stands d i h
 surely-stands (res-atm-int e n d) i h = or-right (eqb i e) _ (surely-stands d i h)
-surely-stands (res-atm-lin e n t d) i h = either (eqb i e) h (λ q. q) (surely-stands d i)
+surely-stands (res-atm-lin e n t d) i h = or-map (eqb i e) (surely d i) _ _ h (λ q. q) (surely-stands d i)

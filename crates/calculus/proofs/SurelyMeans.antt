@@ -12,26 +12,22 @@ use Rattle.calculus.specs.Derivation.{Scope, Derives, size, linearAt, re
 use Rattle.calculus.specs.Derivation.{res-atm-int, res-atm-lin}
 use Rattle.calculus.specs.Steps.{steps, surely, stands, leftChoice, rightChoice}
 use Rattle.calculus.specs.Runs.{RunOf, Run, run-1, run-⊤, run-⊗, run-&₁, run-&₂, run-⊕₁, run-⊕₂, run-⊸, run-rule, run-item, OnEveryRun, RunWith}
-use Rattle.calculus.proofs.SetLaws.{and-left, and-right, or-right, or-false}
+use Rattle.calculus.proofs.SetLaws.{and-left, and-right, or-right, or-false, or-map}
 use Rattle.calculus.proofs.SummaryExact.{lend-size}
 use Rattle.calculus.proofs.ItemsListed.{stands-in, stands-cons, lent-linear}
-
-either : (a b c d : Bool) → (a || b) ≡ true → (a ≡ true → c ≡ true) → (b ≡ true → d ≡ true) → (c || d) ≡ true
-either true b c d h f g = ap (λ (x : Bool). x || d) (f refl)
-either false b c d h f g = or-right c d (g h)
 
 every : {es : Scope} {I U : Items} {G : Goal} {d : Derives es I G} → RunOf es I G d U → (i : ℕ) → surely d i ≡ true → U i ≡ true
 unfolding surely ∅ _∪_ _∩_
 every run-1 i h = h
 every run-⊤ i h = h
-every (run-⊗ {U} {W} {l} {r} x y) i h = either (surely l i) (surely r i) (U i) (W i) h (λ q. every x i q) (λ q. every y i q)
+every (run-⊗ {U} {W} {l} {r} x y) i h = or-map (surely l i) (surely r i) (U i) (W i) h (λ q. every x i q) (λ q. every y i q)
 every (run-&₁ {l} {r} x) i h = every x i (and-left (surely l i) (surely r i) h)
 every (run-&₂ {l} {r} x) i h = every x i (and-right (surely l i) (surely r i) h)
 every (run-⊕₁ x) i h = every x i h
 every (run-⊕₂ x) i h = every x i h
 every (run-⊸ x) i h = every x i h
 every (run-rule x) i h = every x i h
-every (run-item {U} {e} {d} x) i h = either (only e i) (surely d i) (only e i) (U i) h (λ q. q) (λ q. every x i q)
+every (run-item {U} {e} {d} x) i h = or-map (only e i) (surely d i) (only e i) (U i) h (λ q. q) (λ q. every x i q)
 
 module _ {es : Scope} {I : Items} {G : Goal} {d : Derives es I G} {i : ℕ} {b : Bool} where
   -- the same run, of a derivation above

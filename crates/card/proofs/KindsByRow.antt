@@ -8,6 +8,7 @@ use mathlib.Core.List.{List, [], _∷_}
 use lib.ListN.{length, getD, List·getD-eq-default}
 use lib.Dec.{leb, eqb}
 use borrow.Author.Tests.{leb-true, eqb-true, lt-leb, ne-eqb}
+use Rattle.calculus.proofs.SetLaws.{or-cases}
 use Rattle.card.specs.declared.kinds.Field.{Field}
 use Rattle.card.specs.declared.kinds.Field.the-variants.{Unused, Name, GoalPart, ClausePart, Unknown}
 use Rattle.card.specs.Kinds.{Kind, unknown, kinds, kindOf}
@@ -31,10 +32,6 @@ at-row f (x ∷ xs) e u (suc k) =
 pub past-last : (k : ℕ) → length kinds ≤ k → kindOf k ≡ unknown
 unfolding kindOf
 past-last k h = List·getD-eq-default kinds unknown h
-
-or-cases : (a b : Bool) → (a || b) ≡ true → (a ≡ true) ⊎ (b ≡ true)
-or-cases true b e = inl refl
-or-cases false b e = inr e
 
 follows : (a b : Bool) → (not a || b) ≡ true → a ≡ true → b ≡ true
 follows true b e h = e

@@ -1,10 +1,10 @@
 -- "At most 103 stand in scope, so a number fits a byte": the entries of a sound card's derivations are below P + T + 103, and never meet a
 -- choice.
-use Prim.Native.Nat.{ℕ, zero, suc, _+_, _*_, _≤_, _<_, max}
+use Prim.Native.Nat.{ℕ, suc, _+_, _*_, _≤_, _<_, max}
 use native.Mathlib.Omega.{arith}
 use mathlib.Core.Path.{_≡_, refl, sym, ap, _∙_}
 use mathlib.Core.Bool.{true, cond}
-use mathlib.Core.List.{List, [], _∷_, map}
+use mathlib.Core.List.{List, map}
 use lib.ListN.{getD}
 use borrow.Author.Tests.{lt-ltb}
 use Rattle.calculus.specs.Derivation.{size}
@@ -25,7 +25,7 @@ use Rattle.card.specs.Decode.{held, readBy}
 use Rattle.card.specs.Decode.{NodeReading, noNodeReading, readStep, readAt, goalAt, clauseOf, jobOf}
 use Rattle.card.proofs.CardChecked.{sound-front}
 use Rattle.card.proofs.TablesGrow.{grow-at}
-use Rattle.card.proofs.EachNode.{each-node, each-clause}
+use Rattle.card.proofs.EachNode.{EachRow, _and_, each-kind, each-node, each-clause}
 use Rattle.card.proofs.NodesDecoded.{scope-size}
 use Rattle.card.proofs.NodesBuilt.{left-below, right-below}
 use Rattle.card.proofs.SoundNodes.{height-low, sound-built, goal-lower, sound-root}
@@ -49,27 +49,13 @@ record RowHigh (x : Kind) : Type 0 where
       → AtMost (suc (max (high (x .left) l) (high (x .right) r)))
       (record { goal = readBy (x .goal) (noNodeReading .goal) l r; clause = readBy (x .clause) (noNodeReading .clause) l r })
 
--- so it is of every row of the table, and of the unknown kind
-EachHigh : List Kind → Type 0
-EachHigh [] = Unit {0}
-EachHigh (x ∷ xs) = RowHigh x × EachHigh xs
-
 unknown-high : RowHigh unknown
 unfolding readBy heightᴳ heightᴰ
 unknown-high = record { at-most = λ l r. record { goal = omega arith; clause = omega arith } }
 
-at-high : (xs : List Kind) → EachHigh xs → (k : ℕ) → RowHigh (getD xs k unknown)
-unfolding EachHigh
-at-high [] h k = unknown-high
-at-high (x ∷ xs) h zero = h .0
-at-high (x ∷ xs) h (suc k) = at-high xs (h .1) k
-
-infixr 20 _and_
-_and_ : {A B : Type 0} → A → B → A × B
-a and b = (a, b)
-
-each-high : EachHigh kinds
-unfolding EachHigh kinds readBy high heightᴳ heightᴰ _and_
+-- so it is of every row of the table
+each-high : EachRow (λ k. RowHigh) 0 kinds
+unfolding EachRow kinds readBy high heightᴳ heightᴰ _and_
 each-high =
     unknown-high
     and record { at-most = λ l r. record { goal = omega arith; clause = omega arith } }
@@ -96,7 +82,7 @@ module _ {bs : List ℕ} (s : Sound bs) where
       let k = kindOf (kindAt bs i) in
       let p = part (k .left) (leftAt bs i) (left-below bs i e) in
       let q = part (k .right) (rightAt bs i) (right-below bs i e) in
-      at-more (at-high kinds each-high (kindAt bs i) .at-most _ _) (omega arith)
+      at-more (each-kind (λ k. RowHigh) each-high (λ k. unknown-high) (kindAt bs i) .at-most _ _) (omega arith)
     where
       part : (f : Field) (v : ℕ) → PartBelow i f v
           → high f (held f v (getD (grow (readStep bs) i) v noNodeReading)) ≤ partHeight (grow (heightStep bs) i) f v

@@ -1,10 +1,10 @@
 -- On a card without a node "either way", or without a node "rest", every line that stands in a list is surely used.
-use Prim.Native.Nat.{ℕ, zero, suc, _+_, _<_}
+use Prim.Native.Nat.{ℕ, _+_, _<_}
 use native.Mathlib.Omega.{arith}
 use mathlib.Core.Path.{_≡_, refl, ap, _∙_}
 use mathlib.Core.Bool.{true}
 use mathlib.Core.Logic.{_⊎_, inl, inr, ⊎-elim}
-use mathlib.Core.List.{List, [], _∷_}
+use mathlib.Core.List.{List}
 use lib.ListN.{getD}
 use Rattle.calculus.specs.Derivation.{Entry, linearAt}
 use Rattle.calculus.specs.Steps.{steps, stands, leftChoice}
@@ -22,7 +22,7 @@ use Rattle.card.specs.Decode.{held, readBy}
 use Rattle.card.specs.Decode.{NodeReading, noNodeReading, readStep, readAt, goalAt, clauseOf, lineEntry, jobOf}
 use Rattle.card.proofs.CardChecked.{sound-front}
 use Rattle.card.proofs.TablesGrow.{grow-at}
-use Rattle.card.proofs.EachNode.{each-node, each-clause}
+use Rattle.card.proofs.EachNode.{EachRow, _and_, each-kind, each-node, each-clause}
 use Rattle.card.proofs.NodesDecoded.{scope-size, line-at}
 use Rattle.card.proofs.NodesBuilt.{left-below, right-below}
 use Rattle.card.proofs.SoundNodes.{sound-built, goal-lower, sound-root}
@@ -48,27 +48,16 @@ module _ (w t : ℕ) where
     none : (l : Held (x .left)) (r : Held (x .right)) → weight (x .left) l ≡ 0 → weight (x .right) r ≡ 0
         → None (record { goal = readBy (x .goal) (noNodeReading .goal) l r; clause = readBy (x .clause) (noNodeReading .clause) l r })
 
-  -- so it is of every row of the table from kind n on, kind 5 if & weighs nothing and kind 2 if ⊤ does; and of the unknown kind
-  EachLight : ℕ → List Kind → Type 0
-  EachLight n [] = Unit {0}
-  EachLight n (x ∷ xs) = ((n ≡ 5 → w ≡ 0) → (n ≡ 2 → t ≡ 0) → RowLight x) × EachLight (suc n) xs
+  -- so it is of every kind, kind 5 if & weighs nothing and kind 2 if ⊤ does
+  abbrev LightFor : ℕ → Kind → Type 0
+  LightFor k x = (k ≡ 5 → w ≡ 0) → (k ≡ 2 → t ≡ 0) → RowLight x
 
   unknown-light : RowLight unknown
   unfolding readBy weighᴳ weighᴰ
   unknown-light = record { none = λ l r p q. record { goal = refl; clause = refl } }
 
-  at-light : (n : ℕ) (xs : List Kind) → EachLight n xs → (k : ℕ) → (n + k ≡ 5 → w ≡ 0) → (n + k ≡ 2 → t ≡ 0) → RowLight (getD xs k unknown)
-  unfolding EachLight
-  at-light n [] h k e f = unknown-light
-  at-light n (x ∷ xs) h zero e f = h .0 (λ q. e (omega arith)) (λ q. f (omega arith))
-  at-light n (x ∷ xs) h (suc k) e f = at-light (suc n) xs (h .1) k (λ q. e (omega arith)) (λ q. f (omega arith))
-
-infixr 20 _and_
-_and_ : {A B : Type 0} → A → B → A × B
-a and b = (a, b)
-
-each-light : (w t : ℕ) → EachLight w t 0 kinds
-unfolding EachLight kinds readBy weight weighᴳ weighᴰ _and_
+each-light : (w t : ℕ) → EachRow (LightFor w t) 0 kinds
+unfolding EachRow kinds readBy weight weighᴳ weighᴰ _and_
 each-light w t =
     (λ e f. unknown-light w t)
     and (λ e f. record { none = λ l r p q. record { goal = refl; clause = refl } })
@@ -90,9 +79,8 @@ module _ {bs : List ℕ} (s : Sound bs) (w t : ℕ) (e : (w ≡ 0) ⊎ NoKind bs
   node-light i h below =
       let b = sound-built s i h in
       let k = kindOf (kindAt bs i) in
-      at-light w t 0 kinds (each-light w t) (kindAt bs i)
-      (λ q. ⊎-elim (λ z. z) (λ n. absurd (n .none i h (omega (arith, q)))) e)
-      (λ q. ⊎-elim (λ z. z) (λ n. absurd (n .none i h (omega (arith, q)))) f) .none _ _
+      each-kind (LightFor w t) (each-light w t) (λ k e f. unknown-light w t) (kindAt bs i)
+      (λ q. ⊎-elim (λ z. z) (λ n. absurd (n .none i h q)) e) (λ q. ⊎-elim (λ z. z) (λ n. absurd (n .none i h q)) f) .none _ _
       (part (k .left) (leftAt bs i) (left-below bs i b)) (part (k .right) (rightAt bs i) (right-below bs i b))
     where
       part : (f : Field) (v : ℕ) → PartBelow i f v → weight w t f (held f v (getD (grow (readStep bs) i) v noNodeReading)) ≡ 0

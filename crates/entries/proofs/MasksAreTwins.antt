@@ -10,7 +10,7 @@ use lib.Seq.{getD-set-same, getD-set-other}
 use lib.Dec.{leb, ltb, eqb}
 use lib.Pow.{pow-pos, pow-lt}
 use lib.Bits.{bitAnd, bitOr, or-lt, and-le-l}
-use borrow.Author.Tests.{eqb-true, eqb-false, eq-eqb, ne-eqb, lt-ltb, le-ltb, ltb-true, ltb-false, leb-true, leb-false, not-false}
+use borrow.Author.Tests.{eqb-true, eqb-false, eq-eqb, ne-eqb, lt-ltb, le-ltb, ltb-true, leb-true, not-false}
 use Rattle.calculus.specs.Steps.{stands}
 use Rattle.card.specs.Format.{ruleCount, lineCount, nodeCount, lineNode, lineByte}
 use Rattle.card.specs.Fault.{Sound, clausePart, lineFault, lineGood}
@@ -24,6 +24,7 @@ use Rattle.entries.specs.Inner.Twins.{waits, every, isLine, met, eligibl
 use Rattle.entries.specs.Inner.Masks.{maskSet, withLine, passing, hasNode, mustNode, wider, Waiting, within, readyBy}
 use Rattle.entries.specs.Inner.Masks.{Seen}
 use Rattle.calculus.proofs.SetLaws.{or-right}
+use Rattle.scope.proofs.SetsAreItems.{same-line}
 use Rattle.entries.proofs.TestLaws.{and-true, same-test, every-at, every-all}
 
 -- The lines of a mask
@@ -292,13 +293,9 @@ module _ {bs : List ℕ} {seen : ℕ} {done : List ℕ} (s : Seen bs seen done) 
         few = s .few;
         line = λ x l.
             bit-or seen (2 ^ (e - ruleCount bs)) x ∙ or-comm (bitAt seen x) (bitAt (2 ^ (e - ruleCount bs)) x)
-            ∙ ap₂ _||_ (bit-pow (e - ruleCount bs) x ∙ same x) (s .line x l) ∙ sym (stands-more (ruleCount bs + x) e done);
+            ∙ ap₂ _||_ (bit-pow (e - ruleCount bs) x ∙ same-line (ruleCount bs) (e - ruleCount bs) e x (omega arith)) (s .line x l)
+            ∙ sym (stands-more (ruleCount bs + x) e done);
       }
-    where
-      same : (x : ℕ) → eqb x (e - ruleCount bs) ≡ eqb (ruleCount bs + x) e
-      same x = same-test (eqb x (e - ruleCount bs)) (eqb (ruleCount bs + x) e)
-          (λ p. let q = eqb-true x (e - ruleCount bs) p in eq-eqb (ruleCount bs + x) e (omega arith))
-          (λ p. let q = eqb-true (ruleCount bs + x) e p in eq-eqb x (e - ruleCount bs) (omega arith))
 
 -- Eligible by masks
 

@@ -22,9 +22,9 @@ use Rattle.card.specs.Decode.{clauseOf, lineEntry, linesWith, jobOf}
 use Rattle.card.proofs.NodesDecoded.{scope-size, line-at}
 use Rattle.agenda.specs.Inner.Order.{Chosen, none, step}
 use Rattle.entries.specs.Inner.Twins.{waits, every, isLine, met, eligible}
-use Rattle.calculus.proofs.SetLaws.{or-false, or-right}
+use Rattle.calculus.proofs.SetLaws.{or-false, or-right, or-cases}
 use Rattle.calculus.proofs.StepsBounded.{stands-parts}
-use Rattle.entries.proofs.TestLaws.{either, and-true, or-true, every-at, every-all, every-fails}
+use Rattle.entries.proofs.TestLaws.{either, and-true, every-at, every-all, every-fails}
 use Rattle.entries.proofs.SwappingKeeps.{WiderLine, swap-wider}
 
 -- What a line waits for
@@ -46,7 +46,7 @@ wait bs i x h =
     record {
       lower = ltb-true x i (a .0);
       node = eqb-true (lineNode bs x) (lineNode bs i) (b .0);
-      kind = ⊎-map (eqb-true (lineByte bs x) 1) (eqb-true (lineByte bs x) (lineByte bs i)) (or-true must alike (b .1));
+      kind = ⊎-map (eqb-true (lineByte bs x) 1) (eqb-true (lineByte bs x) (lineByte bs i)) (or-cases must alike (b .1));
     }
 
 -- Eligible entries
@@ -151,8 +151,8 @@ closed-more {bs} {q} e c h = record { kept = λ x t. eligible-more bs q (e ∷ [
   where
     was : (x : ℕ) → stands x (q ++ (e ∷ [])) ≡ true → eligible bs q x ≡ true
     was x t = ⊎-elim (c .kept x)
-        (λ u. ⊎-elim (λ v. ap (eligible bs q) (eqb-true x e v) ∙ h) (λ v. absurd (false≢true v)) (or-true (eqb x e) false u))
-        (or-true (stands x q) (stands x (e ∷ [])) (sym (stands-parts x q (e ∷ [])) ∙ t))
+        (λ u. ⊎-elim (λ v. ap (eligible bs q) (eqb-true x e v) ∙ h) (λ v. absurd (false≢true v)) (or-cases (eqb x e) false u))
+        (or-cases (stands x q) (stands x (e ∷ [])) (sym (stands-parts x q (e ∷ [])) ∙ t))
 
 -- The order of lists
 

@@ -1,12 +1,11 @@
 -- Laws of the lines gathered: no step, one step more, and the marks by the set.
 use Prim.Native.Nat.{ℕ, _+_, _-_, _≤_, _<_}
-use native.Mathlib.Decide.{ℕ-discrete}
 use native.Mathlib.Omega.{arith}
 use mathlib.Core.Path.{_≡_, sym, _∙_, ap}
 use mathlib.Core.Bool.{Bool, _||_, or-false, or-comm}
 use mathlib.Core.List.{List, [], _∷_, _++_}
 use lib.Dec.{eqb}
-use borrow.Author.Tests.{eq-eqb, ne-eqb}
+use borrow.Author.Tests.{ne-eqb}
 use Rattle.calculus.specs.Steps.{stands}
 use Rattle.calculus.proofs.StepsBounded.{stands-parts}
 use Rattle.card.specs.Format.{ruleCount}
@@ -15,6 +14,7 @@ use Rattle.lines.specs.declared.LineSet.{LineSet}
 use Rattle.lines.specs.Inner.Set.{member, emptyS, addS}
 use Rattle.lines.proofs.MemberLaws.{member-empty, member-add}
 use Rattle.scope.specs.Inner.Sets.{wordItems}
+use Rattle.scope.proofs.SetsAreItems.{same-line}
 use Rattle.marks.specs.Marks.{markFault}
 use Rattle.marks.specs.Inner.Used.{Gathers, markBy, faultBy}
 
@@ -49,17 +49,13 @@ module _ {l : List ℕ} {rules : ℕ} {s : LineSet} (g : Gathers l rules s) (e :
 
   -- a step behind the rules has item i
   pub gathers-item : (i : ℕ) → e ≡ rules + i → i < 64 → Gathers (l ++ (e ∷ [])) rules (addS s i)
-  gathers-item i q k = gathers-more (λ x h. member-add s i x (omega arith) ∙ ap (λ (b : Bool). b || member s x) (same x (ℕ-discrete x i)))
-    where
-      same : (x : ℕ) → Dec (x ≡ i) → eqb x i ≡ eqb (rules + x) e
-      same x (yes p) = eq-eqb x i p ∙ sym (eq-eqb (rules + x) e (omega arith))
-      same x (no d) = ne-eqb x i d ∙ sym (ne-eqb (rules + x) e (λ p. d (omega arith)))
+  gathers-item i q k = gathers-more (λ x h. member-add s i x (omega arith) ∙ ap (λ (b : Bool). b || member s x) (same-line rules i e x q))
 
 module _ (bs : List ℕ) {l : List ℕ} {s : LineSet} (g : Gathers l (ruleCount bs) s) (sure i : ℕ) (h : i < 64) where
-  pub mark-by : markBy bs s sure i ≡ markOf bs (wordItems (ruleCount bs) sure) l i
+  pub mark-by : markBy bs s sure i ≡ markOf bs (wordItems bs sure) l i
   unfolding markBy markOf wordItems
   mark-by = let e : ruleCount bs + i - ruleCount bs ≡ i = omega arith in rw (g .line i h, e)
 
-  pub fault-by : (marks : List ℕ) → faultBy bs s sure marks i ≡ markFault bs (wordItems (ruleCount bs) sure) l marks i
+  pub fault-by : (marks : List ℕ) → faultBy bs s sure marks i ≡ markFault bs (wordItems bs sure) l marks i
   unfolding faultBy markFault
   fault-by marks = rw mark-by

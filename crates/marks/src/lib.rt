@@ -10,7 +10,7 @@ ghost use mathlib.Core.Bool.{cond};
 ghost use mathlib.Core.List.{List, [], _∷_, _++_};
 ghost use Prim.Native.Nat.{ℕ, _≤_, _<_};
 ghost use lib.ListN.{length, take, drop};
-ghost use Rattle.card.specs.Format.{ruleCount, lineCount};
+ghost use Rattle.card.specs.Format.{lineCount};
 ghost use Rattle.card.specs.Verdict.{told, firstOf};
 ghost use Rattle.card.specs.Inner.Checks.{Framed};
 ghost use Rattle.card.specs.Sheet.{marksOf};
@@ -88,7 +88,7 @@ pub fn write_marks(card: &[u8], steps: &[u8; 255], k: usize, sure: u64, marks: &
     requires { ⌜ k ≤ 255 ⌝ }
     requires { ⌜ lineCount (now card) ≤ length (now marks) ⌝ }
     ensures { λ _. ⌜ now (marks .exit)
-        ≡ marksOf (now (card .entry)) (wordItems (ruleCount (now (card .entry))) sure) (take k (now (steps .entry)))
+        ≡ marksOf (now (card .entry)) (wordItems (now (card .entry)) sure) (take k (now (steps .entry)))
         ++ drop (lineCount (now (card .entry))) (now (marks .entry)) ⌝ }
 {
     let p = byte(card, 3);
@@ -119,7 +119,7 @@ pub fn marks_check(card: &[u8], steps: &[u8], k: usize, sure: u64, marks: &[u8])
     requires { ⌜ lineCount (now card) ≤ length (now marks) ⌝ }
     ensures { λ r. ⌜ told r
         ≡ firstOf (lineCount (now (card .entry)))
-        (markFault (now (card .entry)) (wordItems (ruleCount (now (card .entry))) sure) (take k (now (steps .entry))) (now (marks .entry))) ⌝ }
+        (markFault (now (card .entry)) (wordItems (now (card .entry)) sure) (take k (now (steps .entry))) (now (marks .entry))) ⌝ }
 {
     let p = byte(card, 3);
     let t = byte(card, 4);

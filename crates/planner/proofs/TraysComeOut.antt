@@ -41,7 +41,8 @@ all-come : EachComes trays × EachComes samples
 unfolding _⋀_ kinds kindOf given fitsField partHeight held readBy
     firstFault frontFault inRange isGoal isClause goalPart clausePart wellBuilt heightStep heightAt nodeFault goalFault
     ruleFault lineFault lineGood refuse _▹_ firstOf grow listing scopeOf jobOf readStep readAt goalAt clauseOf ruleEntry lineEntry linesWith
-    marksOf markOf stands inTurn taken usedFirst goalSurely entrySurely nameSurely surelyOf residual matched ∅ _∪_ _∩_ _∖_ only size entryAt clauseAt linearAt residualAt extend lend flatMap kept pairs below
+    marksOf markOf stands inTurn taken usedFirst goalSurely entrySurely nameSurely surelyOf residual matched ∅ _∪_ _∩_ _∖_ only size entryAt
+    clauseAt linearAt residualAt extend lend flatMap kept pairs below
     all apart covering tensored sided lent spent sideTaken takings named fitting lists matches among leads
 all-come = (
   planned-by refl refl refl refl

@@ -6,7 +6,7 @@ use native.Mathlib.Omega.{arith}
 use lib.ListN.{length, take, drop}
 use lib.Seq.{length-take-le}
 use Rattle.calculus.specs.Job.{First, surelyUsed}
-use Rattle.card.specs.Format.{ruleCount, lineCount, stepLimit}
+use Rattle.card.specs.Format.{lineCount, stepLimit}
 use Rattle.card.specs.Fault.{Sound}
 use Rattle.card.specs.Decode.{jobOf}
 use Rattle.card.specs.Sheet.{sheetOf}
@@ -39,10 +39,10 @@ module _ (bs steps : List ℕ) (k : ℕ) (size : length steps ≡ 255) (few : k 
 
   pub sheet-planned : (old new : List ℕ) → Sound bs → roomOf bs ≤ length old
       → {sure : ℕ} → SureLines bs (take k steps) sure
-      → new ≡ sheetOf bs (wordItems (ruleCount bs) sure) (take k steps) ++ drop (5 + k + lineCount bs) old → Planning bs old (planned k) new
+      → new ≡ sheetOf bs (wordItems bs sure) (take k steps) ++ drop (5 + k + lineCount bs) old → Planning bs old (planned k) new
   sheet-planned old new s r {sure} c e =
       let l = take k steps in
       let U = surelyUsed (f .listed) in
       let p : Planning bs old (planned (length l)) (sheetOf bs U l ++ drop (5 + length l + lineCount bs) old) = planned-as s r l f in
-      let same = sheet-same bs l (wordItems (ruleCount bs) sure) U (word-lines bs l c (f .listed)) in
+      let same = sheet-same bs l (wordItems bs sure) U (word-lines bs l c (f .listed)) in
       subst (Planning bs old (planned k)) (sym (rw same at e)) (rw is-count at p)

@@ -11,7 +11,7 @@ use Rattle.calculus.specs.Job.{Listed as ListOf, surelyUsed}
 use Rattle.card.specs.declared.Checked.{Checked}
 use Rattle.card.specs.declared.Checked.the-variants.{Sound as SoundCard, Refused as RefusedCard}
 use Rattle.card.specs.declared.Refusal.{Refusal}
-use Rattle.card.specs.Format.{byteAt, ruleCount, lineCount}
+use Rattle.card.specs.Format.{byteAt, lineCount}
 use Rattle.card.specs.Verdict.{Verdict, Where, sound, fault, mark, refuse, _▹_, firstOf, told, steps, whereOf}
 use Rattle.card.specs.Fault.{Sound}
 use Rattle.card.specs.Decode.{jobOf}
@@ -100,7 +100,7 @@ module _ {bs sh : List ℕ} {k : ℕ} (c : Fits bs sh k) where
         wrong (follows x) p = let z : _≡_ {A = ℕ} 0 1 = cc in absurd (omega arith)
 
   module _ (a : Checked) {sure : ℕ}
-      (t : told a ≡ firstOf (lineCount bs) (markFault bs (wordItems (ruleCount bs) sure) (take k (take (length sh - 5) (drop 5 sh)))
+      (t : told a ≡ firstOf (lineCount bs) (markFault bs (wordItems bs sure) (take k (take (length sh - 5) (drop 5 sh)))
       (take (length sh - (5 + k)) (drop (5 + k) sh))))
       (x : ListOf (jobOf bs) (stepsOf sh)) (g : SureLines bs (stepsOf sh) sure) where
     told-marks : told a ≡ marksFault bs (surelyUsed x) sh
@@ -108,7 +108,7 @@ module _ {bs sh : List ℕ} {k : ℕ} (c : Fits bs sh k) where
     told-marks =
         t ∙ rw (lent-steps, lent-marks, c .count)
         (first-same (lineCount bs) (λ i h. ap (λ m. refuse (not (eqb (byteAt (marksIn sh) i) m)) 14 (mark i))
-        (mark-same bs (stepsOf sh) (wordItems (ruleCount bs) sure) (surelyUsed x) (word-lines bs (stepsOf sh) g x) i h)))
+        (mark-same bs (stepsOf sh) (wordItems bs sure) (surelyUsed x) (word-lines bs (stepsOf sh) g x) i h)))
 
     pub found-mark : (r : Refusal) (n : ℕ) {y : ReadVerdict} → a ≡ RefusedCard r → y ≡ answerOf accepted refused (told a) n → Reading bs sh y
     found-mark r n e q =

@@ -8,13 +8,13 @@ use mathlib.Core.Bool.{Bool, true, false, not, _&&_, _||_}
 use mathlib.Core.List.{List}
 use lib.Dec.{leb, ltb, eqb}
 use borrow.Author.Tests.{le-leb, leb-true, leb-false, lt-ltb, le-ltb, ltb-true, ltb-false, eq-eqb, ne-eqb, not-false}
-use Rattle.calculus.specs.Items.{Items, ∅, _∪_, _∖_, only, Empty}
+use Rattle.calculus.specs.Items.{∅, _∪_, _∖_, only, Empty}
 use Rattle.calculus.specs.Steps.{stands}
 use Rattle.calculus.specs.Job.{Listed, surelyUsed}
 use Rattle.lines.specs.declared.LineSet.{LineSet}
 use Rattle.lines.specs.Inner.Set.{bitAt, member, isEmptyS, emptyS, fullS, addS, takeS, cutS, meetS, joinS, Words}
 use Rattle.lines.specs.Inner.Count.{bit}
-use Rattle.lines.proofs.MemberLaws.{member-past, member-empty, member-full, member-join, member-meet, member-cut, member-add, member-take}
+use Rattle.lines.proofs.MemberLaws.{member-empty, member-full, member-join, member-meet, member-cut, member-add, member-take}
 use Rattle.lines.proofs.MemberLaws.{empty-none, none-empty}
 use Rattle.card.specs.Format.{ruleCount, lineCount, nodeCount, lineNode, lineByte}
 use Rattle.card.specs.Fault.{Sound, clausePart, lineFault, lineGood}
@@ -233,9 +233,17 @@ module _ {bs : List ℕ} (s : Sound bs) where
   unfolding strictOf
   strict-past i h = strict-member bs (lineCount bs) i lines-few ∙ rw (le-ltb i (lineCount bs) h) refl
 
+-- line x is the entry P + x, by item or by entry
+pub same-line : (P i e x : ℕ) → e ≡ P + i → eqb x i ≡ eqb (P + x) e
+same-line P i e x q = at (ℕ-discrete x i)
+  where
+    at : Dec (x ≡ i) → eqb x i ≡ eqb (P + x) e
+    at (yes p) = eq-eqb x i p ∙ sym (eq-eqb (P + x) e (omega arith))
+    at (no d) = ne-eqb x i d ∙ sym (ne-eqb (P + x) e (λ p. d (omega arith)))
+
 -- the lines of a word at their entries
 pub word-lines : (bs l : List ℕ) {word : ℕ} → SureLines bs l word → (x : Listed (jobOf bs) l) (i : ℕ) → i < lineCount bs
-    → stands (ruleCount bs + i) l ≡ true → wordItems (ruleCount bs) word (ruleCount bs + i) ≡ surelyUsed x (ruleCount bs + i)
+    → stands (ruleCount bs + i) l ≡ true → wordItems bs word (ruleCount bs + i) ≡ surelyUsed x (ruleCount bs + i)
 unfolding wordItems
 word-lines bs l {word} s x i h t =
     let e : ruleCount bs + i - ruleCount bs ≡ i = omega arith in

@@ -4,7 +4,7 @@ ghost use mathlib.Core.Path.{_≡_};
 ghost use mathlib.Core.List.{_∷_, _++_};
 ghost use Prim.Native.Nat.{_+_, _≤_};
 ghost use lib.ListN.{length, take, drop};
-ghost use Rattle.card.specs.Format.{ruleCount, lineCount};
+ghost use Rattle.card.specs.Format.{lineCount};
 ghost use Rattle.card.specs.Inner.Checks.{Framed};
 ghost use Rattle.card.specs.Sheet.{word, sheetOf};
 ghost use Rattle.scope.specs.Inner.Sets.{wordItems};
@@ -47,7 +47,7 @@ pub fn write(card: &[u8], steps: &[u8; 255], k: usize, sure: u64, sheet: &mut [u
     requires { ⌜ k ≤ 255 ⌝ }
     requires { ⌜ 5 + k + lineCount (now card) ≤ length (now sheet) ⌝ }
     ensures { λ _. ⌜ now (sheet .exit)
-        ≡ sheetOf (now (card .entry)) (wordItems (ruleCount (now (card .entry))) sure) (take k (now (steps .entry)))
+        ≡ sheetOf (now (card .entry)) (wordItems (now (card .entry)) sure) (take k (now (steps .entry)))
         ++ drop (5 + k + lineCount (now (card .entry))) (now (sheet .entry)) ⌝ }
 {
     let t = byte(card, 4);

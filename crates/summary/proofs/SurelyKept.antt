@@ -1,16 +1,16 @@
 -- Each change of a summary keeps the lines surely used: none, those of either part, those of both sides, and one more.
 use Prim.Native.Nat.{ℕ, _+_, _-_, _^_, _≤_, _<_}
 use native.Mathlib.Omega.{arith}
-use native.Mathlib.Decide.{ℕ-discrete}
 use mathlib.Core.Path.{_≡_, refl, sym, _∙_, ap, ap₂}
 use mathlib.Core.Bool.{Bool, true, false, cond, _&&_, _||_, or-comm}
 use lib.Bits.{bitAnd, bitOr}
 use lib.Dec.{eqb, ltb}
-use borrow.Author.Tests.{eq-eqb, ne-eqb, ltb-false}
+use borrow.Author.Tests.{ne-eqb, ltb-false}
 use Rattle.calculus.specs.Items.{Items, ∅, _∪_, _∩_, only}
 use Rattle.lines.specs.Inner.Set.{bitAt}
 use Rattle.lines.proofs.Word.{bit-zero, bit-or, bit-and, bit-pow}
 use Rattle.scope.specs.Inner.Sets.{LinesOf}
+use Rattle.scope.proofs.SetsAreItems.{same-line}
 use Rattle.summary.specs.Inner.Values.{withLine}
 
 pub none-sure : (P : ℕ) → LinesOf P 0 ∅
@@ -30,13 +30,9 @@ pub using-sure : {P s e : ℕ} {U : Items} → P ≤ e → LinesOf P s U → Lin
 unfolding _∪_ only withLine
 using-sure {P} {s} {e} {U} low p = record { line = λ x h. at x h (ltb (e - P) 64) refl }
   where
-    same : (x : ℕ) → Dec (x ≡ e - P) → eqb x (e - P) ≡ eqb (P + x) e
-    same x (yes q) = eq-eqb x (e - P) q ∙ sym (eq-eqb (P + x) e (omega arith))
-    same x (no d) = ne-eqb x (e - P) d ∙ sym (ne-eqb (P + x) e (λ q. d (omega arith)))
-
     at : (x : ℕ) → x < 64 → (b : Bool) → ltb (e - P) 64 ≡ b → bitAt (cond b (bitOr s (2 ^ (e - P))) s) x ≡ (eqb (P + x) e || U (P + x))
     at x h true k =
         bit-or s (2 ^ (e - P)) x ∙ or-comm (bitAt s x) (bitAt (2 ^ (e - P)) x)
-        ∙ ap₂ _||_ (bit-pow (e - P) x ∙ same x (ℕ-discrete x (e - P))) (p .line x h)
+        ∙ ap₂ _||_ (bit-pow (e - P) x ∙ same-line P (e - P) e x (omega arith)) (p .line x h)
     at x h false k =
         p .line x h ∙ ap (λ (b : Bool). b || U (P + x)) (sym (ne-eqb (P + x) e (λ q. let z = ltb-false (e - P) 64 k in omega (arith, q, z))))

@@ -12,7 +12,7 @@ use summary::Branch;
 use summary::Summary;
 use summary::Walked;
 ghost use mathlib.Core.Bool.{false, not};
-ghost use mathlib.Core.Logic.{_⊎_};
+ghost use mathlib.Core.Logic.{_↔_, _⊎_};
 ghost use mathlib.Core.Path.{_≡_};
 ghost use Prim.Native.Nat.{_≤_};
 ghost use lib.Dec.{eqb};
@@ -155,7 +155,7 @@ pub fn steps_check(card: &[u8], steps: &[u8], k: usize) -> Followed
 // Whether some node of the card is of kind k.
 fn has_kind(card: &[u8], k: usize) -> bool
     requires { ⌜ Sound (now card) ⌝ }
-    ensures { λ r. ⌜ (r ≡ false → NoKind (now (card .entry)) k) ⌝ }
+    ensures { λ r. ⌜ (r ≡ false) ↔ NoKind (now (card .entry)) k ⌝ }
 {
     let n = word(card, 5);
     let mut i = 0;
@@ -171,7 +171,7 @@ fn has_kind(card: &[u8], k: usize) -> bool
 // Whether a list of the card may use a line one way only: there is an "either way", and a "rest" that can leave the line.
 fn may_differ(card: &[u8]) -> bool
     requires { ⌜ Sound (now card) ⌝ }
-    ensures { λ r. ⌜ (r ≡ false → NoKind (now (card .entry)) 5 ⊎ NoKind (now (card .entry)) 2) ⌝ }
+    ensures { λ r. ⌜ (r ≡ false) ↔ (NoKind (now (card .entry)) 5 ⊎ NoKind (now (card .entry)) 2) ⌝ }
 {
     if !has_kind(card, 5) {
         return false;

@@ -3,7 +3,7 @@ use Prim.Native.Nat.{_≤_, _-_, _<_}
 use native.Mathlib.Omega.{arith}
 use mathlib.Core.Path.{_≡_, refl, sym}
 use lib.ListN.{take}
-use Rattle.card.specs.Format.{ruleCount, lineCount}
+use Rattle.card.specs.Format.{lineCount}
 use Rattle.card.specs.Verdict.{firstOf, sound, told}
 use Rattle.card.proofs.CardChecked.{refused-at, passed-at}
 use Rattle.scope.specs.Inner.Sets.{wordItems}
@@ -14,7 +14,7 @@ use Rattle.marks.proofs.marks_check.Tie as tie
 
 abbrev Inv-loop : tie.InvT-loop
 Inv-loop card steps k sure marks p t used i₀ i =
-    (i ≤ t) × (firstOf i (markFault card (wordItems (ruleCount card) sure) (take k steps) marks) ≡ sound)
+    (i ≤ t) × (firstOf i (markFault card (wordItems card sure) (take k steps) marks) ≡ sound)
 
 abbrev μ-loop : tie.MeasureT-loop
 μ-loop card steps k sure marks p t used i₀ i = t - i
@@ -30,7 +30,7 @@ below c = omega (arith, c .loop-test .taken, c .before .before .before .byte2 .e
 -- what the check of a mark tells, of the list
 fault : (c : tie.After-mark-check Inv-loop μ-loop) → told (c .mark-check .result)
     ≡ markFault (start (c .before .before) .args .card .now)
-    (wordItems (ruleCount (start (c .before .before) .args .card .now)) (start (c .before .before) .args .sure))
+    (wordItems (start (c .before .before) .args .card .now) (start (c .before .before) .args .sure))
     (take (start (c .before .before) .args .k) (start (c .before .before) .args .steps .now))
     (start (c .before .before) .args .marks .now) (c .before .before .loop .i)
 fault c =

@@ -15,7 +15,7 @@ use Rattle.marks.proofs.write_marks.Tie as tie
 
 abbrev Inv-loop : tie.InvT-loop
 Inv-loop card steps k sure marks₀ p t used i₀ marks i =
-    (i ≤ t) × (marks ≡ listing i (markOf card (wordItems (ruleCount card) sure) (take k steps)) ++ drop i marks₀)
+    (i ≤ t) × (marks ≡ listing i (markOf card (wordItems card sure) (take k steps)) ++ drop i marks₀)
 
 abbrev μ-loop : tie.MeasureT-loop
 μ-loop card steps k sure marks₀ p t used i₀ marks i = t - i
@@ -26,7 +26,7 @@ start c = c .before .before .before .before .before .before .before
 
 -- the marks asked for
 abbrev asked : (c : tie.At-loop Inv-loop μ-loop) → ℕ → ℕ
-asked c = let s = start c .args in markOf (s .card .now) (wordItems (ruleCount (s .card .now)) (s .sure)) (take (s .k) (s .steps .now))
+asked c = let s = start c .args in markOf (s .card .now) (wordItems (s .card .now) (s .sure)) (take (s .k) (s .steps .now))
 
 -- the set has the lines of the list
 gathered : (c : tie.At-loop Inv-loop μ-loop)

@@ -1,7 +1,7 @@
 -- Line sets as sets of items, the must lines of a card as a line set, and the lines surely used as a word.
 use Prim.Native.Nat.{ℕ, zero, suc, _+_, _-_, _<_}
 use mathlib.Core.Path.{_≡_}
-use mathlib.Core.Bool.{Bool, true, false, _&&_}
+use mathlib.Core.Bool.{true, false, _&&_}
 use mathlib.Core.List.{List}
 use lib.Dec.{leb, eqb}
 use Rattle.calculus.specs.Items.{Items}
@@ -24,9 +24,9 @@ strictBelow bs (suc n) = elim (eqb (lineByte bs n) 1) [ true ↦ addS (strictBel
 unfoldable pub strictOf : List ℕ → LineSet
 strictOf bs = strictBelow bs (lineCount bs)
 
--- the lines of a word as items: line x is bit x
-unfoldable pub wordItems : ℕ → ℕ → Items
-wordItems P word e = bitAt word (e - P)
+-- the lines of a word as items of the card: line x is bit x
+unfoldable pub wordItems : List ℕ → ℕ → Items
+wordItems bs word e = bitAt word (e - ruleCount bs)
 
 -- Of the lines, of which a card has at most 64, the word has just those that are in the set.
 pub record LinesOf (P word : ℕ) (U : Items) : Type 0 where

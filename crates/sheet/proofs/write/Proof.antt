@@ -3,7 +3,7 @@ use native.Mathlib.Omega.{arith}
 use lib.ListN.{length, take}
 use lib.Seq.{length-take-le}
 use borrow.Author.Needs.{needs}
-use Rattle.card.specs.Format.{ruleCount, lineCount}
+use Rattle.card.specs.Format.{lineCount}
 use Rattle.card.specs.Sheet.{marksOf}
 use Rattle.scope.specs.Inner.Sets.{wordItems}
 use Rattle.sheet.proofs.SheetWritten.{part-back, whole-sheet}
@@ -58,7 +58,7 @@ returns c =
     let at-t = at-front .before .before in
     let start = at-t .before .before .before in
     let s = start .args in
-    let U = wordItems (ruleCount (s .card .now)) (s .sure) in
+    let U = wordItems (s .card .now) (s .sure) in
     let l = take (s .k) (s .steps .now) in
     let front = at-front .write-front in
     let steps = at-steps .write-steps in

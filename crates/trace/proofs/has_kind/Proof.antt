@@ -2,7 +2,7 @@
 use Prim.Native.Nat.{ℕ, _-_, _≤_, _<_}
 use native.Mathlib.Omega.{arith}
 use native.Mathlib.Nat.{eq-or-lt-of-le}
-use mathlib.Core.Path.{_≡_, sym, _∙_, ap}
+use mathlib.Core.Path.{_≡_, refl, sym, _∙_, ap}
 use mathlib.Core.Bool.{false≢true}
 use mathlib.Core.Logic.{⊎-elim}
 use Rattle.card.specs.Format.{kindAt}
@@ -30,7 +30,15 @@ kind-requires c κs =
     node-here (at-word .before .before .pre) (turn .loop .i) (omega (arith, c .loop-test .taken, at-word .word .ensures .0))
 
 returns : tie.Need-returns Inv-loop μ-loop
-returns c e = absurd (false≢true (sym e))
+returns c =
+    let at-kind = c .before in
+    let turn = at-kind .before .before in (
+      λ e. absurd (false≢true (sym e)),
+      λ n. absurd (
+          n .none (turn .loop .i) (omega (arith, at-kind .before .loop-test .taken, turn .before .word .ensures .0))
+          (sym (at-kind .kind .ensures .0) ∙ c .if1 .taken)
+          ),
+    )
 
 add-i : tie.Need-add-i Inv-loop μ-loop
 add-i c =
@@ -52,9 +60,11 @@ loop-again c =
     )
 
 returns-2 : tie.Need-returns-2 Inv-loop μ-loop
-returns-2 c e =
-    let turn = c .before in
-    record { none = λ j h. turn .loop .inv .1 j (omega (arith, c .loop-test .left, turn .before .word .ensures .0)) }
+returns-2 c =
+    let turn = c .before in (
+      λ e. record { none = λ j h. turn .loop .inv .1 j (omega (arith, c .loop-test .left, turn .before .word .ensures .0)) },
+      λ n. refl,
+    )
 
 pub has-kind-spec : {M : Type 1} → statement M
 has-kind-spec =

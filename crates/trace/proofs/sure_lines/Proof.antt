@@ -21,7 +21,7 @@ may-differ-requires c κs = c .before .before .pre .0
 returns : tie.Need-returns
 returns c =
     let s = c .before .before .before .before in
-    let none = c .before .may-differ .ensures (not-true _ (c .if1 .taken)) in
+    let none = c .before .may-differ .ensures .0 (not-true _ (c .if1 .taken)) in
     let f = sound-front _ (s .pre .0) in
     record {
       lines = λ x i h t. bit-ones 64 i ∙ lt-ltb i 64 (omega (arith, f .lines)) ∙ sym (lines-sure (s .pre .0) x i h t none);
