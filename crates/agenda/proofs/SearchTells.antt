@@ -8,12 +8,12 @@ use mathlib.Core.Bool.{Bool, true, false, cond, not, _||_, _&&_, false≢true}
 use mathlib.Core.List.{List, [], _∷_, _++_, append-nil, head-eq-of-cons-eq, tail-eq-of-cons-eq}
 use lib.ListN.{length, length-append}
 use Rattle.calculus.specs.Formula.{Goal, Clause, atomᴳ, topᴳ, with, oplus, lolliᴳ, usable}
-use Rattle.calculus.specs.Items.{Items, ∅, _∪_, _∖_, only, Empty, Within}
+use Rattle.calculus.specs.Items.{Items, ∅, _∪_, _∩_, _∖_, only, Empty, Within}
 use Rattle.calculus.specs.Derivation.{Scope, Entry, size, clauseAt, linearAt, residualAt, lend}
 use Rattle.calculus.specs.Steps.{leftChoice, rightChoice, Before, here, there}
 use Rattle.calculus.specs.Inner.Summary.{Without, spare, Covers, Sum, sum-⊸, Bounded}
-use Rattle.calculus.proofs.SetLaws.{covers, within-trans, empty-∅, empty-within, ∪-joins, join-left, join-right, only-without, only-plus}
-use Rattle.calculus.proofs.SetLaws.{∅-∪-within, ∪-swap, ∖-spread, ∖-gather, lent-within, lent-covers, lent-used}
+use Rattle.calculus.proofs.SetLaws.{all-used, spare-lend, within-covers, within-trans, empty-∅, empty-within, ∪-joins, join-left, join-right, only-without, only-plus}
+use Rattle.calculus.proofs.SetLaws.{table, _≐_, _⟹_, _⊑_, ∪-swap, ∖-spread, ∖-gather, lent-within, lent-covers, lent-used}
 use Rattle.calculus.proofs.SetLaws.{relend-within, relend-covers, used-out, used-within, used-covers, before-use-at}
 use Rattle.calculus.proofs.SetLaws.{before-use-within, before-use-covers}
 use Rattle.calculus.proofs.SummaryExact.{bounded-within, fresh}
@@ -30,8 +30,8 @@ use Rattle.agenda.proofs.ListsOrdered.{floor-on, chosen-left, chosen-ri
 use Rattle.agenda.proofs.WindowsDivide.{Parted, Divides, behind-divides, either-divides}
 
 -- The empty agenda is in the window if no strict item is left.
-no-strict : {S L U : Items} {v : Bool} → Empty U → v ≡ false → InWindow S L U v → (i : ℕ) → S i ≡ true → ⊥
-no-strict e h w i s = ⊎-elim (λ t. false≢true (sym h ∙ t)) (λ k. false≢true (sym (e .vacant i) ∙ k .kept i s)) (w .all-strict)
+no-strict : {es : Scope} {S L U : Items} {v : Bool} → Empty U → v ≡ false → InWindow es S L U v → (i : ℕ) → S i ≡ true → ⊥
+no-strict {es} {v} e h w i s = false≢true (sym (e .vacant i) ∙ all-used es v h (w .all-strict) .kept i s)
 
 -- An entry whose head fits stands in the scope.
 in-scope : (a : ℕ) (es : Scope) (e : ℕ) → usable (es .fits) a (clauseAt es e) ≡ true → e < size es
@@ -61,40 +61,40 @@ past-use {es} {a} {n} {A} {e} {m} {U} {v} u =
     }
 
 -- the entry used is a rule or at hand
-at-hand : {es : Scope} {e : ℕ} {S L U W : Items} {v : Bool} → Takes es e U W → InWindow S L U v → (not (linearAt es e) || (S ∪ L) e) ≡ true
+at-hand : {es : Scope} {e : ℕ} {S L U W : Items} {v : Bool} → Takes es e U W → InWindow es S L U v → (not (linearAt es e) || (S ∪ L) e) ≡ true
 at-hand (takes-rule r) w = rw r
 at-hand (takes-item r h p) w = rw r (before-use-at p (w .within))
 
 -- the window past a use, and back
-window-past : {es : Scope} {e : ℕ} {S L U W : Items} {v : Bool} → Takes es e U W → InWindow S L U v
-    → InWindow (spent es e S) (spent es e L) W v
+window-past : {es : Scope} {e : ℕ} {S L U W : Items} {v : Bool} → Takes es e U W → InWindow es S L U v
+    → InWindow es (spent es e S) (spent es e L) W v
 unfolding spent
 window-past (takes-rule r) w = rw r w
 window-past {es} {e} {S} {L} (takes-item r h p) w = rw r (record {
   within = within-trans (before-use-within p h (w .within)) (∖-spread S L (only e));
-  all-strict = covers es .1 (before-use-covers p (covers es .0 (w .all-strict)));
+  all-strict = (before-use-covers p ((w .all-strict)));
 })
 
 -- what a use takes in all
 record Taken (es : Scope) (e : ℕ) (S L W : Items) (v : Bool) : Type 0 where
   takes : Takes es e (spending es e W) W
-  window : InWindow S L (spending es e W) v
+  window : InWindow es S L (spending es e W) v
 
 taken-by : {es : Scope} {e : ℕ} (S L W : Items) {v : Bool} (b : Bool) → linearAt es e ≡ b → (not b || (S ∪ L) e) ≡ true
-    → InWindow (cond b (S ∖ only e) S) (cond b (L ∖ only e) L) W v
-    → Takes es e (cond b (W ∪ only e) W) W × InWindow S L (cond b (W ∪ only e) W) v
+    → InWindow es (cond b (S ∖ only e) S) (cond b (L ∖ only e) L) W v
+    → Takes es e (cond b (W ∪ only e) W) W × InWindow es S L (cond b (W ∪ only e) W) v
 taken-by {es} {e} S L W true r h w =
     let out : Within W ((S ∪ L) ∖ only e) = within-trans (w .within) (∖-gather S L (only e)) in (
       takes-item r (used-out (S ∪ L) e out) (only-plus W e),
       record {
         within = used-within (S ∪ L) (only-plus W e) h out;
-        all-strict = covers es .1 (used-covers S (only-plus W e) (covers es .0 (w .all-strict)));
+        all-strict = (used-covers S (only-plus W e) ((w .all-strict)));
       },
     )
 taken-by S L W false r h w = (takes-rule r, w)
 
 taken : (es : Scope) (e : ℕ) (S L W : Items) (v : Bool) → (not (linearAt es e) || (S ∪ L) e) ≡ true
-    → InWindow (spent es e S) (spent es e L) W v → Taken es e S L W v
+    → InWindow es (spent es e S) (spent es e L) W v → Taken es e S L W v
 unfolding spent spending
 taken es e S L W v h w = let t = taken-by S L W (linearAt es e) refl h w in record { takes = t .0; window = t .1 }
 
@@ -109,23 +109,39 @@ lent : {n : ℕ} {es : Scope} {D : Clause} {G : Goal} {l : List ℕ} {U : Items}
 lent (sum-⊸ {W} s h x) = record { all = W; rest = s; used = h; sum = x }
 
 window-lent : (es : Scope) {S L U W : Items} {v : Bool} → Without U W (size es)
-    → (spare es v (size es) || W (size es)) ≡ true → InWindow S L U v → InWindow (S ∪ only (size es)) L W v
-window-lent es {S} {L} s h w = record {
+    → (spare es v (size es) || W (size es)) ≡ true → (D : Clause) → InWindow es S L U v → InWindow (lend es D) (S ∪ only (size es)) L W v
+window-lent es {S} {L} {v = v} s h D w = record {
   within = within-trans (relend-within s (w .within)) (∪-swap S L (only (size es)));
-  all-strict = covers es .1 (relend-covers s h (covers es .0 (w .all-strict)));
+  all-strict = spare-lend es D v .1 (relend-covers s h (w .all-strict));
 }
 
-window-lend : (es : Scope) (S L W : Items) {v : Bool} → Bounded es (S ∪ L) → InWindow (S ∪ only (size es)) L W v
-    → ((spare es v (size es) || W (size es)) ≡ true) × InWindow S L (W ∖ only (size es)) v
-window-lend es S L W {v} b w =
-    let c : Covers (spare es v) W (S ∪ only (size es)) = covers es .0 (w .all-strict) in (
+window-lend : (es : Scope) (D : Clause) (S L W : Items) {v : Bool} → Bounded es (S ∪ L) → InWindow (lend es D) (S ∪ only (size es)) L W v
+    → ((spare es v (size es) || W (size es)) ≡ true) × InWindow es S L (W ∖ only (size es)) v
+window-lend es D S L W {v} b w =
+    let c : Covers (spare es v) W (S ∪ only (size es)) = spare-lend es D v .0 (w .all-strict) in (
       lent-used S (size es) c,
       record {
         within = lent-within (S ∪ L) (only-without W (size es)) (within-trans (w .within) (∪-swap S (only (size es)) L));
-        all-strict = covers es .1
-            (lent-covers S (only-without W (size es)) (fresh (bounded-within (join-left (∪-joins S L)) b)) c);
+        all-strict = (lent-covers S (only-without W (size es)) (fresh (bounded-within (join-left (∪-joins S L)) b)) c);
       },
     )
+
+-- The window past a ⊤, and back.
+window-eased : (es : Scope) (w : Bool) {S L U : Items} {v : Bool} → v ≡ true → InWindow es S L U v
+    → InWindow es (S ∖ spare es true) ((S ∩ spare es true) ∪ L) U w
+unfolding spare _∪_ _∩_ _∖_
+window-eased es w {S} {L} {U} {v} h x = record {
+  within = record { kept = λ i. table 3 (λ s l u. u ⊑ s || l ⟹ u ⊑ (s && not true) || ((s && true) || l)) refl (S i) (L i) (U i) (x .within .kept i) };
+  all-strict = record { cover = λ i. table 3 (λ w s u. (s && not true) ⊑ w || u) refl w (S i) (U i) };
+}
+
+window-rest : (es : Scope) (w : Bool) {S L U : Items} → InWindow es (S ∖ spare es true) ((S ∩ spare es true) ∪ L) U w
+    → InWindow es S L U true
+unfolding spare _∪_ _∩_ _∖_
+window-rest es w {S} {L} {U} x = record {
+  within = record { kept = λ i. table 3 (λ s l u. u ⊑ (s && not true) || ((s && true) || l) ⟹ u ⊑ s || l) refl (S i) (L i) (U i) (x .within .kept i) };
+  all-strict = record { cover = λ i. table 2 (λ s u. s ⊑ true || u) refl (S i) (U i) };
+}
 
 -- no list comes after one without steps
 not-after : {l : List ℕ} → Before [] l → ⊥
@@ -134,7 +150,7 @@ not-after b = elim b [ ]
 module _ (eligible : List ℕ → ℕ → Bool) where
   -- the same list in another window of another agenda
   moved : {es fs : Scope} {A B : Agenda} (p : Place) {S L : Items} {l : List ℕ} {U W : Items} {v w : Bool}
-      → Sought eligible es A p l U v → Reads fs B l W w → InWindow S L W w → Sought eligible fs B (holding p S L (p .room)) l W w
+      → Sought eligible es A p l U v → Reads fs B l W w → InWindow fs S L W w → Sought eligible fs B (holding p S L (p .room)) l W w
   moved p s r w = record { reads = r; window = w; short = s .short; chosen = s .chosen; floor = s .floor }
 
   -- An agenda with the same readings is answered alike.
@@ -156,7 +172,7 @@ module _ (eligible : List ℕ → ℕ → Bool) where
   done-solved {es} {p} e f = record {
     sought = record {
       reads = reads-nil f;
-      window = record { within = empty-within f; all-strict = inr (empty-within e) };
+      window = record { within = empty-within f; all-strict = within-covers (empty-within e) };
       short = zero-le;
       chosen = none;
       floor = ends;
@@ -170,32 +186,24 @@ module _ (eligible : List ℕ → ℕ → Bool) where
     none = λ l U v s. let e = reads-empty (s .reads) in no-strict (e .1) (e .2) (s .window) i h;
   }
 
-  -- Rest: what is at hand may all stay over.
+  -- Rest: what is at hand may all stay over but for firm items.
   sought-rest : {es : Scope} (n : ℕ) {A : Agenda} (p : Place) {l : List ℕ} {U : Items} {v : Bool}
-      → Sought eligible es (task topᴳ n ∷ A) p l U v → (w : Bool) × Sought eligible es A (eased p) l U w
+      → Sought eligible es (task topᴳ n ∷ A) p l U v → (w : Bool) × Sought eligible es A (eased es p) l U w
   sought-rest {es} n {A} p {l} {U} {v} s =
-      let r = reads-⊤ es n A l U v .0 (s .reads) in (
-        r .1,
-        moved p s (r .2) (record {
-          within = within-trans (s .window .within) (join-right (∪-joins ∅ (p .strict ∪ p .lax)));
-          all-strict = inr (empty-within empty-∅);
-        }),
-      )
+      let r = reads-⊤ es n A l U v .0 (s .reads) in
+      (r .1, moved p s (r .2) (window-eased es (r .1) (r .0) (s .window)))
 
   -- stuck if the agenda without it is stuck
-  pub rest-none : {es : Scope} {n : ℕ} {A : Agenda} (p : Place) → None eligible es A (eased p) → None eligible es (task topᴳ n ∷ A) p
+  pub rest-none : {es : Scope} {n : ℕ} {A : Agenda} (p : Place) → None eligible es A (eased es p) → None eligible es (task topᴳ n ∷ A) p
   rest-none {n} p h = record { none = λ l U v s. let r = sought-rest n p s in h .none l U (r .0) (r .1) }
 
   -- solved as the agenda without it, with slack
   pub rest-least : {es : Scope} {n : ℕ} {A : Agenda} (p : Place) {l : List ℕ} {U : Items} {v : Bool}
-      → Least eligible es A (eased p) l U v → Least eligible es (task topᴳ n ∷ A) p l U true
+      → Least eligible es A (eased es p) l U v → Least eligible es (task topᴳ n ∷ A) p l U true
   rest-least {es} {n} {A} p {l} {U} {v} h = record {
     sought = record {
       reads = reads-⊤ es n A l U true .1 (refl, v, h .sought .reads);
-      window = record {
-        within = within-trans (h .sought .window .within) (∅-∪-within (p .strict ∪ p .lax));
-        all-strict = inl refl;
-      };
+      window = window-rest es v (h .sought .window);
       short = h .sought .short;
       chosen = h .sought .chosen;
       floor = h .sought .floor;
@@ -464,7 +472,7 @@ module _ (eligible : List ℕ → ℕ → Bool) where
       → (W : Items) × Sought eligible (lend es D) (task G n ∷ []) (lentPlace es p) l W v
   sought-lent {es} {D} {G} {n} p {l} {U} {v} s =
       let r = lent (reads-alone es (task (lolliᴳ D G) n) l U v .0 (s .reads)) in
-      (r .all, moved p s (reads-alone (lend es D) (task G n) l (r .all) v .1 (r .sum)) (window-lent es (r .rest) (r .used) (s .window)))
+      (r .all, moved p s (reads-alone (lend es D) (task G n) l (r .all) v .1 (r .sum)) (window-lent es (r .rest) (r .used) D (s .window)))
 
   -- stuck if its goal is stuck
   pub lend-none : {es : Scope} {D : Clause} {G : Goal} {n : ℕ} (p : Place)
@@ -476,7 +484,7 @@ module _ (eligible : List ℕ → ℕ → Bool) where
       → Bounded es (p .strict ∪ p .lax) → Least eligible (lend es D) (task G n ∷ []) (lentPlace es p) l W v
       → Least eligible es (task (lolliᴳ D G) n ∷ []) p l (W ∖ only (size es)) v
   lend-least {es} {D} {G} {n} p {l} {W} {v} b h =
-      let k = window-lend es (p .strict) (p .lax) W b (h .sought .window) in
+      let k = window-lend es D (p .strict) (p .lax) W b (h .sought .window) in
       record {
         sought = record {
           reads = reads-alone es (task (lolliᴳ D G) n) l (W ∖ only (size es)) v .1

@@ -6,11 +6,11 @@ use mathlib.Core.Path.{_≡_}
 use mathlib.Core.Bool.{Bool}
 use mathlib.Core.List.{List}
 use lib.ListN.{getD}
-use lib.Dec.{eqb}
 use Rattle.lines.specs.declared.LineSet.{LineSet}
 use Rattle.lines.specs.Inner.Set.{joinS}
 use Rattle.card.specs.Format.{ruleCount}
 use Rattle.card.specs.Fault.{Sound}
+use Rattle.card.specs.Decode.{scopeOf}
 use Rattle.scope.specs.Inner.Sets.{items}
 use Rattle.scope.specs.Inner.Tables.{scopeIn, Entered}
 use Rattle.scope.proofs.SetsAreItems.{items-join}
@@ -70,26 +70,26 @@ module _ {bs names t masks : List ℕ} (s : Sound bs) (z : Settled bs names t ma
         → None eligible (scopeIn bs nodes linear n) (agendaOf bs codes len) p
     doomed-none eligible p strict lax e f (long h) =
         let u = least-under 0 (z .some) len g in
-        hopeless-none (OfCard bs) eqb (classOf names 0) (namesOf names t 0) (closed s z 0 (z .some))
+        hopeless-none (OfCard bs) (scopeOf bs .fits) (classOf names 0) (namesOf names t 0) (closed s z 0 (z .some))
         (stock-scoped k) (agenda-lends len g) eligible p (too-long (omega arith))
     doomed-none eligible p strict lax e f (short u) = uneven (u .class) (u .known) (u .uneven)
       where
         uneven : (c : ℕ) → c < classes names → Short bs names t masks nodes codes len n strict lax c
             → None eligible (scopeIn bs nodes linear n) (agendaOf bs codes len) p
         uneven c q (few h) =
-            hopeless-none (OfCard bs) eqb (classOf names c) (namesOf names t c) (closed s z c q)
+            hopeless-none (OfCard bs) (scopeOf bs .fits) (classOf names c) (namesOf names t c) (closed s z c q)
             (stock-scoped k) (agenda-lends len g) eligible p
             (too-few
             (rw (e, f, ← items-join (ruleCount bs) strict lax)
             (omega (arith, stock-counts s z en k c q (joinS strict lax), low-under c q len g))))
         uneven c q (many h m) =
             let u = high-under c q len g h in
-            hopeless-none (OfCard bs) eqb (classOf names c) (namesOf names t c) (closed s z c q)
+            hopeless-none (OfCard bs) (scopeOf bs .fits) (classOf names c) (namesOf names t c) (closed s z c q)
             (stock-scoped k) (agenda-lends len g) eligible p
             (too-many (omega arith) (rw e (omega (arith, stock-counts s z en k c q strict))))
 
     pub spared-leaves : (room r : ℕ) → r ≤ leastSum t codes len → Spares (scopeIn bs nodes linear n) (agendaOf bs codes len) room (room - r)
     spared-leaves room r h =
         let u = least-under 0 (z .some) len g in
-        least-spares (OfCard bs) eqb (classOf names 0) (namesOf names t 0) (closed s z 0 (z .some))
+        least-spares (OfCard bs) (scopeOf bs .fits) (classOf names 0) (namesOf names t 0) (closed s z 0 (z .some))
         (stock-scoped k) (agenda-lends len g) room r (omega arith)

@@ -12,17 +12,17 @@ use borrow.Author.Tests.{eqb-true, ne-eqb, leb-true}
 use Rattle.calculus.specs.Formula.{Goal, Clause, atomᴳ, topᴳ, oneᴳ, zeroᴳ, tensor, with, oplus, lolliᴳ, atomᴰ, topᴰ, lolliᴰ, withᴰ, usable}
 use Rattle.card.specs.Format.{nodeCount, kindAt, leftAt, rightAt}
 use Rattle.card.specs.Fault.{Sound, goalPart, clausePart}
-use Rattle.card.specs.Decode.{goalAt, clauseOf}
+use Rattle.card.specs.Decode.{goalAt, clauseOf, scopeOf}
 use Rattle.card.proofs.NodesDecoded.{reads-name, reads-rest, reads-done, reads-never}
 use Rattle.card.proofs.SoundNodes.{goal-lower, goal-kind, clause-lower, clause-kind, goal-above, clause-above, name-low, both-parts}
 use Rattle.card.proofs.SoundNodes.{either-parts, one-of-parts, lend-parts, recipe-parts, menu-parts, sound-both, sound-either}
 use Rattle.card.proofs.SoundNodes.{sound-one-of, sound-lend, sound-recipe, sound-menu, usable-name, usable-rest, usable-recipe, usable-menu}
 use Rattle.lines.specs.Inner.Count.{bit}
 use Rattle.bounds.specs.Inner.Count.{Class}
-use Rattle.bounds.specs.Inner.Bound.{Names, off, leastG, lowG, highG, leastD, lowD, highD, Admits, Allows, Settles}
+use Rattle.bounds.specs.Inner.Bound.{Names, off, leastG, lowG, highG, Admits, Allows, Settles}
 use Rattle.bounds.specs.Inner.Bound.{LendsG, LendsD, Closed}
 use Rattle.bounds.specs.Inner.Table.{headOf, menuCode, takesIn, headAt, rowOf, classAt, classes, lowAt, highAt, leastAt, byKind}
-use Rattle.bounds.specs.Inner.Table.{ifRecipe, inClass, headStep, leastStep, lowStep, highStep, leastUse, lowUse, highUse}
+use Rattle.bounds.specs.Inner.Table.{inClass, headStep, leastStep, lowStep, highStep}
 use Rattle.bounds.specs.Inner.Table.{NodeFits, HeadFits, WaysFit, NodeSettled, UseSettled, lent, OfCard, Settled, namesOf, classOf}
 use Rattle.bounds.proofs.GoalsBounded.{off-below}
 
@@ -44,14 +44,6 @@ off-mono h g b p k =
     at true e d = absurd (omega (arith, leb-true 255 g e, off-below h b k .0, p (off-below h b k .0)))
     at false e d = omega (arith, p (off-below h b k .0))
 
-as-recipe : (bs : List ℕ) (i : ℕ) → kindAt bs i ≡ 7 → (v : ℕ) → ifRecipe bs i v ≡ v
-unfolding ifRecipe
-as-recipe bs i k v = rw k refl
-
-no-recipe : (bs : List ℕ) (i : ℕ) → (kindAt bs i ≡ 7 → ⊥) → (v : ℕ) → ifRecipe bs i v ≡ 0
-unfolding ifRecipe
-no-recipe bs i k v = rw (ne-eqb (kindAt bs i) 7 k) refl
-
 -- the kinds of goals, one by one
 six : (k : ℕ) (A : Type 0) → 1 ≤ k → k ≤ 6 → (k ≡ 1 → A) → (k ≡ 2 → A) → (k ≡ 3 → A) → (k ≡ 4 → A) → (k ≡ 5 → A) → (k ≡ 6 → A) → A
 six zero A l h a b c d e f = absurd (omega arith)
@@ -67,34 +59,6 @@ goal-kinds : (k : ℕ) (A : Type 0) → (1 ≤ k) × ((k ≤ 6) ⊎ ((k ≡ 8) �
     → (k ≡ 1 → A) → (k ≡ 2 → A) → (k ≡ 3 → A) → (k ≡ 4 → A) → (k ≡ 5 → A) → (k ≡ 6 → A) → (k ≡ 8 → A) → (k ≡ 9 → A) → A
 goal-kinds k A g a b c d e f one-of never = ⊎-elim (λ h. six k A (g .0) h a b c d e f) (⊎-elim one-of never) (g .1)
 
--- a clause without a menu that can be used for a name has it for its head
-usable-head : (a : ℕ) (D : Clause) → headOf D < 1002 → usable eqb a D ≡ true → headOf D ≡ a
-unfolding usable headOf menuCode
-usable-head a (atomᴰ b) m h = eqb-true b a h
-usable-head a topᴰ m h = absurd (false≢true h)
-usable-head a (lolliᴰ G D) m h = usable-head a D m h
-usable-head a (withᴰ D E) m h = absurd (omega arith)
-
--- of a clause without a menu, the conditions up to its head
-one-head : (K : Class) (T : Names) (a : ℕ) (D : Clause) (u v w : ℕ) → headOf D < 1002
-    → (usable eqb a D ≡ true → Admits K T a (u + leastD K T D) (v + lowD K T D) (w + highD K T D)) → Allows K T eqb a D u v w
-unfolding Allows usable headOf menuCode leastD lowD highD
-one-head K T a (atomᴰ b) u v w m g =
-    λ e.
-    let x = g e in
-    record { least = omega (arith, x .least); low = omega (arith, x .low); high = λ h. omega (arith, x .high h) }
-one-head K T a topᴰ u v w m g = tt
-one-head K T a (lolliᴰ G D) u v w m g =
-    one-head K T a D (u + leastG K T G) (v + lowG K T G) (w + highG K T G) m
-    (λ e.
-    let x = g e in
-    record { least = omega (arith, x .least); low = omega (arith, x .low); high = λ h. omega (arith, x .high h) })
-one-head K T a (withᴰ D E) u v w m g = absurd (omega arith)
-
-either-true : (b c : Bool) → (b || c) ≡ true → (b ≡ true) ⊎ (c ≡ true)
-either-true true c h = inl refl
-either-true false c h = inr h
-
 -- the bounds at the node are bounds of the goal, of the clause's conditions
 abbrev pub GoalUnder : List ℕ → List ℕ → ℕ → ℕ → Goal → Type 0
 GoalUnder names t c j G =
@@ -102,26 +66,15 @@ GoalUnder names t c j G =
     let T = namesOf names t c in
     Under (leastAt t j) (lowAt t j c) (highAt t j c) (leastG K T G) (lowG K T G) (highG K T G)
 
-abbrev ClauseUnder : List ℕ → List ℕ → List ℕ → ℕ → ℕ → Clause → Type 0
-ClauseUnder bs names t c j D =
-    let K = classOf names c in
-    let T = namesOf names t c in
-    Under (ifRecipe bs j (leastAt t j)) (ifRecipe bs j (lowAt t j c)) (ifRecipe bs j (highAt t j c))
-    (leastD K T D) (lowD K T D) (highD K T D)
-
 -- the bounds of a head take in less
-head-takes : (names t : List ℕ) (c : ℕ) {a b u v w u′ v′ w′ : ℕ} → b ≡ a → u ≤ u′ → v ≤ v′ → (w < 255 → w′ ≤ w)
-    → HeadFits names t b c u v w → Admits (classOf names c) (namesOf names t c) a u′ v′ w′
+head-takes : (names t : List ℕ) (c a : ℕ) {u v w u′ v′ w′ : ℕ} → u ≤ u′ → v ≤ v′ → (w < 255 → w′ ≤ w)
+    → HeadFits names t a c u v w → Admits (classOf names c) (namesOf names t c) a u′ v′ w′
 unfolding namesOf
-head-takes names t c {a} {b} e x y j f =
-    let lo : lowAt t (rowOf names b) c ≡ lowAt t (rowOf names a) c = ap (λ d. lowAt t (rowOf names d) c) e in
-    let hi : highAt t (rowOf names b) c ≡ highAt t (rowOf names a) c = ap (λ d. highAt t (rowOf names d) c) e in
-    let le : leastAt t (rowOf names b) ≡ leastAt t (rowOf names a) = ap (λ d. leastAt t (rowOf names d)) e in
-    record {
-      least = omega (arith, f .least);
-      low = omega (arith, f .low);
-      high = λ m. let g = f .high (omega arith) in omega (arith, j (omega arith));
-    }
+head-takes names t c a x y j f = record {
+  least = omega (arith, f .least);
+  low = omega (arith, f .low);
+  high = λ m. let g = f .high (omega arith) in omega (arith, j (omega arith));
+}
 
 -- One node, from its parts
 module _ (bs names t : List ℕ) (c i : ℕ) (w : NodeSettled bs names t i) (f : NodeFits bs names t i c) where
@@ -214,23 +167,6 @@ module _ (bs names t : List ℕ) (c i : ℕ) (w : NodeSettled bs names t i) (f :
               omega (arith, off-mono (highAt t (rightAt bs i) c) (highG (classOf names c) (namesOf names t c) G) j (y .few) (omega arith));
         }
 
-  module _ (G : Goal) (D : Clause) (x : GoalUnder names t c (leftAt bs i) G) (y : ClauseUnder bs names t c (rightAt bs i) D) where
-    recipe-under : kindAt bs i ≡ 7 → ClauseUnder bs names t c i (lolliᴰ G D)
-    unfolding leastStep lowStep highStep byKind leastD lowD highD
-    recipe-under k =
-        let a : leastStep bs names t i ≡ leastAt t (leftAt bs i) + ifRecipe bs (rightAt bs i) (leastAt t (rightAt bs i)) = rw k refl in
-        let b : lowStep bs names t i c ≡ lowAt t (leftAt bs i) c + ifRecipe bs (rightAt bs i) (lowAt t (rightAt bs i) c) = rw k refl in
-        let d : highStep bs names t i c ≡ highAt t (leftAt bs i) c + ifRecipe bs (rightAt bs i) (highAt t (rightAt bs i) c) = rw k refl in
-        let own = as-recipe bs i k in
-        record {
-          long = omega (arith, w .least, x .long, y .long, own (leastAt t i));
-          some = omega (arith, f .low, x .some, y .some, own (lowAt t i c));
-          few = λ h.
-              let o = own (highAt t i c) in
-              let g = f .high (omega arith) in
-              omega (arith, x .few (omega arith), y .few (omega arith));
-        }
-
 module _ {bs names t masks : List ℕ} (s : Sound bs) (z : Settled bs names t masks) where
   abbrev N : ℕ
   N = nodeCount bs
@@ -286,49 +222,19 @@ module _ {bs names t masks : List ℕ} (s : Sound bs) (z : Settled bs names t ma
         rw (sound-one-of s i low k) (one-of-under bs names t c i w f _ _ (part (leftAt bs i) (g .0)) (part (rightAt bs i) (g .1)) k))
         (λ k. rw (reads-never bs i k) (never-under bs names t c i w f k))
 
-    clause-under : (n i : ℕ) → i < n → clausePart bs N i ≡ true → ClauseUnder bs names t c i (clauseOf bs i)
-    unfolding leastD lowD highD
-    clause-under zero i h p = absurd (omega arith)
-    clause-under (suc n) i h p =
-        let low : i < N = clause-lower bs N i p in
-        let w = z .nodes i low in
-        let f = w .class c q in
-        ⊎-elim
-        (λ k. rw (reads-name bs i k .1) (plain i (λ m. omega arith)))
-        (⊎-elim
-        (λ k. rw (reads-rest bs i k .1) (plain i (λ m. omega arith)))
-        (⊎-elim
-        (λ k.
-        let g = recipe-parts s i low k in
-        let r = clause-lower bs i (rightAt bs i) (g .1) in
-        rw (sound-recipe s i low k)
-        (recipe-under bs names t c i w f (goalAt bs (leftAt bs i)) (clauseOf bs (rightAt bs i))
-        (goal-under (suc (leftAt bs i)) (leftAt bs i) (omega arith) (goal-above bs i (leftAt bs i) N (omega (arith, low)) (g .0)))
-        (clause-under n (rightAt bs i) (omega arith) (clause-above bs i (rightAt bs i) N (omega (arith, low)) (g .1))) k))
-        (λ k. rw (sound-menu s i low k) (plain i (λ m. omega arith)))))
-        (clause-kind bs N i p)
-      where
-        plain : (i : ℕ) → (kindAt bs i ≡ 7 → ⊥)
-            → Under (ifRecipe bs i (leastAt t i)) (ifRecipe bs i (lowAt t i c)) (ifRecipe bs i (highAt t i c)) 0 0 0
-        plain i m = record {
-          long = omega (arith, no-recipe bs i m (leastAt t i));
-          some = omega (arith, no-recipe bs i m (lowAt t i c));
-          few = λ h. omega arith;
-        }
-
     -- every way to a head of a clause, by the table and by the bounds of its conditions
     ways-allow : (a n i : ℕ) → i < n → clausePart bs N i ≡ true → (u v w u′ v′ w′ : ℕ) → u ≤ u′ → v ≤ v′ → (w < 255 → w′ ≤ w)
         → WaysFit bs names t (clauseOf bs i) i c u v w
-        → Allows (classOf names c) (namesOf names t c) eqb a (clauseOf bs i) u′ v′ w′
+        → Allows (classOf names c) (namesOf names t c) (scopeOf bs .fits) a (clauseOf bs i) u′ v′ w′
     unfolding WaysFit Allows
     ways-allow a zero i h p u v w u′ v′ w′ x y j = absurd (omega arith)
     ways-allow a (suc n) i h p u v w u′ v′ w′ x y j =
         let low : i < N = clause-lower bs N i p in
         let part : (k : ℕ) → clausePart bs i k ≡ true → (u v w u′ v′ w′ : ℕ) → u ≤ u′ → v ≤ v′ → (w < 255 → w′ ≤ w)
-        → WaysFit bs names t (clauseOf bs k) k c u v w → Allows (classOf names c) (namesOf names t c) eqb a (clauseOf bs k) u′ v′ w′ =
+        → WaysFit bs names t (clauseOf bs k) k c u v w → Allows (classOf names c) (namesOf names t c) (scopeOf bs .fits) a (clauseOf bs k) u′ v′ w′ =
         λ k g. ways-allow a n k (omega (arith, clause-lower bs i k g)) (clause-above bs i k N (omega (arith, low)) g) in
         ⊎-elim
-        (λ k. rw (reads-name bs i k .1) (λ f e. head-takes names t c (eqb-true (leftAt bs i) a e) x y j f))
+        (λ k. rw (reads-name bs i k .1) (λ f e. head-takes names t c a x y j (f a e)))
         (⊎-elim
         (λ k. rw (reads-rest bs i k .1) (λ f. tt))
         (⊎-elim
@@ -401,66 +307,20 @@ module _ {bs names t masks : List ℕ} (s : Sound bs) (z : Settled bs names t ma
   pub head-is : (i : ℕ) → clausePart bs N i ≡ true → headAt names i ≡ headOf (clauseOf bs i)
   head-is i p = head-at (suc i) i (omega arith) p
 
-  -- a clause of the card can be used but for a name
-  usable-low : (n i : ℕ) → i < n → clausePart bs N i ≡ true → (a : ℕ) → usable eqb a (clauseOf bs i) ≡ true → a < 1000
-  usable-low zero i h p a u = absurd (omega arith)
-  usable-low (suc n) i h p a u =
-      let low : i < N = clause-lower bs N i p in
-      let part : (j : ℕ) → clausePart bs i j ≡ true → usable eqb a (clauseOf bs j) ≡ true → a < 1000 =
-      λ j g. usable-low n j (omega (arith, clause-lower bs i j g)) (clause-above bs i j N (omega (arith, low)) g) a in
-      ⊎-elim
-      (λ k. omega (arith, eqb-true (leftAt bs i) a (sym (usable-name bs i k eqb a) ∙ u), name-low s i low k))
-      (⊎-elim
-      (λ k. absurd (false≢true (sym (usable-rest bs i k eqb a) ∙ u)))
-      (⊎-elim
-      (λ k. part (rightAt bs i) (recipe-parts s i low k .1) (sym (usable-recipe s i low k eqb a) ∙ u))
-      (λ k.
-      let g = menu-parts s i low k in
-      ⊎-elim (part (leftAt bs i) (g .0)) (part (rightAt bs i) (g .1)) (either-true _ _ (sym (usable-menu s i low k eqb a) ∙ u)))))
-      (clause-kind bs N i p)
-
-  -- the use of a clause without a menu
-  one-settles : (c : ℕ) → c < classes names → (i : ℕ) (b : Bool) → clausePart bs N i ≡ true → UseSettled bs names t i b → (a : ℕ)
-      → headOf (clauseOf bs i) < 1002 → usable eqb a (clauseOf bs i) ≡ true
-      → (let K = classOf names c in let T = namesOf names t c in let D = clauseOf bs i in
-      Admits K T a (1 + leastD K T D) (bit (b && K D) + lowD K T D) (bit (b && K D) + highD K T D))
-  unfolding namesOf classOf leastUse lowUse highUse inClass
-  one-settles c q i b p x a j u =
-      let e : headAt names i ≡ a = head-is i p ∙ usable-head a (clauseOf bs i) j u in
-      let l : headAt names i < 1000 = omega (arith, usable-low (suc i) i (omega arith) p a u) in
-      let f = x .class l c q in
-      let y = clause-under c q (suc i) i (omega arith) p in
-      let k = classAt names c in
-      let m : bit (b && takesIn k (headAt names i)) ≡ bit (b && takesIn k (headOf (clauseOf bs i))) =
-      ap (λ d. bit (b && takesIn k d)) (head-is i p) in
-      let lo : lowAt t (rowOf names (headAt names i)) c ≡ lowAt t (rowOf names a) c = ap (λ d. lowAt t (rowOf names d) c) e in
-      let hi : highAt t (rowOf names (headAt names i)) c ≡ highAt t (rowOf names a) c = ap (λ d. highAt t (rowOf names d) c) e in
-      let le : leastAt t (rowOf names (headAt names i)) ≡ leastAt t (rowOf names a) = ap (λ d. leastAt t (rowOf names d)) e in
-      record {
-        least = omega (arith, x .least l, y .long);
-        low = omega (arith, f .low, y .some);
-        high = λ h. let g = f .high (omega arith) in omega (arith, y .few (omega arith));
-      }
-
   use-settles : (c : ℕ) → c < classes names → (i : ℕ) (b : Bool) → clausePart bs N i ≡ true → UseSettled bs names t i b → (a : ℕ)
-      → Settles (classOf names c) (namesOf names t c) eqb a (clauseOf bs i) b
+      → Settles (classOf names c) (namesOf names t c) (scopeOf bs .fits) a (clauseOf bs i) b
   unfolding Settles classOf inClass
-  use-settles c q i b p x a = at (decLt (headOf (clauseOf bs i)) 1002)
-    where
-      at : Dec (headOf (clauseOf bs i) < 1002) → Settles (classOf names c) (namesOf names t c) eqb a (clauseOf bs i) b
-      at (yes j) = one-head (classOf names c) (namesOf names t c) a (clauseOf bs i) 1 _ _ j (one-settles c q i b p x a j)
-      at (no j) =
-          let e = head-is i p in
-          let m : bit (b && takesIn (classAt names c) (headAt names i)) ≡ bit (b && takesIn (classAt names c) (headOf (clauseOf bs i))) =
-          ap (λ d. bit (b && takesIn (classAt names c) d)) e in
-          ways-allow c q a (suc i) i (omega arith) p 1 _ _ 1 _ _ (omega arith) (omega arith) (λ h. omega arith)
-          (x .menu (omega arith) .class c q)
+  use-settles c q i b p x a =
+      let e = head-is i p in
+      let m : bit (b && takesIn (classAt names c) (headAt names i)) ≡ bit (b && takesIn (classAt names c) (headOf (clauseOf bs i))) =
+      ap (λ d. bit (b && takesIn (classAt names c) d)) e in
+      ways-allow c q a (suc i) i (omega arith) p 1 _ _ 1 _ _ (omega arith) (omega arith) (λ h. omega arith) (x .class c q)
 
   -- THEOREM. The bounds of names allow every use of a clause of the card.
-  pub closed : (c : ℕ) → c < classes names → Closed (OfCard bs) eqb (classOf names c) (namesOf names t c)
+  pub closed : (c : ℕ) → c < classes names → Closed (OfCard bs) (scopeOf bs .fits) (classOf names c) (namesOf names t c)
   closed c q = record {
     settles = λ D b o a.
-        subst (λ (E : Clause). Settles (classOf names c) (namesOf names t c) eqb a E b) (o .reads)
+        subst (λ (E : Clause). Settles (classOf names c) (namesOf names t c) (scopeOf bs .fits) a E b) (o .reads)
         (use-settles c q (o .node) b (o .here) (z .uses (o .node) b (o .origin)) a);
     lends = λ D b o. subst (LendsD (OfCard bs)) (o .reads) (clause-lends (suc (o .node)) (o .node) (omega arith) (o .here));
   }

@@ -5,7 +5,6 @@ use mathlib.Core.Path.{_≡_, refl, sym, ap, ap₂, _∙_}
 use mathlib.Core.Bool.{Bool, true, false, _&&_}
 use mathlib.Core.List.{List}
 use lib.ListN.{getD}
-use lib.Dec.{eqb}
 use borrow.Author.Tests.{lt-leb, lt-ltb, le-ltb}
 use Rattle.calculus.specs.Items.{Items}
 use Rattle.calculus.specs.Derivation.{Scope, size, clauseAt}
@@ -30,7 +29,7 @@ use Rattle.bounds.proofs.NodesBounded.{head-is}
 
 -- the scope of the tables is of the card's family
 pub stock-scoped : {bs nodes : List ℕ} {linear : List Bool} {n : ℕ} → ScopeOfCard bs nodes linear n
-    → Scoped (OfCard bs) eqb (scopeIn bs nodes linear n)
+    → Scoped (OfCard bs) (scopeOf bs .fits) (scopeIn bs nodes linear n)
 unfolding scopeIn scopeOf
 stock-scoped {bs} {nodes} {linear} {n} k = record {
   same-fits = refl;

@@ -300,7 +300,7 @@ exact j l b = (λ x. let c = listed j l b .0 x in to (c .0) (c .1), from)
     to : Counts (j .depth) (j .scope) (j .goal) (j .strict) (j .lax) l → length l ≤ j .length-limit → List·Memᴰ l (lists j)
     to c h = into (λ x. kept (fitting j x) (x .list)) (taken (c .sum)) (kept-in _
         (and-true _ _ (covers-covering (j .scope) false (covers (j .scope) .0 (inr (c .within))))
-        (and-true _ _ (covers-covering (j .scope) (c .slack) (covers (j .scope) .0 (c .all-strict))) (le-leb _ _ h)))
+        (and-true _ _ (covers-covering (j .scope) (c .slack) (c .all-strict)) (le-leb _ _ h)))
         refl)
 
     from : List·Memᴰ l (lists j) → Listed j l
@@ -318,8 +318,7 @@ exact j l b = (λ x. let c = listed j l b .0 x in to (c .0) (c .1), from)
             sum = s .sum;
             within = ⊎-elim (λ e. absurd (false≢true e)) (λ w. w)
                 (covers (j .scope) .1 (covering-covers false (j .strict ∪ j .lax) (x .used) (sum-bounded (s .sum)) (f .0)));
-            all-strict = covers (j .scope) .1
-                (covering-covers (x .slack) (x .used) (j .strict) (bounded-within (join-left (∪-joins (j .strict) (j .lax))) b) (g .0));
+            all-strict = (covering-covers (x .slack) (x .used) (j .strict) (bounded-within (join-left (∪-joins (j .strict) (j .lax))) b) (g .0));
           },
           leb-true _ _ (g .1),
         ))

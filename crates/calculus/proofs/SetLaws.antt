@@ -5,7 +5,7 @@ use mathlib.Core.Logic.{_⊎_, inl, inr, _↔_}
 use mathlib.Core.Bool.{Bool, true, false, not, _&&_, _||_, Bool·beq, false≢true}
 use lib.Dec.{T, eqb, eqb→eq, eqb-refl}
 use Rattle.calculus.specs.Formula.{Clause}
-use Rattle.calculus.specs.Items.{Items, ∅, _∪_, _∖_, only, Empty, Splits, Within}
+use Rattle.calculus.specs.Items.{Items, ∅, _∪_, _∩_, _∖_, only, Empty, Splits, Within}
 use Rattle.calculus.specs.Derivation.{Scope, lend}
 use Rattle.calculus.specs.Inner.Summary.{Same, Joins, Without, Plus, Meets, spare, Covers}
 
@@ -126,6 +126,27 @@ covers es {v} {U} {I} = (to v, from v)
     from : (v : Bool) → Covers (λ i. v) U I → (v ≡ true) ⊎ Within I U
     from true c = inl refl
     from false c = inr (record { kept = c .cover })
+
+-- without slack nothing is left
+pub all-used : (es : Scope) (v : Bool) {U I : Items} → v ≡ false → Covers (spare es v) U I → Within I U
+unfolding spare
+all-used es v {U} {I} h c = record {
+  kept = λ i. table 3 (λ v u i. v ≐ false ⟹ i ⊑ (v || u) ⟹ i ⊑ u) refl v (U i) (I i) h (c .cover i);
+}
+
+pub within-covers : {R U I : Items} → Within I U → Covers R U I
+within-covers {R} {U} {I} w = record {
+  cover = λ i. table 3 (λ r u i. i ⊑ u ⟹ i ⊑ (r || u)) refl (R i) (U i) (I i) (w .kept i);
+}
+
+-- past a ⊤: what no slack takes, and the rest
+pub eased-none : (es : Scope) (S : Items) → S ∖ spare es true ≡ ∅
+unfolding spare _∖_ ∅
+eased-none es S = same-path (record { same = λ i. table 1 (λ s. (s && not true) ≐ false) refl (S i) })
+
+pub eased-all : (es : Scope) (S L : Items) → (S ∩ spare es true) ∪ L ≡ S ∪ L
+unfolding spare _∩_ _∪_
+eased-all es S L = same-path (record { same = λ i. table 2 (λ s l. ((s && true) || l) ≐ (s || l)) refl (S i) (L i) })
 
 -- a test that is not passed has failed
 pub not-true : (b : Bool) → (b ≡ true → ⊥) → b ≡ false

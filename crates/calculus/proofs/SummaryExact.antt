@@ -23,11 +23,11 @@ use Rattle.calculus.proofs.SetLaws.{relend-within, relend-covers, used-
 use Rattle.calculus.proofs.SetLaws.{before-use-within, before-use-covers, ∪-cases}
 
 pub covered : {n : ℕ} {es : Scope} {I : Items} {G : Goal} {l : List ℕ} (s : Summed n es I G l) → Covers (spare es (s .slack)) (s .used) I
-covered {es} s = covers es .0 (s .left)
+covered {es} s = s .left
 
 summed : {n : ℕ} {es : Scope} {I : Items} {G : Goal} {l : List ℕ} {U : Items} {v : Bool}
     → Sum n es G l U v → Within U I → Covers (spare es v) U I → Summed n es I G l
-summed {es} {U} {v} s p c = record { used = U; slack = v; sum = s; within = p; left = covers es .1 c }
+summed {es} {U} {v} s p c = record { used = U; slack = v; sum = s; within = p; left = c }
 
 pub bounded-within : {es : Scope} {I J : Items} → Within J I → Bounded es I → Bounded es J
 bounded-within w b = record { bounded = λ i h. b .bounded i (w .kept i h) }
@@ -181,5 +181,5 @@ sound {es} s b p left = sound-covers s b p (covers es .0 left)
 pub summary : {n : ℕ} {es : Scope} {I : Items} {G : Goal} {l : List ℕ} → Bounded es I → ByList n es I G l ↔ Summed n es I G l
 summary {n} {es} {I} {G} b = (
   λ x. subst (Summed n es I G) (x .list) (complete (x .tree) (x .nested)),
-  λ s. sound (s .sum) b (s .within) (s .left),
+  λ s. sound-covers (s .sum) b (s .within) (s .left),
 )

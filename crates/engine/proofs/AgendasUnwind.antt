@@ -10,7 +10,7 @@ use lib.Seq.{slice, slice-empty}
 use Rattle.calculus.specs.Items.{Items, ∅, _∪_, Empty, Within}
 use Rattle.calculus.specs.Derivation.{Scope}
 use Rattle.calculus.specs.Inner.Summary.{Bounded}
-use Rattle.calculus.proofs.SetLaws.{empty-∅}
+use Rattle.calculus.proofs.SetLaws.{empty-∅, all-used}
 use Rattle.lines.specs.Inner.Set.{Words, isEmptyS}
 use Rattle.card.specs.Format.{nodeCount, ruleCount, kindAt}
 use Rattle.card.specs.Fault.{Sound}
@@ -212,12 +212,11 @@ module _ {bs waits tape nodes heads : List ℕ} {f : Floor} {b : Branch} (R : Re
 
   left-over : (es : Scope) → (Empty (items (ruleCount bs) (b .strict)) → ⊥) → None (eligible bs) es [] (placeOf (ruleCount bs) f b tape)
   unfolding placeOf
-  left-over es n = record { none = λ l U v s. at U v (reads-empty (s .reads)) (s .window .all-strict) }
-    where
-      at : {l : List ℕ} (U : Items) (v : Bool) → (l ≡ []) × Empty U × (v ≡ false)
-          → (v ≡ true) ⊎ Within (items (ruleCount bs) (b .strict)) U → ⊥
-      at U v (e, u, z) (inl t) = false≢true (sym z ∙ t)
-      at U v (e, u, z) (inr i) = n (within-empty i u)
+  left-over es n = record {
+    none = λ l U v s.
+        let e = reads-empty (s .reads) in
+        n (within-empty (all-used es v (e .2) (s .window .all-strict)) (e .1));
+  }
 
   told-closed : (es : Scope) (v : Bool) → isEmptyS (b .strict) ≡ v
       → Told bs es [] f b tape tape

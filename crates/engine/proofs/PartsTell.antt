@@ -37,6 +37,7 @@ use Rattle.branch.specs.declared.Floor.{Floor}
 use Rattle.branch.specs.Inner.Values.{Answer, Solved, Stuck, Tired}
 use Rattle.branch.specs.Inner.Values.{ownB, leadB, lentB, joinedW, withoutW}
 use Rattle.branch.proofs.CountsKept.{counted-lent}
+use Rattle.inside.specs.Inner.Inside.{Opening, Opened, lends, outsideW}
 use Rattle.segment.specs.Inner.Tasks.{taskOf, agendaOf, weight, taskWeight, total, Laid}
 use Rattle.segment.proofs.WeightsFall.{weight-pos, weight-times, either-weight, lend-weight}
 use Rattle.segment.proofs.TasksAreAgendas.{nest-low, agenda-next, total-next, agenda-one, total-one, laid-one}
@@ -439,3 +440,41 @@ module _ {bs waits tape nodes heads : List ℕ} {f : Floor} {goal n : ℕ} {b : 
           gone X q =
               ap₂ (λ (J : Items) m. J ∖ only m) (q ∙ ap (λ (J : Items). J ∪ X) none-used ∙ ∅-∪ X) (sym (scope-len bs nodes (b .count)))
               ∙ sym (∅-∪ (X ∖ only (size es))) ∙ ap (λ (J : Items). J ∪ (X ∖ only (size es))) (sym none-used)
+
+  -- As the code has it: what entering asks, and what is told past it, whatever the part's kind
+  pub opening : Opening bs nodes heads goal n b
+  opening = record {
+    sound = r .sound;
+    node-room = r .entered .node-room;
+    head-room = r .entered .head-room;
+    here = in-nodes;
+    kind = k;
+    clause = lent-clause;
+    nested = g .nested;
+    few = lent-count;
+    scoped = rules-in;
+    item = item-low;
+    free = item-free;
+    counted = r .counted;
+  }
+
+  module _ {nodes′ heads′ : List ℕ} (codes : List ℕ) {codes′ : List ℕ} {c : Branch} (room : length codes ≡ 104) where
+    pub opened-asks : Opened bs nodes nodes′ heads heads′ codes codes′ goal n b c
+        → (number bs codes′ c < alone bs goal n b) × (Ready bs waits tape nodes′ heads′ f c × Laid bs codes′ (c .len) (c .count))
+    opened-asks (lends k en hd ea ec) = lent-asks refl en hd c refl ec codes room refl ea
+
+    inner : {tape′ nodes″ heads″ : List ℕ} {a : Answer} → c ≡ lentB b item → codes′ ≡ set codes 0 (rightAt bs goal * 32 + n)
+        → Searches bs (agendaOf bs codes′ (c .len)) f c tape tape′ nodes′ nodes″ heads′ heads″ a
+        → Searches bs (task G n ∷ []) f (lentB b item) tape tape′ nodes′ nodes″ heads′ heads″ a
+    inner ec ea S = searched-at ec (searched-as (one-task bs codes (g .nested) room (ap (λ (x : Branch). x .len) ec) refl ea) S)
+
+    pub opened-unsolved : {tape′ nodes″ heads″ : List ℕ} {a : Answer} → Opened bs nodes nodes′ heads heads′ codes codes′ goal n b c
+        → Searches bs (agendaOf bs codes′ (c .len)) f c tape tape′ nodes′ nodes″ heads′ heads″ a → (a ≡ Stuck) ⊎ (a ≡ Tired)
+        → Searches bs (task (goalAt bs goal) n ∷ []) f b tape tape′ nodes nodes″ heads heads″ a
+    opened-unsolved (lends k en hd ea ec) S u = lent-unsolved refl en hd (inner ec ea S) u
+
+    pub opened-solved : {tape′ nodes″ heads″ : List ℕ} {a : Answer} (w : Way) → Opened bs nodes nodes′ heads heads′ codes codes′ goal n b c
+        → Searches bs (agendaOf bs codes′ (c .len)) f c tape tape′ nodes′ nodes″ heads′ heads″ a → a ≡ Solved w
+        → Searches bs (task (goalAt bs goal) n ∷ []) f b tape tape′ nodes nodes″ heads heads″ (Solved (outsideW bs goal (b .count) w))
+    unfolding outsideW
+    opened-solved w (lends k en hd ea ec) S u = lent-solved refl en hd (inner ec ea S) w u

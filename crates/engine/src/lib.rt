@@ -19,7 +19,6 @@ use choice::seek;
 use choice::unfloored;
 use moves::inner;
 use moves::left_alone;
-use moves::lent_item;
 use moves::raise;
 use moves::right_alone;
 use moves::shut;
@@ -963,7 +962,7 @@ fn both_ways(
     }
 }
 
-// D ⊸ G: D joins the scope and is strict.
+// A part with a scope or window of its own.
 fn lent(
     card: &[u8],
     waits: &[u64; 64],
@@ -992,10 +991,8 @@ fn lent(
         (now (codes .entry)) (now (words .entry)) (now (codes .exit)) (now (words .exit)) (now (way .exit)) r ⌝ }
 {
     let count = b.count;
-    entries::put(card, nodes, heads, count, left(card, goal));
-    let item = lent_item(card, count);
     let mut agenda = [0u16; 104];
-    right_alone(card, &mut agenda, goal, n);
+    let c = inside::open(card, nodes, heads, &mut agenda, goal, n, b);
     let r = solve(
         card,
         waits,
@@ -1011,12 +1008,11 @@ fn lent(
         &mut agenda,
         f.fixed,
         f.from,
-        b.lent(item),
+        c,
     );
     let Outcome::Solved = r else {
         return r;
     };
-    let w = way_in(way);
-    put_way(way, w.without(item));
+    inside::close(card, way, goal, count);
     Outcome::Solved
 }

@@ -18,7 +18,7 @@ ghost use Rattle.card.specs.Fault.{Sound, clausePart};
 ghost use Rattle.card.specs.Decode.{clauseOf};
 ghost use Rattle.lines.specs.Inner.Count.{bit};
 ghost use Rattle.bounds.specs.Inner.Table.{NameCells, Held, Node, ifRecipe, inClass, headStep, leastStep, lowStep, highStep};
-ghost use Rattle.bounds.specs.Inner.Table.{menuCode, leastUse, lowUse, highUse, NodeFits, TableCells, OnWay, HeadFits, WaysFit};
+ghost use Rattle.bounds.specs.Inner.Table.{menuCode, NodeFits, TableCells, OnWay, HeadFits, WaysFit};
 
 fn greater(a: usize, b: usize) -> usize
     ensures { λ r. ⌜ r ≡ max a b ⌝ }
@@ -247,48 +247,6 @@ pub fn high_step(card: &[u8], names: &[u16; 1577], table: &[u8; 66177], i: usize
         return left + if_recipe(card, r, right);
     }
     left + right
-}
-
-// The least steps of a use of the clause at node i.
-pub fn least_use(card: &[u8], names: &[u16; 1577], table: &[u8; 66177], i: usize) -> usize
-    requires { ⌜ Held (now card) (now names) (now table) ⌝ }
-    requires { ⌜ Node (now card) i ⌝ }
-    ensures { λ r. ⌜ (r ≡ leastUse (now (card .entry)) (now (names .entry)) (now (table .entry)) i) × (r < 512) ⌝ }
-{
-    1 + if_recipe(card, i, least(table, i))
-}
-
-// The least and the greatest number of items of class c of such a use.
-pub fn low_use(
-    card: &[u8],
-    names: &[u16; 1577],
-    table: &[u8; 66177],
-    i: usize,
-    linear: bool,
-    c: usize,
-) -> usize
-    requires { ⌜ Held (now card) (now names) (now table) ⌝ }
-    requires { ⌜ Node (now card) i × (c < 64) ⌝ }
-    ensures { λ r. ⌜ (r ≡ lowUse (now (card .entry)) (now (names .entry)) (now (table .entry)) i linear c)
-        × (r < 512) ⌝ }
-{
-    weight(names, i, linear, c) + if_recipe(card, i, low(table, i, c))
-}
-
-pub fn high_use(
-    card: &[u8],
-    names: &[u16; 1577],
-    table: &[u8; 66177],
-    i: usize,
-    linear: bool,
-    c: usize,
-) -> usize
-    requires { ⌜ Held (now card) (now names) (now table) ⌝ }
-    requires { ⌜ Node (now card) i × (c < 64) ⌝ }
-    ensures { λ r. ⌜ (r ≡ highUse (now (card .entry)) (now (names .entry)) (now (table .entry)) i linear c)
-        × (r < 512) ⌝ }
-{
-    weight(names, i, linear, c) + if_recipe(card, i, high(table, i, c))
 }
 
 // Whether class c of the table at node i is settled: its bounds take in those from the node's parts.

@@ -1,3 +1,6 @@
+use Rattle.calculus.proofs.SetLaws.{eased-none, eased-all}
+use Rattle.calculus.specs.Derivation.{Scope}
+use Rattle.scope.specs.Inner.Sets.{items}
 -- What is told of the agenda past ⊗, 1 and ⊤ is told of the agenda before, and it weighs less.
 use Prim.Native.Nat.{ℕ, _+_, _-_, _*_, _≤_, _<_}
 use native.Mathlib.Nat.{one-le-mul}
@@ -76,8 +79,9 @@ pub total-pos : (bs codes : List ℕ) (len : ℕ) → 1 ≤ len → 1 ≤ total 
 total-pos bs codes len h = let e = total-next bs codes len h in let p = task-pos bs (getD codes (len - 1) 0) in omega arith
 
 -- the place with the items of a branch past ⊤
-eased-at : (P : ℕ) (b : Branch) (p : Place) → itemsAt P (easedB b) p ≡ eased (itemsAt P b p)
-eased-at P b p = ap₂ (λ (S L : Items). holding p S L (p .room)) (items-empty P) (items-join P (b .strict) (b .lax))
+eased-at : (es : Scope) (P : ℕ) (b : Branch) (p : Place) → itemsAt P (easedB b) p ≡ eased es (itemsAt P b p)
+eased-at es P b p = ap₂ (λ (S L : Items). holding p S L (p .room)) (items-empty P ∙ sym (eased-none es (items P (b .strict))))
+    (items-join P (b .strict) (b .lax) ∙ sym (eased-all es (items P (b .strict)) (items P (b .lax))))
 
 module _ {bs codes : List ℕ} {b : Branch} {k : ℕ} (s : Sound bs) (t : Turning bs codes b k) where
   abbrev i : ℕ
@@ -115,12 +119,12 @@ module _ {bs codes : List ℕ} {b : Branch} {k : ℕ} (s : Sound bs) (t : Turnin
           no-heavier = omega (arith, lighter);
           none = λ P eligible es p n.
               subst (λ (A : Agenda). None eligible es A (itemsAt P b p)) (sym e)
-              (rest-none eligible (itemsAt P b p) (subst (λ (x : Place). None eligible es (agendaOf bs codes i) x) (eased-at P b p) n));
+              (rest-none eligible (itemsAt P b p) (subst (λ (x : Place). None eligible es (agendaOf bs codes i) x) (eased-at es P b p) n));
           least = λ P eligible es p l U v n. (
             true,
             subst (λ (A : Agenda). Least eligible es A (itemsAt P b p) l U true) (sym e)
                 (rest-least eligible (itemsAt P b p)
-                (subst (λ (x : Place). Least eligible es (agendaOf bs codes i) x l U v) (eased-at P b p) n)),
+                (subst (λ (x : Place). Least eligible es (agendaOf bs codes i) x l U v) (eased-at es P b p) n)),
             or-true (b .slack),
           );
           counted = counted-freed b;

@@ -7,17 +7,11 @@ use bounds::nodes::rule_at;
 use bounds::table::class;
 use bounds::table::classes;
 use bounds::table::head;
-use bounds::table::high;
 use bounds::table::least;
-use bounds::table::low;
 use bounds::table::of_head;
-use bounds::table::row;
 use card::format::byte;
 use node_bounds::head_step;
-use node_bounds::high_use;
 use node_bounds::least_step;
-use node_bounds::least_use;
-use node_bounds::low_use;
 use node_bounds::node_fits;
 use node_bounds::ways_fit;
 use node_bounds::weight;
@@ -29,8 +23,8 @@ ghost use lib.Dec.{ltb};
 ghost use Rattle.card.specs.Format.{nodeCount, ruleCount, lineCount, kindAt, leftAt, ruleNode, lineNode};
 ghost use Rattle.lines.specs.Inner.Set.{bitAt};
 ghost use Rattle.card.specs.Fault.{Sound, clausePart};
-ghost use Rattle.bounds.specs.Inner.Table.{NameCells, Held, Node, headAt, inClass, classes as classesOf, UseFits};
-ghost use Rattle.bounds.specs.Inner.Table.{NodeSettled, MenuSettled, UseSettled, Masked, Settled};
+ghost use Rattle.bounds.specs.Inner.Table.{NameCells, Held, Node, inClass, classes as classesOf};
+ghost use Rattle.bounds.specs.Inner.Table.{NodeSettled, UseSettled, Masked, Settled};
 
 fn node_settled(card: &[u8], names: &[u16; 1577], table: &[u8; 66177], i: usize) -> bool
     requires { ⌜ Held (now card) (now names) (now table) ⌝ }
@@ -70,57 +64,7 @@ fn nodes_settled(card: &[u8], names: &[u16; 1577], table: &[u8; 66177]) -> bool
     true
 }
 
-// Class c at a use of the clause at node i.
-fn use_fits(
-    card: &[u8],
-    names: &[u16; 1577],
-    table: &[u8; 66177],
-    i: usize,
-    linear: bool,
-    c: usize,
-) -> bool
-    requires { ⌜ Held (now card) (now names) (now table) ⌝ }
-    requires { ⌜ (Node (now card) i × (c < 64)) × (headAt (now names) i < 1000) ⌝ }
-    ensures { λ r. ⌜ (r ≡ true → UseFits (now (card .entry)) (now (names .entry)) (now (table .entry)) i linear c) ⌝ }
-{
-    let r = row(names, head(names, i));
-    if low_use(card, names, table, i, linear, c) < low(table, r, c) {
-        return false;
-    }
-    let h = high(table, r, c);
-    if h == 255 {
-        return true;
-    }
-    if h < high_use(card, names, table, i, linear, c) {
-        return false;
-    }
-    true
-}
-
-// Each head of the clause with a menu at node i, for every class.
-fn menu_settled(
-    card: &[u8],
-    names: &[u16; 1577],
-    table: &[u8; 66177],
-    i: usize,
-    linear: bool,
-) -> bool
-    requires { ⌜ Held (now card) (now names) (now table) ⌝ }
-    requires { ⌜ clausePart (now card) (nodeCount (now card)) i ≡ true ⌝ }
-    ensures { λ r. ⌜ (r ≡ true → MenuSettled (now (card .entry)) (now (names .entry)) (now (table .entry)) i linear) ⌝ }
-{
-    let n = classes(names);
-    let mut c = 0;
-    while c < n {
-        let w = weight(names, i, linear, c);
-        if !ways_fit(card, names, table, i, c, 1, w, w) {
-            return false;
-        }
-        c += 1;
-    }
-    true
-}
-
+// Each head of the clause at node i, for every class.
 fn use_settled(
     card: &[u8],
     names: &[u16; 1577],
@@ -132,20 +76,11 @@ fn use_settled(
     requires { ⌜ clausePart (now card) (nodeCount (now card)) i ≡ true ⌝ }
     ensures { λ r. ⌜ (r ≡ true → UseSettled (now (card .entry)) (now (names .entry)) (now (table .entry)) i linear) ⌝ }
 {
-    let h = head(names, i);
-    if 1000 <= h {
-        if h < 1002 {
-            return true;
-        }
-        return menu_settled(card, names, table, i, linear);
-    }
-    if least_use(card, names, table, i) < least(table, row(names, h)) {
-        return false;
-    }
     let n = classes(names);
     let mut c = 0;
     while c < n {
-        if !use_fits(card, names, table, i, linear, c) {
+        let w = weight(names, i, linear, c);
+        if !ways_fit(card, names, table, i, c, 1, w, w) {
             return false;
         }
         c += 1;

@@ -17,11 +17,8 @@ use bounds::table::row;
 use card::format::byte;
 use node_bounds::head_step;
 use node_bounds::high_step;
-use node_bounds::high_use;
 use node_bounds::least_step;
-use node_bounds::least_use;
 use node_bounds::low_step;
-use node_bounds::low_use;
 use node_bounds::weight;
 ghost use mathlib.Core.Path.{_≡_};
 ghost use Prim.Native.Nat.{_<_, _≤_};
@@ -310,30 +307,6 @@ fn rise(table: &mut [u8; 66177], at: usize, old: usize, v: usize, wide: bool) ->
     true
 }
 
-// The bounds of a name take in class c of a use of the clause at node i; whether they changed.
-fn widen_class(
-    card: &[u8],
-    names: &[u16; 1577],
-    table: &mut [u8; 66177],
-    i: usize,
-    r: usize,
-    linear: bool,
-    c: usize,
-    wide: bool,
-) -> bool
-    requires { ⌜ Held (now card) (now names) (now table) ⌝ }
-    requires { ⌜ Node (now card) i × ((r ≤ 512) × (c < 64)) ⌝ }
-    ensures { λ _. ⌜ TableCells (now (table .exit)) ⌝ }
-{
-    let lowest = low(table, r, c);
-    let l = low_use(card, names, table, i, linear, c);
-    let fell = fall(table, r * 64 + c, lowest, l, wide);
-    let highest = high(table, r, c);
-    let h = high_use(card, names, table, i, linear, c);
-    let rose = rise(table, 32832 + (r * 64 + c), highest, h, wide);
-    if fell { true } else { rose }
-}
-
 // The bounds of a name take in so many steps and items of class c; whether they changed.
 fn widen_head(
     names: &[u16; 1577],
@@ -409,8 +382,8 @@ fn widen_ways(
     false
 }
 
-// The same for every class.
-fn widen_menu(
+// The bounds of the heads of the clause at node i take in its use, for every class; whether they changed.
+fn widen(
     card: &[u8],
     names: &[u16; 1577],
     table: &mut [u8; 66177],
@@ -428,41 +401,6 @@ fn widen_menu(
     while c < n {
         let w = weight(names, i, linear, c);
         if widen_ways(card, names, table, i, c, 1, w, w, wide) {
-            changed = true;
-        }
-        c += 1;
-    }
-    changed
-}
-
-// The bounds of the heads of the clause at node i take in its use, for every class; whether they changed.
-fn widen(
-    card: &[u8],
-    names: &[u16; 1577],
-    table: &mut [u8; 66177],
-    i: usize,
-    linear: bool,
-    wide: bool,
-) -> bool
-    requires { ⌜ Held (now card) (now names) (now table) ⌝ }
-    requires { ⌜ Node (now card) i ⌝ }
-    ensures { λ _. ⌜ TableCells (now (table .exit)) ⌝ }
-{
-    let h = head(names, i);
-    if 1000 <= h {
-        if h < 1002 {
-            return false;
-        }
-        return widen_menu(card, names, table, i, linear, wide);
-    }
-    let r = row(names, h);
-    let old = least(table, r);
-    let s = least_use(card, names, table, i);
-    let mut changed = fall(table, 65664 + r, old, s, wide);
-    let n = classes(names);
-    let mut c = 0;
-    while c < n {
-        if widen_class(card, names, table, i, r, linear, c, wide) {
             changed = true;
         }
         c += 1;

@@ -14,7 +14,7 @@ use Rattle.calculus.specs.Walk.{goes, jobWalk, ItemsDivide}
 use Rattle.calculus.specs.Wanted.{goal}
 use Rattle.calculus.specs.Inner.Trace.{partWalk, Says, Gathered, Trace, Agreed}
 use Rattle.calculus.specs.Inner.Surely.{Traced}
-use Rattle.calculus.proofs.SetLaws.{same-path}
+use Rattle.calculus.proofs.SetLaws.{same-path, covers as cover-law}
 use Rattle.calculus.proofs.TraceExact.{trace-unique, listed-accounts}
 use Rattle.calculus.proofs.SurelyByList.{surely-walked}
 use Rattle.calculus.proofs.WalkExact.{job-walk, divides-accounts}
@@ -230,7 +230,7 @@ module _ {bs steps nodes : List ℕ} {linear : List Bool} {k : ℕ} (s : Sound b
           list = list-is;
           alive = c .alive;
           within = c .within;
-          all-strict = c .all-strict;
+          all-strict = cover-law (jobOf bs .scope) .0 (c .all-strict);
           counted = short-enough;
         }))
           where
@@ -250,7 +250,8 @@ module _ {bs steps nodes : List ℕ} {linear : List Bool} {k : ℕ} (s : Sound b
             record {
               alive = sym (q .alives) ∙ a .alive;
               within = subst (λ I. Within I (jobOf bs .strict ∪ jobOf bs .lax)) used (a .within);
-              all-strict = covers (subst (λ I. (a .gathered .slack ≡ true) ⊎ Within (jobOf bs .strict) I) used (a .all-strict)) (q .slacks);
+              all-strict = covers (subst (λ I. (a .gathered .slack ≡ true) ⊎ Within (jobOf bs .strict) I) used
+                  (cover-law (jobOf bs .scope) .1 (a .all-strict))) (q .slacks);
             }
           where
             covers : {I J : Items} {v u : Bool} → (v ≡ true) ⊎ Within I J → v ≡ u → (u ≡ true) ⊎ Within I J

@@ -6,11 +6,11 @@ use mathlib.Core.Bool.{Bool, true, false, cond}
 use mathlib.Core.List.{List, [], _∷_, _++_}
 use lib.ListN.{length}
 use Rattle.calculus.specs.Formula.{atomᴳ}
-use Rattle.calculus.specs.Items.{Items, ∅, _∪_, _∖_, only, Within}
+use Rattle.calculus.specs.Items.{Items, ∅, _∪_, _∩_, _∖_, only, Within}
 use Rattle.calculus.specs.Derivation.{Scope, size, linearAt}
 use Rattle.calculus.specs.Steps.{Before}
 use Rattle.calculus.specs.Job.{Job}
-use Rattle.calculus.specs.Inner.Summary.{spare}
+use Rattle.calculus.specs.Inner.Summary.{spare, Covers}
 use Rattle.calculus.specs.Inner.Window.{tensor-strict, tensor-lax, with-strict, with-lax}
 use Rattle.agenda.specs.Inner.Agenda.{Agenda, task, Reads}
 use Rattle.agenda.specs.Inner.Order.{Floor, Next, Chosen}
@@ -39,9 +39,9 @@ holding p S L r = record { done = p .done; given = p .given; from = p .from; str
 abbrev pub past : Place → List ℕ → List ℕ → ℕ → Items → Items → Place
 past p l F f S L = record { done = p .done ++ l; given = F; from = f; strict = S; lax = L; room = p .room - length l }
 
--- ⊤ in the segment: nothing has to be used any more
-abbrev pub eased : Place → Place
-eased p = holding p ∅ (p .strict ∪ p .lax) (p .room)
+-- ⊤ in the segment: of the strict items only those that no rest takes still have to be used
+abbrev pub eased : Scope → Place → Place
+eased es p = holding p (p .strict ∖ spare es true) ((p .strict ∩ spare es true) ∪ p .lax) (p .room)
 
 -- a part of a segment, which has a window of its own; r steps for it
 abbrev pub lead : Place → ℕ → Place
@@ -80,9 +80,9 @@ abbrev pub pastChoice : Place → ℕ → List ℕ → ℕ → Place
 pastChoice p c F f = past p (c ∷ []) F f (p .strict) (p .lax)
 
 -- The window: only what is at hand is taken and, without slack, all that is strict.
-pub record InWindow (S L U : Items) (v : Bool) : Type 0 where
+pub record InWindow (es : Scope) (S L U : Items) (v : Bool) : Type 0 where
   pub within : Within U (S ∪ L)
-  pub all-strict : (v ≡ true) ⊎ Within S U
+  pub all-strict : Covers (spare es v) U S
 
 -- every reading of A leaves r of the room
 pub record Spares (es : Scope) (A : Agenda) (room r : ℕ) : Type 0 where
@@ -93,7 +93,7 @@ module _ (eligible : List ℕ → ℕ → Bool) where
   -- l is sought at the agenda, and takes U, with slack v
   pub record Sought (es : Scope) (A : Agenda) (p : Place) (l : List ℕ) (U : Items) (v : Bool) : Type 0 where
     pub reads : Reads es A l U v
-    pub window : InWindow (p .strict) (p .lax) U v
+    pub window : InWindow es (p .strict) (p .lax) U v
     pub short : length l ≤ p .room
     pub chosen : Chosen eligible (p .done) l
     pub floor : Floor l (p .given) (p .from)

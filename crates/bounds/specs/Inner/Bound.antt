@@ -54,25 +54,6 @@ module _ (K : Class) (t : Names) where
   highG (oplus G H) = max (highG G) (highG H)
   highG (lolliᴳ D G) = off (highG G) (K D)
 
-  -- of the conditions of a clause, up to a menu
-  unfoldable pub leastD : Clause → ℕ
-  leastD (atomᴰ b) = 0
-  leastD topᴰ = 0
-  leastD (lolliᴰ G D) = leastD D + leastG G
-  leastD (withᴰ D E) = 0
-
-  unfoldable pub lowD : Clause → ℕ
-  lowD (atomᴰ b) = 0
-  lowD topᴰ = 0
-  lowD (lolliᴰ G D) = lowD D + lowG G
-  lowD (withᴰ D E) = 0
-
-  unfoldable pub highD : Clause → ℕ
-  highD (atomᴰ b) = 0
-  highD topᴰ = 0
-  highD (lolliᴰ G D) = highD D + highG G
-  highD (withᴰ D E) = 0
-
   -- of all tasks of an agenda
   unfoldable pub leastA : Agenda → ℕ
   leastA [] = 0

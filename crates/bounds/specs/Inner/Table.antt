@@ -14,7 +14,7 @@ use Rattle.calculus.specs.Formula.{Clause, atomᴰ, topᴰ, lolliᴰ, withᴰ}
 use Rattle.lines.specs.Inner.Set.{bitAt}
 use Rattle.card.specs.Format.{ruleCount, lineCount, nodeCount, kindAt, leftAt, rightAt, ruleNode, lineNode}
 use Rattle.card.specs.Fault.{Sound, clausePart}
-use Rattle.card.specs.Decode.{clauseOf}
+use Rattle.card.specs.Decode.{clauseOf, scopeOf}
 use Rattle.lines.specs.Inner.Count.{bit}
 use Rattle.bounds.specs.Inner.Count.{Class}
 use Rattle.bounds.specs.Inner.Bound.{Names, off}
@@ -130,29 +130,15 @@ module _ (bs names t : List ℕ) where
       byKind (kindAt bs i) (highAt t (rowOf names (leftAt bs i)) c) 255 0 (l + r) (min l r) (off r (inClass names (leftAt bs i) c))
       (l + ifRecipe bs (rightAt bs i) r) (max l r) 0 0
 
-  -- of a use of the clause at the node: one step, one item if it is linear and of the class, and its conditions
-  unfoldable pub leastUse : ℕ → ℕ
-  leastUse i = suc (ifRecipe bs i (leastAt t i))
-
-  unfoldable pub lowUse : ℕ → Bool → ℕ → ℕ
-  lowUse i b c = bit (b && inClass names i c) + ifRecipe bs i (lowAt t i c)
-
-  unfoldable pub highUse : ℕ → Bool → ℕ → ℕ
-  highUse i b c = bit (b && inClass names i c) + ifRecipe bs i (highAt t i c)
-
-  -- one class, at a node and at a use
+  -- one class, at a node
   pub record NodeFits (i c : ℕ) : Type 0 where
     pub low : lowAt t i c ≤ lowStep i c
     pub high : highAt t i c < 255 → highStep i c ≤ highAt t i c
 
-  pub record UseFits (i : ℕ) (b : Bool) (c : ℕ) : Type 0 where
-    pub low : lowAt t (rowOf names (headAt names i)) c ≤ lowUse i b c
-    pub high : highAt t (rowOf names (headAt names i)) c < 255 → highUse i b c ≤ highAt t (rowOf names (headAt names i)) c
-
   -- After s steps and l to h items, the bounds of each head of the clause D at node i take in the way to it: its conditions, and a step at
   -- each menu.
   unfoldable pub WaysFit : Clause → ℕ → ℕ → ℕ → ℕ → ℕ → Type 0
-  WaysFit (atomᴰ b) i c s l h = HeadFits names t b c s l h
+  WaysFit (atomᴰ b) i c s l h = (a : ℕ) → scopeOf bs .fits b a ≡ true → HeadFits names t a c s l h
   WaysFit topᴰ i c s l h = Unit {0}
   WaysFit (lolliᴰ G D) i c s l h =
       let j = leftAt bs i in
@@ -164,16 +150,10 @@ module _ (bs names t : List ℕ) where
     pub least : leastAt t i ≤ leastStep i
     pub class : (c : ℕ) → c < classes names → NodeFits i c
 
-  -- a use of a clause with a menu: one step, and one item if it is linear and of the class
-  pub record MenuSettled (i : ℕ) (b : Bool) : Type 0 where
+  -- a use of the clause: one step, and one item if it is linear and of the class; then the way to each head
+  pub record UseSettled (i : ℕ) (b : Bool) : Type 0 where
     pub class : (c : ℕ) → c < classes names
         → WaysFit (clauseOf bs i) i c 1 (bit (b && inClass names i c)) (bit (b && inClass names i c))
-
-  -- a clause without a head is never used; one with a menu may have several
-  pub record UseSettled (i : ℕ) (b : Bool) : Type 0 where
-    pub least : headAt names i < 1000 → leastAt t (rowOf names (headAt names i)) ≤ leastUse i
-    pub class : headAt names i < 1000 → (c : ℕ) → c < classes names → UseFits i b c
-    pub menu : 1002 ≤ headAt names i → MenuSettled i b
 
 -- The clauses that may come into scope, by node, and whether they are linear: those of rules, of lines, and of lends.
 pub data Origin (bs : List ℕ) : ℕ → Bool → Type 0 where

@@ -1,7 +1,6 @@
 -- Summaries: what a list takes of the items when it walks a goal, and whether some ⊤ can take more.
 use Prim.Native.Nat.{ℕ, suc, _≤_, _<_}
 use mathlib.Core.Path.{_≡_}
-use mathlib.Core.Logic.{_⊎_}
 use mathlib.Core.Bool.{Bool, true, false, not, _&&_, _||_}
 use mathlib.Core.List.{List, [], _∷_, _++_}
 use Rattle.calculus.specs.Formula.{Goal, Clause, atomᴳ, topᴳ, oneᴳ, tensor, with, oplus, lolliᴳ}
@@ -84,7 +83,7 @@ pub record Summed (n : ℕ) (es : Scope) (I : Items) (G : Goal) (l : List ℕ) :
   pub slack : Bool
   pub sum : Sum n es G l used slack
   pub within : Within used I
-  pub left : (slack ≡ true) ⊎ Within I used
+  pub left : Covers (spare es slack) used I
 
 -- Two readings of one list, with what follows each, agree.
 pub record Agree (l m r t : List ℕ) (U W : Items) (v w : Bool) : Type 0 where

@@ -2,7 +2,7 @@
 -- items divided as the rules ask; it never breaks off because they did not.
 use Prim.Native.Nat.{ℕ, suc, _≤_}
 use mathlib.Core.Path.{_≡_}
-use mathlib.Core.Logic.{_⊎_, _↔_}
+use mathlib.Core.Logic.{_↔_}
 use mathlib.Core.Bool.{Bool, true, false, _&&_, _||_}
 use mathlib.Core.List.{List, [], _∷_, _++_}
 use lib.ListN.{length}
@@ -122,5 +122,5 @@ pub record Accounts (j : Job) (l : List ℕ) : Type 0 where
   pub list : gathered .list ≡ l
   pub alive : gathered .alive ≡ true
   pub within : Within (gathered .used) (j .strict ∪ j .lax)
-  pub all-strict : (gathered .slack ≡ true) ⊎ Within (j .strict) (gathered .used)
+  pub all-strict : Covers (spare (j .scope) (gathered .slack)) (gathered .used) (j .strict)
   pub counted : length l ≤ j .length-limit

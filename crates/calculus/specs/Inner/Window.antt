@@ -1,13 +1,12 @@
 -- Windows: strict items must be taken, lax items may be (RM3 of 000).
 use Prim.Native.Nat.{ℕ}
 use mathlib.Core.Path.{_≡_}
-use mathlib.Core.Logic.{_⊎_}
 use mathlib.Core.Bool.{Bool, true, false, cond}
 use mathlib.Core.List.{List}
 use Rattle.calculus.specs.Formula.{Goal, with}
 use Rattle.calculus.specs.Items.{Items, _∪_, _∖_, Within}
 use Rattle.calculus.specs.Derivation.{Scope}
-use Rattle.calculus.specs.Inner.Summary.{spare, Sum, ByList}
+use Rattle.calculus.specs.Inner.Summary.{spare, Covers, Sum, ByList}
 
 -- l counts for strict S and lax L: it takes no other items and, without slack, all strict ones
 pub record Counts (n : ℕ) (es : Scope) (G : Goal) (S L : Items) (l : List ℕ) : Type 0 where
@@ -15,7 +14,7 @@ pub record Counts (n : ℕ) (es : Scope) (G : Goal) (S L : Items) (l : List ℕ)
   pub slack : Bool
   pub sum : Sum n es G l used slack
   pub within : Within used (S ∪ L)
-  pub all-strict : (slack ≡ true) ⊎ Within S used
+  pub all-strict : Covers (spare es slack) used S
 
 -- l derives G from some items that hold all strict ones and none but strict and lax ones
 pub record Between (n : ℕ) (es : Scope) (G : Goal) (S L : Items) (l : List ℕ) : Type 0 where

@@ -14,7 +14,10 @@ use Rattle.branch.specs.declared.Branch.{Branch}
 use Rattle.branch.specs.Inner.Values.{Solved, answerIn, lentB}
 use Rattle.segment.specs.Inner.Tasks.{agendaOf}
 use Rattle.choice.specs.Inner.Choice.{givenAt, fromAt}
-use Rattle.engine.specs.Inner.Engine.{Equipped}
+use Rattle.branch.specs.declared.Floor.{Floor}
+use mathlib.Core.List.{List}
+use Rattle.inside.specs.Inner.Inside.{Opened, lends}
+use Rattle.engine.specs.Inner.Engine.{Equipped, Ready, GoalReady, Fresh}
 use Rattle.engine.proofs.NumbersFall.{number, alone}
 use Rattle.engine.proofs.AgendasUnwind.{top-within, top-here, name-next, part-next, unwound-number, unwound-ready}
 use Rattle.engine.proofs.AgendasUnwind.{unwound-searched, closed-searched}
@@ -29,7 +32,7 @@ use Rattle.engine.proofs.RaisesEnd.{leftOver}
 use Rattle.engine.proofs.TurnsRaise.{turns-start, ready-lead, ready-own, fresh-lead, fresh-own}
 use Rattle.engine.proofs.PartsTell.{goal-next, agenda-same, agenda-last, alone-next, searched-as, searched-at, goal-own, goal-lead}
 use Rattle.engine.proofs.PartsTell.{own-unsolved, own-solved, goal-low, goal-six, left-asks, either-goal, one-task}
-use Rattle.engine.proofs.PartsTell.{searched-past, lent-clause, lent-count, item-low, item-free, lent-asks, lent-branch, lent-unsolved, lent-solved}
+use Rattle.engine.proofs.PartsTell.{searched-past, lent-count, opening, opened-asks, opened-unsolved, opened-solved}
 use Rattle.engine.proofs.BehindTells.{Behind, behind-unsolved, behind-nodes-kept, behind-rest-asks, rest-told, behind-solved}
 use Rattle.engine.proofs.BehindTells.{behind-tired, behind-nosteps, behind-raise-asks, behind-falls, behind-again}
 use Rattle.engine.proofs.BehindTells.{nodes-on as behind-nodes-on}
@@ -93,7 +96,6 @@ use Rattle.branch.proofs.Branch.closed.Reads as closed-reads
 use Rattle.branch.proofs.Branch.dropped.Reads as dropped-reads
 use Rattle.branch.proofs.Branch.joined.Reads as joined-reads
 use Rattle.branch.proofs.Branch.lead.Reads as lead-reads
-use Rattle.branch.proofs.Branch.lent.Reads as lent-reads
 use Rattle.branch.proofs.Branch.longer.Reads as longer-reads
 use Rattle.branch.proofs.Branch.own.Reads as own-reads
 use Rattle.branch.proofs.Branch.past_tensor.Reads as past-tensor-reads
@@ -102,7 +104,6 @@ use Rattle.branch.proofs.Branch.sized.Reads as sized-reads
 use Rattle.branch.proofs.Branch.using.Reads as using-reads
 use Rattle.branch.proofs.Floor.past.Reads as past-reads
 use Rattle.branch.proofs.Way.beside.Reads as beside-reads
-use Rattle.branch.proofs.Way.without.Reads as without-reads
 use Rattle.branch.proofs.follow.Reads as follow-reads
 use Rattle.branch.proofs.put_way.Reads as put-way-reads
 use Rattle.branch.proofs.way_in.Reads as way-in-reads
@@ -115,10 +116,10 @@ use Rattle.choice.proofs.given_up.Reads as given-up-reads
 use Rattle.choice.proofs.keeps.Reads as keeps-reads
 use Rattle.choice.proofs.seek.Reads as seek-reads
 use Rattle.choice.proofs.unfloored.Reads as unfloored-reads
-use Rattle.entries.proofs.put.Reads as put-reads
 use Rattle.moves.proofs.inner.Reads as inner-reads
 use Rattle.moves.proofs.left_alone.Reads as left-alone-reads
-use Rattle.moves.proofs.lent_item.Reads as lent-item-reads
+use Rattle.inside.proofs.open.Reads as open-reads
+use Rattle.inside.proofs.close.Reads as close-reads
 use Rattle.moves.proofs.raise.Reads as raise-reads
 use Rattle.moves.proofs.right_alone.Reads as right-alone-reads
 use Rattle.moves.proofs.shut.Reads as shut-reads
@@ -357,24 +358,12 @@ last-claims t = (
 
 abbrev lent-claims : ℕ → lent-lts.Claims
 lent-claims t = (
-  left-reads.Asked,
-  left-reads.Learnt,
-  put-reads.Asked,
-  put-reads.Learnt,
-  lent-item-reads.Asked,
-  lent-item-reads.Learnt,
-  right-alone-reads.Asked,
-  right-alone-reads.Learnt,
-  lent-reads.Asked,
-  lent-reads.Learnt,
+  open-reads.Asked,
+  open-reads.Learnt,
   solve-below t,
   solve.Post,
-  way-in-reads.Asked,
-  way-in-reads.Learnt,
-  without-reads.Asked,
-  without-reads.Learnt,
-  put-way-reads.Asked,
-  put-way-reads.Learnt,
+  close-reads.Asked,
+  close-reads.Learnt,
 )
 
 abbrev need-claims : ℕ → need-lts.Claims
@@ -1688,165 +1677,89 @@ last-returns-2 t c =
       stays-from large-self (at-part .part .ensures .1) _ (at-put-way .put-way .ensures .1) (weary-solved _),
     )
 
-lent-left-requires : (t : ℕ) → lent-lts.Need-left-requires (lent-claims t) (lent-at t) lent.Post
-lent-left-requires t c κs =
-    let start = c .before .before .before .before .before .before .before .before in
-    let rd = start .pre .1 .0 in
-    let gr = start .pre .1 .1 .0 .0 .0 in
-    node-here (rd .sound) (start .args .goal) (goal-low (rd .sound) gr)
+-- the prunings stay stocked past the entering
+opened-equipped : {bs waits tape nodes heads nodes′ heads′ agenda agenda′ names table masks codes words way : List ℕ} {f : Floor} {goal n : ℕ}
+    {b d : Branch} → Ready bs waits tape nodes heads f b → GoalReady bs goal n b → Fresh b → kindAt bs goal ≡ 6
+    → Equipped bs names table masks codes words way nodes (b .count) → Opened bs nodes nodes′ heads heads′ agenda agenda′ goal n b d
+    → Equipped bs names table masks codes words way nodes′ (d .count)
+opened-equipped rd gr fb kd eq (lends k en hd ea ec) =
+    equipped-at (ap (λ (x : Branch). x .count) ec)
+    (equipped-lent eq (goal-low (rd .sound) gr) k (lent-count rd gr fb kd) (rd .entered .node-room) (rd .scoped) refl en)
 
-lent-put-requires : (t : ℕ) → lent-lts.Need-put-requires (lent-claims t) (lent-at t) lent.Post
-lent-put-requires t c κs =
-    let at-left = c in
-    let start = at-left .before .before .before .before .before .before .before .before .before in
-    let rd = start .pre .1 .0 in
-    let gr = start .pre .1 .1 .0 .0 .0 in
-    let fb = start .pre .1 .1 .0 .0 .1 in
-    let kd = start .pre .1 .1 .0 .1 in
-    let e = at-left .left .ensures .0 in
-    (rd .sound, (rw e (lent-clause rd gr fb kd), (lent-count rd gr fb kd, (rd .entered .node-room, rd .entered .head-room))))
-
-lent-lent-item-requires : (t : ℕ) → lent-lts.Need-lent-item-requires (lent-claims t) (lent-at t) lent.Post
-lent-lent-item-requires t c κs =
-    let start = c .before .before .before .before .before .before .before .before .before .before in
-    let rd = start .pre .1 .0 in
-    (rd .sound, omega (arith, rd .scoped))
-
-lent-right-alone-requires : (t : ℕ) → lent-lts.Need-right-alone-requires (lent-claims t) (lent-at t) lent.Post
-lent-right-alone-requires t c κs =
-    let start = c .before .before .before .before .before .before .before .before .before .before .before .before in
-    let rd = start .pre .1 .0 in
-    let gr = start .pre .1 .1 .0 .0 .0 in
-    (rd .sound, ((goal-low (rd .sound) gr, omega (arith, gr .kind)), (gr .nested, refl)))
-
-lent-lent-requires : (t : ℕ) → lent-lts.Need-lent-requires (lent-claims t) (lent-at t) lent.Post
-lent-lent-requires t c κs =
-    let at-item = c .before .before .before .before .before .before .before .before .before in
-    let start = at-item .before .before .before .before .before .before .before .before .before .before .before in
+lent-open-requires : (t : ℕ) → lent-lts.Need-open-requires (lent-claims t) (lent-at t) lent.Post
+lent-open-requires t c κs =
+    let start = c .before .before .before .before .before .before .before .before .before in
     let rd = start .pre .1 .0 in
     let gr = start .pre .1 .1 .0 .0 .0 in
     let fb = start .pre .1 .1 .0 .0 .1 in
     let kd = start .pre .1 .1 .0 .1 in
-    let few = lent-count rd gr fb kd in
-    rw (at-item .lent-item .ensures) (omega (arith, few), ((item-low rd gr fb kd, item-free rd gr fb kd), rd .counted))
+    (opening rd gr fb kd, refl)
 
 lent-solve-requires : (t : ℕ) → lent-lts.Need-solve-requires (lent-claims t) (lent-at t) lent.Post
 lent-solve-requires t c κs =
-    let at-lent = c in
-    let at-right = at-lent .before .before .before .before .before .before .before .before in
-    let at-item = at-right .before .before in
-    let at-put = at-item .before in
-    let at-left = at-put .before in
-    let start = at-left .before .before .before .before .before .before .before .before .before in
+    let at-open = c .before .before .before .before .before .before .before in
+    let start = at-open .before .before .before .before .before .before .before .before .before .before in
     let rd = start .pre .1 .0 in
-    let eq = start .pre .1 .1 .1 in
-    let number-is = start .pre .0 in
     let gr = start .pre .1 .1 .0 .0 .0 in
     let fb = start .pre .1 .1 .0 .0 .1 in
     let kd = start .pre .1 .1 .0 .1 in
-    let el = at-left .left .ensures .0 in
-    let put = at-put .put .ensures in
-    let lent-is = at-lent .lent .ensures .0 ∙ ap (lentB (start .args .b)) (at-item .lent-item .ensures) in
-    let asked = lent-asks rd gr fb kd el (put .0) (put .1) _ refl lent-is (replicate 104 0)
-    refl
-    refl (at-right .right-alone .ensures) in (
-      omega (arith, asked .0, number-is),
-      (
-        asked .1 .0,
-        (
-          asked .1 .1,
-          equipped-at (ap (λ (x : Branch). x .count) (at-lent .lent .ensures .0))
-              (equipped-lent eq (goal-low (rd .sound) gr) kd (lent-count rd gr fb kd) (rd .entered .node-room) (rd .scoped) el (put .0)),
-        ),
-      ),
-    )
+    let eq = start .pre .1 .1 .1 in
+    let number-is = start .pre .0 in
+    let o = at-open .«open» .ensures in
+    let asked = opened-asks rd gr fb kd (replicate 104 0) refl o in
+    (omega (arith, asked .0, number-is), (asked .1 .0, (asked .1 .1, opened-equipped rd gr fb kd eq o)))
 
 lent-enum-told : (t : ℕ) → lent-lts.Need-enum-told (lent-claims t) (lent-at t) lent.Post
 lent-enum-told t c = c .match .keys1
 
 lent-same-length : (t : ℕ) → lent-lts.Need-same-length (lent-claims t) (lent-at t) lent.Post
-lent-same-length t c =
-    let at-solve = c .before .before .before .before .before in
-    at-solve .solve .ensures .1 .code-same
+lent-same-length t c = let at-solve = c .before .before .before .before .before in at-solve .solve .ensures .1 .code-same
 
 lent-same-length-2 : (t : ℕ) → lent-lts.Need-same-length-2 (lent-claims t) (lent-at t) lent.Post
-lent-same-length-2 t c =
-    let at-solve = c .before .before .before .before .before in
-    at-solve .solve .ensures .1 .same
+lent-same-length-2 t c = let at-solve = c .before .before .before .before .before in at-solve .solve .ensures .1 .same
 
 lent-returns : (t : ℕ) → lent-lts.Need-returns (lent-claims t) (lent-at t) lent.Post
 lent-returns t c =
     let at-match = c in
     let at-solve = at-match .before .before .before .before .before in
-    let at-lent = at-solve .before in
-    let at-right = at-lent .before .before .before .before .before .before .before .before in
-    let at-item = at-right .before .before in
-    let at-put = at-item .before in
-    let at-left = at-put .before in
-    let start = at-left .before .before .before .before .before .before .before .before .before in
+    let at-open = at-solve .before .before .before .before .before .before .before .before in
+    let start = at-open .before .before .before .before .before .before .before .before .before .before in
     let rd = start .pre .1 .0 in
     let gr = start .pre .1 .1 .0 .0 .0 in
     let fb = start .pre .1 .1 .0 .0 .1 in
-    let kd = start .pre .1 .1 .0 .1 in
-    let el = at-left .left .ensures .0 in
-    let put = at-put .put .ensures in
-    let lent-is = at-lent .lent .ensures .0 ∙ ap (lentB (start .args .b)) (at-item .lent-item .ensures) in
-    let S = searched-at (lent-branch rd gr fb kd el (put .0) (put .1) _ refl lent-is)
-    (searched-as (one-task _ (replicate 104 0) (gr .nested) refl (ap (λ (x : Branch). x .len) (at-lent .lent .ensures .0))
-    refl (at-right .right-alone .ensures)) (at-solve .solve .ensures .0)) in
-    (lent-unsolved rd gr fb kd el (put .0) (put .1) S (unsolved _ (at-match .match .keys2) _), at-solve .solve .ensures .1)
+    let kd = start .pre .1 .1 .0 .1 in (
+      opened-unsolved rd gr fb kd (replicate 104 0) refl (at-open .«open» .ensures) (at-solve .solve .ensures .0)
+          (unsolved _ (at-match .match .keys2) _),
+      at-solve .solve .ensures .1,
+    )
 
-lent-way-in-requires : (t : ℕ) → lent-lts.Need-way-in-requires (lent-claims t) (lent-at t) lent.Post
-lent-way-in-requires t c κs =
+lent-close-requires : (t : ℕ) → lent-lts.Need-close-requires (lent-claims t) (lent-at t) lent.Post
+lent-close-requires t c κs =
     let at-solve = c .before .before .before .before .before .before .before in
-    at-solve .solve .ensures .1 .way-room
-
-lent-without-requires : (t : ℕ) → lent-lts.Need-without-requires (lent-claims t) (lent-at t) lent.Post
-lent-without-requires t c κs = tt
-
-lent-put-way-requires : (t : ℕ) → lent-lts.Need-put-way-requires (lent-claims t) (lent-at t) lent.Post
-lent-put-way-requires t c κs =
-    let at-solve = c .before .before .before .before .before .before .before .before .before .before in
-    at-solve .solve .ensures .1 .way-room
+    let start = at-solve .before .before .before .before .before .before .before .before .before .before .before .before .before .before .before .before .before .before in
+    let rd = start .pre .1 .0 in
+    ((rd .sound, omega (arith, rd .scoped)), at-solve .solve .ensures .1 .way-room)
 
 lent-same-length-3 : (t : ℕ) → lent-lts.Need-same-length-3 (lent-claims t) (lent-at t) lent.Post
-lent-same-length-3 t c =
-    let at-solve = c .before .before .before .before .before .before .before .before .before .before .before in
-    at-solve .solve .ensures .1 .code-same
+lent-same-length-3 t c = let at-solve = c .before .before .before .before .before .before .before .before in at-solve .solve .ensures .1 .code-same
 
 lent-same-length-4 : (t : ℕ) → lent-lts.Need-same-length-4 (lent-claims t) (lent-at t) lent.Post
-lent-same-length-4 t c =
-    let at-solve = c .before .before .before .before .before .before .before .before .before .before .before in
-    at-solve .solve .ensures .1 .same
+lent-same-length-4 t c = let at-solve = c .before .before .before .before .before .before .before .before in at-solve .solve .ensures .1 .same
 
 lent-returns-2 : (t : ℕ) → lent-lts.Need-returns-2 (lent-claims t) (lent-at t) lent.Post
 unfolding answerIn
 lent-returns-2 t c =
-    let at-put-way = c in
-    let at-without = at-put-way .before in
-    let at-way-in = at-without .before .before in
-    let at-enum-told = at-way-in .before .before in
-    let at-solve = at-enum-told .before .before .before .before .before .before in
-    let at-lent = at-solve .before in
-    let at-right = at-lent .before .before .before .before .before .before .before .before in
-    let at-item = at-right .before .before in
-    let at-put = at-item .before in
-    let at-left = at-put .before in
-    let start = at-left .before .before .before .before .before .before .before .before .before in
+    let at-enum-told = c .before .before in
+    let at-solve = c .before .before .before .before .before .before .before .before in
+    let at-open = at-solve .before .before .before .before .before .before .before .before in
+    let start = at-open .before .before .before .before .before .before .before .before .before .before in
     let rd = start .pre .1 .0 in
     let gr = start .pre .1 .1 .0 .0 .0 in
     let fb = start .pre .1 .1 .0 .0 .1 in
     let kd = start .pre .1 .1 .0 .1 in
-    let el = at-left .left .ensures .0 in
-    let put = at-put .put .ensures in
-    let lent-is = at-lent .lent .ensures .0 ∙ ap (lentB (start .args .b)) (at-item .lent-item .ensures) in
-    let S = searched-at (lent-branch rd gr fb kd el (put .0) (put .1) _ refl lent-is)
-    (searched-as (one-task _ (replicate 104 0) (gr .nested) refl (ap (λ (x : Branch). x .len) (at-lent .lent .ensures .0))
-    refl (at-right .right-alone .ensures)) (at-solve .solve .ensures .0)) in
-    let solved = solved-said (at-enum-told .enum-told .given .1) _ ∙ ap Solved (sym (at-way-in .way-in .ensures)) in (
-      rw (at-put-way .put-way .ensures .0, at-without .without .ensures, at-item .lent-item .ensures) (lent-solved rd gr fb kd el (put
-          .0) (put .1) S _ solved),
-      stays-from large-self (at-solve .solve .ensures .1) _ (at-put-way .put-way .ensures .1) (weary-solved _),
+    let solved = solved-said (at-enum-told .enum-told .given .1) _ in (
+      rw (c .close .ensures .0) (opened-solved rd gr fb kd (replicate 104 0) refl _ (at-open .«open» .ensures) (at-solve .solve .ensures .0) solved),
+      stays-from large-self (at-solve .solve .ensures .1) _ (c .close .ensures .1) (weary-solved _),
     )
 
 need-sub-nest : (t : ℕ) → need-lts.Need-sub-nest (need-claims t) (need-at t) need.Post
@@ -3045,19 +2958,13 @@ pub +behind+both-ways+choose+enter+last+lent+need+one-of+others+part+side+solve+
     (last-returns-2 t))
     (λ t. lent-lts.spec (lent-claims t) (lent-at t)
     lent.Post
-    (lent-left-requires t)
-    (lent-put-requires t)
-    (lent-lent-item-requires t)
-    (lent-right-alone-requires t)
-    (lent-lent-requires t)
+    (lent-open-requires t)
     (lent-solve-requires t)
     (lent-enum-told t)
     (lent-same-length t)
     (lent-same-length-2 t)
     (lent-returns t)
-    (lent-way-in-requires t)
-    (lent-without-requires t)
-    (lent-put-way-requires t)
+    (lent-close-requires t)
     (lent-same-length-3 t)
     (lent-same-length-4 t)
     (lent-returns-2 t))

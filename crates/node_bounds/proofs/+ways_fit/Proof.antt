@@ -6,12 +6,12 @@ use mathlib.Core.Logic.{⊎-elim}
 use mathlib.Core.Bool.{true, false≢true}
 use mathlib.Core.List.{List}
 use borrow.Author.Needs.{needs}
-use borrow.Author.Tests.{not-false}
+use borrow.Author.Tests.{not-false, eqb-true}
 use borrow.Fn.Kinds.{In}
 use borrow.Fn.PlainCycle.{Measures, is, falls, and}
 use Rattle.card.specs.Format.{nodeCount, kindAt, leftAt, rightAt}
 use Rattle.card.specs.Fault.{clausePart}
-use Rattle.card.specs.Decode.{clauseOf}
+use Rattle.card.specs.Decode.{clauseOf, scopeOf}
 use Rattle.card.proofs.NodesDecoded.{reads-name, reads-rest}
 use Rattle.card.proofs.SoundNodes.{clause-lower, clause-kind, clause-above, recipe-parts, menu-parts, sound-recipe, sound-menu}
 use Rattle.bounds.proofs.WaysSmall.{clause-node, way-on}
@@ -55,8 +55,8 @@ module _ {bs names t : List ℕ} (z : Held bs names t) (i : ℕ) (p : clausePart
 
   module _ (c s l h : ℕ) where
     name-ways : {a : ℕ} → kindAt bs i ≡ 1 → a ≡ leftAt bs i → HeadFits names t a c s l h → WaysFit bs names t (clauseOf bs i) i c s l h
-    unfolding WaysFit
-    name-ways k e w = rw (reads-name bs i k .1) (rw e at w)
+    unfolding WaysFit scopeOf
+    name-ways {a} k e w = rw (reads-name bs i k .1) (λ b f. rw (eqb-true (leftAt bs i) b f) at (rw e at w))
 
     -- a clause that is neither a name nor a recipe nor a menu has no head
     rest-ways : (kindAt bs i ≡ 1 → ⊥) → (kindAt bs i ≡ 7 → ⊥) → (kindAt bs i ≡ 10 → ⊥) → WaysFit bs names t (clauseOf bs i) i c s l h
