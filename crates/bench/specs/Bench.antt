@@ -44,11 +44,11 @@ pub data JoinDecided (a b old new : List ℕ) : JoinVerdict → Type 0 where
   too-short : new ≡ old → JoinDecided a b old new (refused neither 10 sheet)
 
 -- "asking, 16, place line i, for an index not below the joined T"
-abbrev pub lineFault : List ℕ → List ℕ → ℕ → BenchVerdict
-lineFault a b i = about neither (refuse (leb (joinedLines a b) i) 16 (line i))
+abbrev pub indexFault : List ℕ → List ℕ → ℕ → BenchVerdict
+indexFault a b i = about neither (refuse (leb (joinedLines a b) i) 16 (line i))
 
 unfoldable pub sourceFault : List ℕ → List ℕ → ℕ → BenchVerdict
-sourceFault a b i = benchFault a b ▸ lineFault a b i
+sourceFault a b i = benchFault a b ▸ indexFault a b i
 
 -- Which card holds a joined line, and where its three bytes begin there; or a refusal.
 pub data SourceVerdict : Type 0 where

@@ -13,7 +13,7 @@ ghost use Prim.Native.Nat.{_≤_};
 ghost use Rattle.card.specs.Format.{lineStart};
 ghost use Rattle.card.specs.Fault.{Sound};
 ghost use Rattle.benched.specs.Benched.{fine, first as firstCard, benchFault, saidOf, toldBench};
-ghost use Rattle.bench.specs.Bench.{Joining, joined, refused, toldJoin, held, unheld, lineFault, holder, sourceOf, sourcePart, toldSource};
+ghost use Rattle.bench.specs.Bench.{Joining, joined, refused, toldJoin, held, unheld, indexFault, holder, sourceOf, sourcePart, toldSource};
 
 // Joined with the length, or a refusal.
 pub enum Answer {
@@ -95,7 +95,7 @@ fn locate_sound(first: &[u8], second: &[u8], i: u16) -> Located
     requires { ⌜ Sound (now second) ⌝ }
     ensures { λ r. ⌜ toldSource r
         ≡ saidOf (holder (now (first .entry)) (now (second .entry)) i) unheld
-        (lineFault (now (first .entry)) (now (second .entry)) i) ⌝ }
+        (indexFault (now (first .entry)) (now (second .entry)) i) ⌝ }
 {
     let n = i as usize;
     let t = byte(first, 4);

@@ -17,7 +17,7 @@ use Rattle.bench.specs.declared.Located.{Located}
 use Rattle.bench.specs.declared.Located.the-variants.{InFirst, InSecond, Unheld}
 use Rattle.bench.specs.Bench.{JoinVerdict, joined, refused, SourceVerdict, held, unheld, toldJoin, toldSource, Owned, of-first, of-second}
 use Rattle.bench.specs.Bench.{of-neither, JoinDecided, whole, by-card, too-short, SourceDecided, in-first, in-second, unasked, beyond}
-use Rattle.bench_numbers.specs.Inner.Nonzero.{Nonzero}
+use Rattle.bench_numbers.specs.Inner.Nonzero.{OwnedNonzero}
 use Rattle.bench_numbers.specs.BenchNumbers.{owners, ownerAt, ownerIn, joinIn, sourceIn, Carded}
 
 -- a card beside a number that tells none changes no other part of it
@@ -49,7 +49,7 @@ module _ (r : ℕ) where
   unfolding toldJoin joinIn
   tells-joined a e h = said-fine joined (refused (ownerIn r)) r h ∙ ap toldJoin (sym e)
 
-  pub tells-refused : {f : BenchRefusal} (a : Answer) → a ≡ Refused f → Nonzero refused (toldJoin a)
+  pub tells-refused : {f : BenchRefusal} (a : Answer) → a ≡ Refused f → OwnedNonzero refused (toldJoin a)
       → (numberIn r ≡ f .number) × (placeOf (placeIn r) (indexIn r) ≡ whereOf (f .place)) → ownerIn r ≡ ownerOf (f .card)
       → joinIn r ≡ toldJoin a
   unfolding toldJoin joinIn
@@ -70,7 +70,7 @@ module _ (r : ℕ) where
   tells-second {at} a e h o =
       said-fine (held (ownerIn r)) (unheld (ownerIn r)) r h ∙ ap (λ (x : Owner). held x at) o ∙ ap toldSource (sym e)
 
-  pub tells-unheld : {f : BenchRefusal} (a : Located) → a ≡ Unheld f → Nonzero unheld (toldSource a)
+  pub tells-unheld : {f : BenchRefusal} (a : Located) → a ≡ Unheld f → OwnedNonzero unheld (toldSource a)
       → (numberIn r ≡ f .number) × (placeOf (placeIn r) (indexIn r) ≡ whereOf (f .place)) → ownerIn r ≡ ownerOf (f .card)
       → sourceIn r ≡ toldSource a
   unfolding toldSource sourceIn
@@ -85,12 +85,12 @@ owned-nonzero (of-first h p) = h .0
 owned-nonzero (of-second h p) = h .0
 owned-nonzero of-neither = omega arith
 
-pub join-nonzero : {a b old new : List ℕ} {v : JoinVerdict} → JoinDecided a b old new v → Nonzero refused v
+pub join-nonzero : {a b old new : List ℕ} {v : JoinVerdict} → JoinDecided a b old new v → OwnedNonzero refused v
 join-nonzero (whole h k) = record { nonzero = λ o n w e. let z : _≡_ {A = ℕ} 0 1 = cc in absurd (omega arith) }
 join-nonzero (by-card {n} x e) = record { nonzero = λ o m w q. let z : n ≡ m = cc in omega (arith, owned-nonzero x) }
 join-nonzero (too-short e) = record { nonzero = λ o m w q. let z : 10 ≡ m = cc in omega arith }
 
-pub source-nonzero : {a b : List ℕ} {i : ℕ} {v : SourceVerdict} → SourceDecided a b i v → Nonzero unheld v
+pub source-nonzero : {a b : List ℕ} {i : ℕ} {v : SourceVerdict} → SourceDecided a b i v → OwnedNonzero unheld v
 source-nonzero (in-first h k) = record { nonzero = λ o n w e. let z : _≡_ {A = ℕ} 0 1 = cc in absurd (omega arith) }
 source-nonzero (in-second h k) = record { nonzero = λ o n w e. let z : _≡_ {A = ℕ} 0 1 = cc in absurd (omega arith) }
 source-nonzero (unasked {n} x) = record { nonzero = λ o m w q. let z : n ≡ m = cc in omega (arith, owned-nonzero x) }

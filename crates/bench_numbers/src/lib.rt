@@ -12,7 +12,7 @@ ghost use Rattle.card.specs.Verdict.{whereOf};
 ghost use Rattle.numbers.specs.Numbers.{numberIn, cardIn, placeIn, indexIn, placeOf, Plain};
 ghost use Rattle.benched.specs.Benched.{ownerOf};
 ghost use Rattle.bench.specs.Bench.{refused, unheld, toldJoin, toldSource};
-ghost use Rattle.bench_numbers.specs.Inner.Nonzero.{Nonzero};
+ghost use Rattle.bench_numbers.specs.Inner.Nonzero.{OwnedNonzero};
 ghost use Rattle.bench_numbers.specs.BenchNumbers.{ownerAt, ownerIn, joinIn, sourceIn, Carded, Uncarded};
 
 // The number of a card: 1 the first, 2 the second, 0 neither.
@@ -54,7 +54,7 @@ fn packed_stop(refusal: BenchRefusal) -> u32
 
 // What joining answers.
 pub fn packed_join(answer: Answer) -> u32
-    requires { ⌜ Nonzero refused (toldJoin answer) ⌝ }
+    requires { ⌜ OwnedNonzero refused (toldJoin answer) ⌝ }
     ensures { λ r. ⌜ joinIn r ≡ toldJoin answer ⌝ }
     ensures { λ r. ⌜ Plain r ⌝ }
     ensures { λ r. ⌜ Carded r ⌝ }
@@ -68,7 +68,7 @@ pub fn packed_join(answer: Answer) -> u32
 
 // What asking answers.
 pub fn packed_source(answer: Located) -> u32
-    requires { ⌜ Nonzero unheld (toldSource answer) ⌝ }
+    requires { ⌜ OwnedNonzero unheld (toldSource answer) ⌝ }
     ensures { λ r. ⌜ sourceIn r ≡ toldSource answer ⌝ }
     ensures { λ r. ⌜ Plain r ⌝ }
     ensures { λ r. ⌜ Carded r ⌝ }

@@ -1,31 +1,19 @@
 -- Laws of counting items of a class.
 use Prim.Native.Nat.{ℕ, _+_, _≤_, _<_}
 use native.Mathlib.Omega.{arith}
-use native.Mathlib.Decide.{decLt}
 use native.Mathlib.Numerals.{add-one}
-use mathlib.Core.Path.{_≡_, refl, sym, ap, ap₂, _∙_}
-use mathlib.Core.Bool.{true, false, not, _&&_, _||_, false≢true}
+use mathlib.Core.Path.{_≡_, refl, ap, ap₂, _∙_}
+use mathlib.Core.Bool.{true, false, not, _&&_, _||_}
 use Rattle.calculus.specs.Formula.{Clause}
 use Rattle.calculus.specs.Items.{Items, only, Empty, Splits, Within}
-use Rattle.calculus.specs.Derivation.{Scope, Entry, size, entryAt, clauseAt, linearAt, lend}
+use Rattle.calculus.specs.Derivation.{Scope, Entry, size, entryAt, clauseAt, lend}
 use Rattle.calculus.specs.Inner.Summary.{Without, Plus}
 use Rattle.calculus.proofs.SetLaws.{table, _≐_, _⟹_, _⊑_, only-self, only-eq, only-at, not-true}
 use Rattle.calculus.proofs.SummaryExact.{lend-size}
-use Rattle.calculus.proofs.RenamingKeeps.{entry-past, entry-before, entry-lent}
-use Rattle.lines.specs.Inner.Count.{bit, number}
+use Rattle.calculus.proofs.RenamingKeeps.{entry-before, entry-lent}
+use Rattle.lines.specs.Count.{bit, number}
 use Rattle.lines.proofs.CountLaws.{number-mono, number-same, number-split, number-none, number-one}
 use Rattle.bounds.specs.Inner.Count.{Class, ofClass, count}
-
--- A linear entry is in scope.
-pub linear-in : (es : Scope) (e : ℕ) → linearAt es e ≡ true → e < size es
-unfolding linearAt
-linear-in es e h = go (decLt e (size es))
-  where
-    go : Dec (e < size es) → e < size es
-    go (yes k) = k
-    go (no n) = absurd (false≢true (sym (ap (λ (x : Entry). x .linear) (entry-past es e (omega arith))) ∙ h))
-
--- Items of a class
 
 module _ (es : Scope) (K : Class) where
   pub count-none : {U : Items} → Empty U → count es K U ≡ 0

@@ -7,12 +7,12 @@ use mathlib.Core.Bool.{Bool}
 use mathlib.Core.List.{List}
 use lib.ListN.{getD}
 use Rattle.lines.specs.declared.LineSet.{LineSet}
-use Rattle.lines.specs.Inner.Set.{joinS}
+use Rattle.lines.specs.Set.{joinS}
 use Rattle.card.specs.Format.{ruleCount}
 use Rattle.card.specs.Fault.{Sound}
 use Rattle.card.specs.Decode.{scopeOf}
 use Rattle.scope.specs.Inner.Sets.{items}
-use Rattle.scope.specs.Inner.Tables.{scopeIn, Entered}
+use Rattle.scope.specs.Inner.Tables.{tableScope, TableEntered}
 use Rattle.scope.proofs.SetsAreItems.{items-join}
 use Rattle.agenda.specs.Inner.Sought.{Place, None, Spares}
 use Rattle.segment.specs.Inner.Tasks.{nodeOf, taskOf, agendaOf}
@@ -62,12 +62,12 @@ module _ {bs names t masks : List ℕ} (s : Sound bs) (z : Settled bs names t ma
         let y = high-under n (coded-less g) (omega arith) in
         omega arith
 
-  module _ {nodes : List ℕ} {linear : List Bool} {n : ℕ} (en : Entered bs nodes linear n) (k : ScopeOfCard bs nodes linear n)
+  module _ {nodes : List ℕ} {linear : List Bool} {n : ℕ} (en : TableEntered bs nodes linear n) (k : ScopeOfCard bs nodes linear n)
       (len : ℕ) (g : Coded bs codes len) where
     pub doomed-none : (eligible : List ℕ → ℕ → Bool) (p : Place) (strict lax : LineSet)
         → p .strict ≡ items (ruleCount bs) strict → p .lax ≡ items (ruleCount bs) lax
         → Doomed bs names t masks nodes codes len n strict lax (p .room)
-        → None eligible (scopeIn bs nodes linear n) (agendaOf bs codes len) p
+        → None eligible (tableScope bs nodes linear n) (agendaOf bs codes len) p
     doomed-none eligible p strict lax e f (long h) =
         let u = least-under 0 (z .some) len g in
         hopeless-none (OfCard bs) (scopeOf bs .fits) (classOf names 0) (namesOf names t 0) (closed s z 0 (z .some))
@@ -75,7 +75,7 @@ module _ {bs names t masks : List ℕ} (s : Sound bs) (z : Settled bs names t ma
     doomed-none eligible p strict lax e f (short u) = uneven (u .class) (u .known) (u .uneven)
       where
         uneven : (c : ℕ) → c < classes names → Short bs names t masks nodes codes len n strict lax c
-            → None eligible (scopeIn bs nodes linear n) (agendaOf bs codes len) p
+            → None eligible (tableScope bs nodes linear n) (agendaOf bs codes len) p
         uneven c q (few h) =
             hopeless-none (OfCard bs) (scopeOf bs .fits) (classOf names c) (namesOf names t c) (closed s z c q)
             (stock-scoped k) (agenda-lends len g) eligible p
@@ -88,7 +88,7 @@ module _ {bs names t masks : List ℕ} (s : Sound bs) (z : Settled bs names t ma
             (stock-scoped k) (agenda-lends len g) eligible p
             (too-many (omega arith) (rw e (omega (arith, stock-counts s z en k c q strict))))
 
-    pub spared-leaves : (room r : ℕ) → r ≤ leastSum t codes len → Spares (scopeIn bs nodes linear n) (agendaOf bs codes len) room (room - r)
+    pub spared-leaves : (room r : ℕ) → r ≤ leastSum t codes len → Spares (tableScope bs nodes linear n) (agendaOf bs codes len) room (room - r)
     spared-leaves room r h =
         let u = least-under 0 (z .some) len g in
         least-spares (OfCard bs) (scopeOf bs .fits) (classOf names 0) (namesOf names t 0) (closed s z 0 (z .some))

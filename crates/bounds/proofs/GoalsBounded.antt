@@ -17,7 +17,7 @@ use Rattle.calculus.specs.Inner.Summary.{Sum, sum-1, sum-⊤, sum-⊗, sum-&, s
 use Rattle.calculus.specs.Inner.Summary.{Covers, spare}
 use Rattle.calculus.proofs.SetLaws.{join-left, join-right, join-within, covers}
 use Rattle.calculus.proofs.RenamingKeeps.{entry-past, entry-before, entry-lent, fits-lend, lent-cases}
-use Rattle.lines.specs.Inner.Count.{bit}
+use Rattle.lines.specs.Count.{bit}
 use Rattle.bounds.specs.Inner.Count.{Class, count}
 use Rattle.bounds.specs.Inner.Bound.{Names, off, leastG, lowG, highG, Admits, Allows, Settles, Kin, LendsG, LendsD, Scoped}
 use Rattle.bounds.specs.Inner.Bound.{Closed, Keeps}

@@ -2,24 +2,23 @@
 -- these allow every use of a clause of the card.
 use Prim.Native.Nat.{ℕ, zero, suc, max, min, _+_, _-_, _≤_, _<_}
 use native.Mathlib.Omega.{arith}
-use native.Mathlib.Decide.{decLe, decLt}
+use native.Mathlib.Decide.{decLe}
 use mathlib.Core.Path.{_≡_, refl, sym, ap, ap₂, _∙_, subst}
-use mathlib.Core.Logic.{_⊎_, inl, inr, ⊎-elim}
-use mathlib.Core.Bool.{Bool, true, false, cond, _&&_, _||_, false≢true}
+use mathlib.Core.Logic.{_⊎_, ⊎-elim}
+use mathlib.Core.Bool.{Bool, true, false, cond, _&&_}
 use mathlib.Core.List.{List}
-use lib.Dec.{eqb, leb}
-use borrow.Author.Tests.{eqb-true, ne-eqb, leb-true}
-use Rattle.calculus.specs.Formula.{Goal, Clause, atomᴳ, topᴳ, oneᴳ, zeroᴳ, tensor, with, oplus, lolliᴳ, atomᴰ, topᴰ, lolliᴰ, withᴰ, usable}
+use lib.Dec.{leb}
+use borrow.Author.Tests.{leb-true}
+use Rattle.calculus.specs.Formula.{Goal, Clause, atomᴳ, topᴳ, oneᴳ, zeroᴳ, tensor, with, oplus, lolliᴳ}
 use Rattle.card.specs.Format.{nodeCount, kindAt, leftAt, rightAt}
 use Rattle.card.specs.Fault.{Sound, goalPart, clausePart}
 use Rattle.card.specs.Decode.{goalAt, clauseOf, scopeOf}
 use Rattle.card.proofs.NodesDecoded.{reads-name, reads-rest, reads-done, reads-never}
-use Rattle.card.proofs.SoundNodes.{goal-lower, goal-kind, clause-lower, clause-kind, goal-above, clause-above, name-low, both-parts}
+use Rattle.card.proofs.SoundNodes.{goal-lower, goal-kind, clause-lower, clause-kind, goal-above, clause-above, both-parts}
 use Rattle.card.proofs.SoundNodes.{either-parts, one-of-parts, lend-parts, recipe-parts, menu-parts, sound-both, sound-either}
-use Rattle.card.proofs.SoundNodes.{sound-one-of, sound-lend, sound-recipe, sound-menu, usable-name, usable-rest, usable-recipe, usable-menu}
-use Rattle.lines.specs.Inner.Count.{bit}
-use Rattle.bounds.specs.Inner.Count.{Class}
-use Rattle.bounds.specs.Inner.Bound.{Names, off, leastG, lowG, highG, Admits, Allows, Settles}
+use Rattle.card.proofs.SoundNodes.{sound-one-of, sound-lend, sound-recipe, sound-menu}
+use Rattle.lines.specs.Count.{bit}
+use Rattle.bounds.specs.Inner.Bound.{off, leastG, lowG, highG, Admits, Allows, Settles}
 use Rattle.bounds.specs.Inner.Bound.{LendsG, LendsD, Closed}
 use Rattle.bounds.specs.Inner.Table.{headOf, menuCode, takesIn, headAt, rowOf, classAt, classes, lowAt, highAt, leastAt, byKind}
 use Rattle.bounds.specs.Inner.Table.{inClass, headStep, leastStep, lowStep, highStep}

@@ -9,17 +9,17 @@ use borrow.Author.Tests.{lt-leb, lt-ltb, le-ltb}
 use Rattle.calculus.specs.Items.{Items}
 use Rattle.calculus.specs.Derivation.{Scope, size, clauseAt}
 use Rattle.lines.specs.declared.LineSet.{LineSet}
-use Rattle.lines.specs.Inner.Set.{bitAt, member}
+use Rattle.lines.specs.Set.{bitAt, member}
 use Rattle.card.specs.Format.{ruleCount, lineCount, nodeCount, lineNode}
 use Rattle.card.specs.Fault.{Sound, clausePart}
 use Rattle.card.specs.Decode.{clauseOf, scopeOf}
 use Rattle.card.proofs.CardChecked.{sound-front}
 use Rattle.card.proofs.SoundNodes.{sound-line-node}
 use Rattle.scope.specs.Inner.Sets.{items}
-use Rattle.scope.specs.Inner.Tables.{scopeIn, Entered}
+use Rattle.scope.specs.Inner.Tables.{tableScope, TableEntered}
 use Rattle.scope.proofs.SetsAreItems.{items-at}
 use Rattle.scope.proofs.TablesAreScopes.{scope-size, scope-clause, scope-linear}
-use Rattle.lines.specs.Inner.Count.{number}
+use Rattle.lines.specs.Count.{number}
 use Rattle.lines.proofs.CountLaws.{number-same, number-none, number-add}
 use Rattle.bounds.specs.Inner.Count.{ofClass, count}
 use Rattle.bounds.specs.Inner.Bound.{Scoped}
@@ -29,8 +29,8 @@ use Rattle.bounds.proofs.NodesBounded.{head-is}
 
 -- the scope of the tables is of the card's family
 pub stock-scoped : {bs nodes : List ℕ} {linear : List Bool} {n : ℕ} → ScopeOfCard bs nodes linear n
-    → Scoped (OfCard bs) (scopeOf bs .fits) (scopeIn bs nodes linear n)
-unfolding scopeIn scopeOf
+    → Scoped (OfCard bs) (scopeOf bs .fits) (tableScope bs nodes linear n)
+unfolding tableScope scopeOf
 stock-scoped {bs} {nodes} {linear} {n} k = record {
   same-fits = refl;
   kin = λ e h.
@@ -43,7 +43,7 @@ none-right true = refl
 none-right false = refl
 
 module _ {bs names t masks nodes : List ℕ} {linear : List Bool} {n : ℕ} (s : Sound bs) (z : Settled bs names t masks)
-    (en : Entered bs nodes linear n) (k : ScopeOfCard bs nodes linear n) (c : ℕ) (q : c < classes names) (set : LineSet) where
+    (en : TableEntered bs nodes linear n) (k : ScopeOfCard bs nodes linear n) (c : ℕ) (q : c < classes names) (set : LineSet) where
   abbrev P : ℕ
   P = ruleCount bs
 
@@ -51,7 +51,7 @@ module _ {bs names t masks nodes : List ℕ} {linear : List Bool} {n : ℕ} (s :
   T = lineCount bs
 
   abbrev es : Scope
-  es = scopeIn bs nodes linear n
+  es = tableScope bs nodes linear n
 
   abbrev I : Items
   I = ofClass es (classOf names c) (items P set)

@@ -8,13 +8,14 @@ use crate::table::low;
 use crate::table::of_head;
 use card::format::byte;
 use lines::LineSet;
+use lines::LineWord;
 ghost use mathlib.Core.Path.{_≡_};
 ghost use mathlib.Core.Bool.{true, _&&_};
 ghost use Prim.Native.Nat.{ℕ, _+_, _-_, _*_, _<_, _≤_};
 ghost use lib.ListN.{length, getD};
 ghost use Rattle.card.specs.Format.{ruleCount, lineCount};
 ghost use Rattle.card.specs.Fault.{Sound};
-ghost use Rattle.lines.specs.Inner.Set.{member, joinS};
+ghost use Rattle.lines.specs.Set.{member, joinS};
 ghost use Rattle.bounds.specs.Inner.Table.{NameCells, inClass};
 ghost use Rattle.bounds.specs.Inner.Doom.{Filed, Asked, Stores, leastSum, lowSum, highSum, lineStock, lentStock, stock, Unbalanced};
 
@@ -63,8 +64,9 @@ fn line_stock(masks: &[u64], s: LineSet, c: usize) -> usize
     requires { ⌜ (c < 64) × (length (now masks) ≡ 64) ⌝ }
     ensures { λ r. ⌜ (r ≡ lineStock (now (masks .entry)) s c) × (r ≤ 64) ⌝ }
 {
-    let lines = s.low & masks[c];
-    u64::count_ones(lines) as usize
+    let all = s.lines();
+    let bits = masks[c];
+    all.meet(LineWord { bits }).count()
 }
 
 // Whether the item is in the set, and the clause at the node of class c.

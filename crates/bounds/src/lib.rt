@@ -10,7 +10,7 @@ ghost use Prim.Native.Nat.{ℕ, _+_, _<_, _≤_};
 ghost use lib.ListN.{length, getD};
 ghost use Rattle.card.specs.Format.{ruleCount, lineCount, nodeCount};
 ghost use Rattle.card.specs.Fault.{Sound, clausePart};
-ghost use Rattle.bounds.specs.Inner.Table.{TableCells, Held, Settled};
+ghost use Rattle.bounds.specs.Inner.Table.{TableCells, TableHeld};
 ghost use Rattle.bounds.specs.Inner.Doom.{Coded, leastSum, Doomed};
 
 // Whether the table leaves the agenda no list in its window and room. Without a table nothing is said.
@@ -28,7 +28,7 @@ pub fn hopeless(
     lax: LineSet,
     room: usize,
 ) -> bool
-    requires { ⌜ (ready ≡ true → Held (now card) (now names) (now table) × (length (now masks) ≡ 64)) ⌝ }
+    requires { ⌜ (ready ≡ true → TableHeld (now card) (now names) (now table) × (length (now masks) ≡ 64)) ⌝ }
     requires { ⌜ Sound (now card) × (length (now nodes) ≡ 256) ⌝ }
     requires { ⌜ (ruleCount (now card) + lineCount (now card) ≤ count) × (count ≤ 256) ⌝ }
     requires { ⌜ ((e : ℕ) → e < count → clausePart (now card) (nodeCount (now card)) (getD (now nodes) e 0) ≡ true) ⌝ }

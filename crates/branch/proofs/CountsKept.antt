@@ -6,8 +6,8 @@ use mathlib.Core.Path.{_≡_, refl, sym, ap, subst, _∙_}
 use mathlib.Core.Bool.{Bool, true, false, cond}
 use lib.Dec.{ltb}
 use Rattle.lines.specs.declared.LineSet.{LineSet}
-use Rattle.lines.specs.Inner.Set.{member, isEmptyS, emptyS, takeS, cutS, joinS, Words}
-use Rattle.lines.specs.Inner.Count.{countS}
+use Rattle.lines.specs.Set.{member, isEmptyS, emptyS, takeS, cutS, joinS, Words}
+use Rattle.lines.specs.Count.{countS}
 use Rattle.lines.proofs.CountLaws.{count-empty, count-add, count-take, count-keep, count-none, empty-count}
 use Rattle.branch.specs.declared.Branch.{Branch}
 use Rattle.branch.specs.declared.Way.{Way}

@@ -2,17 +2,18 @@
 use card::both;
 use card::either;
 use lines::LineSet;
+use lines::LineWord;
 ghost use mathlib.Core.Path.{_≡_};
 ghost use lib.ListN.{length};
 ghost use Prim.Native.Nat.{_≤_, _<_};
 ghost use mathlib.Core.Bool.{false};
-ghost use Rattle.lines.specs.Inner.Set.{member, Words};
+ghost use Rattle.lines.specs.Set.{member, Words};
 ghost use Rattle.branch.specs.Inner.Values.{droppedB, longerB, sizedB, choseB, freedB, easedB, leadB, ownB, pastTensorB, pastWithB, lentB, usingB, spentB, itemOf};
 ghost use Rattle.branch.specs.Inner.Values.{Counted, flagOf, wayIn, answerIn, Awake, closedA, joinedW, besideW, withoutW, followingW, pastF};
 
 // A branch, by value: the place on the tape, how many entries stand in scope, how many tasks on the agenda, the step limit, how many items
 // are due, which are the strict ones; the free items, strict and lax apart; what the segment has used so far, and whether some ⊤ in it takes
-// more; the lines in the list so far, one bit each.
+// more; the lines in the list so far.
 pub struct Branch {
     pub at: usize,
     pub count: usize,
@@ -22,7 +23,7 @@ pub struct Branch {
     pub strict: LineSet,
     pub lax: LineSet,
     pub used: LineSet,
-    pub seen: u64,
+    pub seen: LineWord,
     pub slack: bool,
 }
 
@@ -31,7 +32,7 @@ pub struct Branch {
 pub struct Way {
     pub at: usize,
     pub used: LineSet,
-    pub seen: u64,
+    pub seen: LineWord,
     pub slack: bool,
     pub kept: bool,
 }
@@ -57,12 +58,13 @@ pub fn put_way(way: &mut [u64; 7], w: Way)
     ensures { λ _. ⌜ (wayIn (now (way .exit)) ≡ w) × (length (now (way .exit)) ≡ 7) ⌝ }
 {
     let used = w.used;
+    let seen = w.seen;
     let words = [
         w.at as u64,
         used.low,
         used.mid,
         used.high,
-        w.seen,
+        seen.bits,
         flag(w.slack),
         flag(w.kept),
     ];
@@ -79,10 +81,11 @@ pub fn way_in(way: &[u64; 7]) -> Way
         mid: way[2],
         high: way[3],
     };
+    let seen = LineWord { bits: way[4] };
     Way {
         at: way[0] as usize,
         used,
-        seen: way[4],
+        seen,
         slack: way[5] == 1,
         kept: way[6] == 1,
     }
@@ -334,7 +337,7 @@ impl Branch {
         b.used = used.add(item);
         b.due = self.spent(item);
         if item < lines {
-            b.seen = seen | (1u64 << (item % 64));
+            b.seen = seen.add(item);
         }
         b
     }

@@ -15,12 +15,12 @@ use Rattle.calculus.specs.Formula.{Goal, Clause, atomᴳ, topᴳ, oneᴳ
 use Rattle.calculus.specs.Items.{Items, ∅, _∪_, _∖_, only, Empty, Splits}
 use Rattle.calculus.specs.Derivation.{Scope, Entry, size, clauseAt, linearAt, residualAt, lend}
 use Rattle.calculus.specs.Steps.{steps, leftChoice, rightChoice, Before, here, there}
-use Rattle.calculus.specs.Job.{Job, Derivable, Listed, First}
+use Rattle.calculus.specs.Job.{Job, DerivableWithin, Listed, First}
 use Rattle.calculus.specs.Inner.Summary.{Joins, Without, Plus, spare, Covers, Bounded, Sum, sum-1, sum-⊤, sum-⊗, sum-&, sum-⊕₁}
 use Rattle.calculus.specs.Inner.Summary.{sum-⊕₂, sum-⊸, sum-rule, sum-item}
 use Rattle.calculus.specs.Inner.Window.{Counts}
 use Rattle.calculus.specs.Inner.Enumeration.{Taking, taking, kept, pairs, below, all, apart, covering, tensored, sided}
-use Rattle.calculus.specs.Inner.Enumeration.{lent, spent, sideTaken, takings, named, fitting, lists, matches, among, leads}
+use Rattle.calculus.specs.Inner.Enumeration.{lent, takingUse, sideTaken, takings, named, fitting, lists, matches, among, leads}
 use Rattle.calculus.proofs.SetLaws.{_≐_, _⟹_, _⊑_, table, same-path, covers, not-true, only-eq, only-self, empty-∅, ∪-joins}
 use Rattle.calculus.proofs.SetLaws.{join-left, join-right, join-within, only-without, only-plus, split-joins}
 use Rattle.calculus.proofs.SummaryExact.{bounded-within, bounded-∪, lend-size}
@@ -202,8 +202,8 @@ lent-sums {n} {es} {D} {G} {x} p m =
     (record { sum = sum-⊸ (only-without (x .used) (size es)) (k .0) (p .sum) })
 
 spent-sums : {n : ℕ} {es : Scope} (a e : ℕ) {x z : Taking} (b : Bool) → linearAt es e ≡ b
-    → Sums n es (residualAt es a e) x → List·Memᴰ z (spent b e x) → Sums (suc n) es (atomᴳ a) z
-unfolding spent
+    → Sums n es (residualAt es a e) x → List·Memᴰ z (takingUse b e x) → Sums (suc n) es (atomᴳ a) z
+unfolding takingUse
 spent-sums {n} {es} a e false r p m =
     subst (Sums (suc n) es (atomᴳ a)) (sym (List·Memᴰ·eq-of-singleton m)) (record { sum = sum-rule r (p .sum) })
 spent-sums {n} {es} a e {x} true r p m =
@@ -241,9 +241,9 @@ named-sums : (n a : ℕ) (es : Scope) (x : Taking) → List·Memᴰ x (named n a
 unfolding named
 named-sums zero a es x m = absurd (List·Memᴰ·not-nil m)
 named-sums (suc n) a es x m =
-    let r = out-of (λ e. flatMap (spent (linearAt es e) e) (takings (named n) (residualAt es a e) es)) (below (size es)) m in
+    let r = out-of (λ e. flatMap (takingUse (linearAt es e) e) (takings (named n) (residualAt es a e) es)) (below (size es)) m in
     let e = r .0 in
-    let s = out-of (spent (linearAt es e) e) (takings (named n) (residualAt es a e) es) (r .2) in
+    let s = out-of (takingUse (linearAt es e) e) (takings (named n) (residualAt es a e) es) (r .2) in
     spent-sums a e (linearAt es e) refl
     (takings-sums n (named n) (λ b fs y i. named-sums n b fs y i) (residualAt es a e) es (s .0) (s .1)) (s .2)
 
@@ -252,14 +252,14 @@ taking-path : {l m : List ℕ} {U W : Items} {v w : Bool} → l ≡ m → ((i : 
 taking-path {m} {U} {W} {v} p f q =
     ap (λ l. taking l U v) p ∙ ap (λ U. taking m U v) (same-path (record { same = f })) ∙ ap (λ v. taking m W v) q
 
-spent-rule : (b : Bool) (e : ℕ) (x : Taking) → b ≡ false → List·Memᴰ (taking (e ∷ x .list) (x .used) (x .slack)) (spent b e x)
-unfolding spent
+spent-rule : (b : Bool) (e : ℕ) (x : Taking) → b ≡ false → List·Memᴰ (taking (e ∷ x .list) (x .used) (x .slack)) (takingUse b e x)
+unfolding takingUse
 spent-rule true e x r = absurd (false≢true (sym r))
 spent-rule false e x r = List·Memᴰ·head refl
 
 spent-item : (b : Bool) (e : ℕ) (x : Taking) {U : Items} → b ≡ true → x .used e ≡ false → Plus U (x .used) e
-    → List·Memᴰ (taking (e ∷ x .list) U (x .slack)) (spent b e x)
-unfolding spent _∪_
+    → List·Memᴰ (taking (e ∷ x .list) U (x .slack)) (takingUse b e x)
+unfolding takingUse _∪_
 spent-item true e x r t s = kept-in (not (x .used e)) (ap not t) (taking-path refl (s .plus) refl)
 spent-item false e x r t s = absurd (false≢true r)
 
@@ -286,11 +286,11 @@ taken {n} {es} (sum-⊕₂ {G} q x) =
     Memᴰ·append-right (map (sideTaken leftChoice) (takings (named n) G es)) (side-taken rightChoice q (taken x))
 taken {es} (sum-⊸ s t x) = into (lent es) (taken x) (kept-in _ t (taking-path refl (s .without) refl))
 taken {es} (sum-rule {n} {a} {e} {l} {U} {v} r x) =
-    into (λ e. flatMap (spent (linearAt es e) e) (takings (named n) (residualAt es a e) es)) (below-in (size es) (in-scope a e x))
-    (into (spent (linearAt es e) e) (taken x) (spent-rule (linearAt es e) e (taking l U v) r))
+    into (λ e. flatMap (takingUse (linearAt es e) e) (takings (named n) (residualAt es a e) es)) (below-in (size es) (in-scope a e x))
+    (into (takingUse (linearAt es e) e) (taken x) (spent-rule (linearAt es e) e (taking l U v) r))
 taken {es} (sum-item {n} {a} {e} {l} {W} {v} r t s x) =
-    into (λ e. flatMap (spent (linearAt es e) e) (takings (named n) (residualAt es a e) es)) (below-in (size es) (in-scope a e x))
-    (into (spent (linearAt es e) e) (taken x) (spent-item (linearAt es e) e (taking l W v) r t s))
+    into (λ e. flatMap (takingUse (linearAt es e) e) (takings (named n) (residualAt es a e) es)) (below-in (size es) (in-scope a e x))
+    (into (takingUse (linearAt es e) e) (taken x) (spent-item (linearAt es e) e (taking l W v) r t s))
 
 -- THEOREM. The enumeration has exactly the lists of the job.
 pub exact : (j : Job) (l : List ℕ) → Bounded (j .scope) (j .strict ∪ j .lax) → Listed j l ↔ List·Memᴰ l (lists j)
@@ -364,7 +364,7 @@ first-listed j l b p q = record {
 }
 
 -- THEOREM. Where the enumeration is empty, no derivation is within limits.
-pub none-listed : (j : Job) → Bounded (j .scope) (j .strict ∪ j .lax) → lists j ≡ [] → Derivable j → ⊥
+pub none-listed : (j : Job) → Bounded (j .scope) (j .strict ∪ j .lax) → lists j ≡ [] → DerivableWithin j → ⊥
 none-listed j b e d = List·Memᴰ·not-nil (subst (λ (ms : List (List ℕ)). List·Memᴰ l ms) e
     (exact j l b .0 (record { derivation = d .derivation; limited = d .limited; list = refl })))
   where

@@ -4,10 +4,10 @@ use mathlib.Core.Path.{_≡_, refl}
 use mathlib.Core.Bool.{Bool, true, false, not, _&&_, _||_, true≢false, false≢true}
 use mathlib.Core.List.{List, [], _∷_}
 use lib.Dec.{eqb}
-use Rattle.calculus.specs.Formula.{Goal, atomᴳ, oneᴳ, zeroᴳ, tensor, oplus, atomᴰ, lolliᴰ, withᴰ, matched, residual, usable}
+use Rattle.calculus.specs.Formula.{Goal, atomᴳ, oneᴳ, zeroᴳ, tensor, oplus, lolliᴳ, atomᴰ, lolliᴰ, withᴰ, matched, residual, usable}
 use Rattle.calculus.specs.Items.{Items, ∅, _∪_, _∩_, _∖_, only, Empty}
-use Rattle.calculus.specs.Derivation.{Scope, entryAt, clauseAt, linearAt, residualAt, Derives, res-1, res-⊤, res-⊗, res-&, res-⊕₁, res-⊕₂}
-use Rattle.calculus.specs.Derivation.{res-atm-int, res-atm-lin}
+use Rattle.calculus.specs.Derivation.{Scope, size, extend, lend, entryAt, clauseAt, linearAt, residualAt, Derives, res-1, res-⊤, res-⊗, res-&, res-⊕₁, res-⊕₂}
+use Rattle.calculus.specs.Derivation.{res-⊸, res-atm-int, res-atm-lin}
 use Rattle.calculus.specs.Steps.{steps, stands, surely, nesting, Turn, Need, plain, row, left, choice, under, turn-choice, turn-side, chosen, needs}
 
 -- "the recipe with left a and right (b gives c) meets b, then a"
@@ -100,3 +100,25 @@ in-list = refl
 both-sides : surely (res-& line-is-gone line-is-gone) 0 ≡ true
 unfolding surely _∩_ _∪_ ∅ only line-is-gone
 both-sides = refl
+
+-- "lend or a choice what the goal taken does": `lend a to a` from no items, and the line on either side of a choice
+abbrev no-entries : Scope
+no-entries = record { entries = []; fits = eqb }
+
+lent-line : Derives no-entries ∅ (lolliᴳ (atomᴰ 1) (atomᴳ 1))
+unfolding size extend lend ∅ _∪_ only
+lent-line = res-⊸ refl line-is-gone
+
+through-lend : surely lent-line 0 ≡ true
+unfolding surely _∪_ only lent-line line-is-gone
+through-lend = refl
+
+left-side : Derives one-line (only 0) (oplus (atomᴳ 1) oneᴳ)
+left-side = res-⊕₁ line-is-gone
+
+right-side : Derives one-line (only 0) (oplus oneᴳ (atomᴳ 1))
+right-side = res-⊕₂ line-is-gone
+
+through-choice : (surely left-side 0 && surely right-side 0) ≡ true
+unfolding surely _∪_ only left-side right-side line-is-gone
+through-choice = refl

@@ -15,7 +15,7 @@ use Rattle.calculus.specs.Wanted.{Part, goal, meet, Side, side-⊕₁, s
 use Rattle.calculus.specs.Inner.Trace.{Ends, Fails, Tensors, Withs, Lends, UsesRule, UsesItem}
 use Rattle.calculus.specs.Inner.Trace.{Gathered, Trace, trace-1, trace-⊤, trace-0, trace-⊗, trace-&, trace-⊸, trace-side, trace-rule}
 use Rattle.calculus.specs.Inner.Trace.{trace-item, trace-head, trace-recipe}
-use Rattle.calculus.specs.Inner.Surely.{Sure, sure, inTurn, taken, usedFirst, goalSurely, entrySurely, nameSurely, surelyOf, surelyIn, Traced}
+use Rattle.calculus.specs.Inner.Surely.{Sure, sure, surelyInTurn, taken, usedFirst, goalSurely, entrySurely, nameSurely, surelyOf, surelyIn, Traced}
 use Rattle.calculus.proofs.SetLaws.{and-left, or-right, or-map}
 use Rattle.calculus.proofs.StepsBounded.{stands-parts}
 use Rattle.calculus.proofs.TraceExact.{goalAt}
@@ -23,11 +23,11 @@ use Rattle.calculus.proofs.TraceExact.{goalAt}
 -- two parts one after the other, each read off its list
 in-turn : (op : Items → Items → Items) (n : ℕ) (es : Scope) (G H : Goal) (k m r : List ℕ) {U W : Items}
     → ((t : List ℕ) → goalSurely (nameSurely n) G es (k ++ t) ≡ sure U t) → ((t : List ℕ) → goalSurely (nameSurely n) H es (m ++ t) ≡ sure W t)
-    → inTurn op (goalSurely (nameSurely n) G es ((k ++ m) ++ r)) (goalSurely (nameSurely n) H es) ≡ sure (op U W) r
-unfolding inTurn
+    → surelyInTurn op (goalSurely (nameSurely n) G es ((k ++ m) ++ r)) (goalSurely (nameSurely n) H es) ≡ sure (op U W) r
+unfolding surelyInTurn
 in-turn op n es G H k m r {U} p q =
-    ap (λ (l : List ℕ). inTurn op (goalSurely (nameSurely n) G es l) (goalSurely (nameSurely n) H es)) (append-assoc k m r)
-    ∙ ap (λ (x : Sure). inTurn op x (goalSurely (nameSurely n) H es)) (p (m ++ r))
+    ap (λ (l : List ℕ). surelyInTurn op (goalSurely (nameSurely n) G es l) (goalSurely (nameSurely n) H es)) (append-assoc k m r)
+    ∙ ap (λ (x : Sure). surelyInTurn op x (goalSurely (nameSurely n) H es)) (p (m ++ r))
     ∙ ap (λ (y : Sure). sure (op U (y .used)) (y .rest)) (q r)
 
 -- THEOREM. What a derivation surely uses is read off its list, whatever follows it.

@@ -9,6 +9,7 @@ pub mod NodesDecoded
 pub mod SampleCards
 pub mod FaultsInRange
 pub mod SoundNodes
+pub mod WeightsFall
 pub mod EachNode
 pub mod StepsFitAByte
 pub mod MarksByLines

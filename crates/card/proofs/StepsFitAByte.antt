@@ -9,7 +9,7 @@ use lib.ListN.{getD}
 use borrow.Author.Tests.{lt-ltb}
 use Rattle.calculus.specs.Derivation.{size}
 use Rattle.calculus.specs.Steps.{steps, entriesUsed, nesting, renumber, stands, leftChoice}
-use Rattle.calculus.specs.Job.{Derivable}
+use Rattle.calculus.specs.Job.{DerivableWithin}
 use Rattle.calculus.specs.Inner.Height.{heightᴳ, heightᴰ, lends, Low}
 use Rattle.calculus.specs.Inner.Renaming.{over}
 use Rattle.calculus.proofs.RenamingKeeps.{over-steps}
@@ -108,7 +108,7 @@ module _ {bs : List ℕ} (s : Sound bs) where
   scope-low = record { low = each-clause bs s (λ D. heightᴰ D ≤ 8) (λ i h. at-8 i h .clause) }
 
 -- "At most 103 stand in scope": the entries of a derivation within limits are below P + T + 103.
-pub entries-low : {bs : List ℕ} (s : Sound bs) (d : Derivable (jobOf bs))
+pub entries-low : {bs : List ℕ} (s : Sound bs) (d : DerivableWithin (jobOf bs))
     → size (jobOf bs .scope) + lends (jobOf bs .goal) + 6 * nesting (d .derivation .tree) ≤ ruleCount bs + lineCount bs + 103
 unfolding jobOf
 entries-low {bs} s d =
@@ -124,14 +124,14 @@ pub entries-no-choice : {bs : List ℕ} → Sound bs → ruleCount bs + lineCoun
 entries-no-choice {bs} s = let f = sound-front bs s in omega (arith, f .rules, f .lines)
 
 -- THEOREM. Every entry that a derivation of a sound card within limits uses is below P + T + 103, so at most 230.
-pub entries-fit : {bs : List ℕ} → Sound bs → (d : Derivable (jobOf bs)) (e : ℕ) → stands e (entriesUsed (d .derivation .tree)) ≡ true
+pub entries-fit : {bs : List ℕ} → Sound bs → (d : DerivableWithin (jobOf bs)) (e : ℕ) → stands e (entriesUsed (d .derivation .tree)) ≡ true
     → (e < ruleCount bs + lineCount bs + 103) × (e ≤ 230)
 entries-fit {bs} s d e h =
     let low = entries-below (ruleCount bs + lineCount bs + 103) (scope-low s) (goal-high s) (d .derivation .tree) (entries-low s d) .below e h in
     (low, omega (arith, low, entries-no-choice s))
 
 -- THEOREM. Entries renumbered along a derivation of a sound card are its list's, and choices stay.
-pub over-listed : {bs : List ℕ} → Sound bs → (f : ℕ → ℕ) (d : Derivable (jobOf bs))
+pub over-listed : {bs : List ℕ} → Sound bs → (f : ℕ → ℕ) (d : DerivableWithin (jobOf bs))
     → over f (d .derivation .tree) ≡ map (renumber f) (steps (d .derivation .tree))
 unfolding renumber
 over-listed {bs} s f d =

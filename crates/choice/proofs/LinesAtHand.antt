@@ -1,37 +1,24 @@
--- Which entries can be used: a rule by its head alone, a line at hand by its head and the lines that it waits for. What is left of a word
+-- Which entries can be used: a rule by its head alone, a line at hand by its head and the lines that it waits for. What is left of a set
 -- of lines once its lowest is looked at.
-use Prim.Native.Nat.{ℕ, _+_, _-_, _/_, _%_, _^_, _≤_, _<_}
-use native.Mathlib.Nat.{lt-of-le-of-lt}
+use Prim.Native.Nat.{ℕ, _+_, _-_, _^_, _≤_, _<_}
 use native.Mathlib.Omega.{arith}
 use mathlib.Core.Path.{_≡_, refl, sym, ap, ap₂, _∙_}
-use mathlib.Core.Bool.{Bool, true, false, not, cond, _&&_, _||_, true≢false, false≢true, and-true, and-false}
-use mathlib.Core.Logic.{_⊎_, inl, inr}
+use mathlib.Core.Bool.{Bool, true, false, not, cond, _&&_, _||_, false≢true, and-true, and-false}
 use mathlib.Core.List.{List}
 use lib.ListN.{getD}
 use lib.Dec.{ltb, eqb}
-use lib.Bits.{bitAnd, and-le-l}
-use lib.Count.{trailingZeros}
-use borrow.Author.Tests.{lt-ltb, le-ltb, lt-leb, le-leb, ltb-false, not-true, not-false}
+use borrow.Author.Tests.{lt-ltb, le-ltb, lt-leb, le-leb, ltb-false, eqb-true, not-true, not-false}
 use Rattle.calculus.specs.Items.{_∪_}
 use Rattle.calculus.proofs.SetLaws.{and-left, and-right}
 use Rattle.card.specs.Format.{ruleCount, lineCount}
-use Rattle.lines.specs.declared.LineSet.{LineSet}
-use Rattle.lines.specs.Inner.Set.{bitAt, wordOf, member}
-use Rattle.lines.proofs.Word.{bit-and, bit-zero}
-use Rattle.lines.proofs.Lowest.{bits-under, bits-left, bit-lowest}
+use Rattle.lines.specs.declared.LineWord.{LineWord}
+use Rattle.lines.specs.Inner.Word.{lineIn, isEmptyL, lowestL, restL}
+use Rattle.lines.proofs.LineLaws.{line-of, no-line, under-lowest, lowest-in, line-rest, rest-less}
 use Rattle.scope.specs.Inner.Sets.{items}
 use Rattle.entries.specs.Inner.Entries.{codeFits}
 use Rattle.entries.specs.Inner.Masks.{readyBy}
 use Rattle.branch.specs.declared.Branch.{Branch}
-use Rattle.choice.specs.Inner.Choice.{atHandBy, openTo, takableBy, missesBy, RulesMissed, HandFrom, Skips}
-
--- an item of the first word
-member-low : (s : LineSet) (x : ℕ) → x < 64 → member s x ≡ bitAt (s .low) x
-unfolding member wordOf
-member-low s x h =
-    let q : x / 64 ≡ 0 = omega arith in
-    let r : x % 64 ≡ x = omega arith in
-    ap₂ (λ (k j : ℕ). bitAt (wordOf s k) j) q r
+use Rattle.choice.specs.Inner.Choice.{atHandBy, openTo, takableBy, missesBy, RulesMissed, lineAtHand, HandFrom, Skips}
 
 -- an entry whose code misses the name, and one whose code does not and has no menu
 misses-not : (bs : List ℕ) (code name : ℕ) → missesBy code name ≡ true → codeFits bs code name ≡ false
@@ -48,10 +35,6 @@ fits-plain bs code name h m =
     rw (lt-ltb code 1001 (omega arith)) (not-false (eqb code name) (rw (le-ltb 1000 code h) at m))
 
 module _ (bs waits heads : List ℕ) (b : Branch) (name : ℕ) where
-  -- line x is at hand
-  abbrev hand : ℕ → Bool
-  hand x = bitAt (b .strict .low) x || bitAt (b .lax .low) x
-
   unfit : (e : ℕ) → codeFits bs (getD heads e 0) name ≡ false → takableBy bs waits heads b name e ≡ false
   unfolding takableBy
   unfit e h = rw h (and-false (ltb e (b .count)))
@@ -80,52 +63,54 @@ module _ (bs waits heads : List ℕ) (b : Branch) (name : ℕ) where
     takable = λ h k. takes e true (omega arith) (rw (fits-plain bs (getD heads e 0) name k (m .stops h), rule-open e h) refl);
   }
 
-  -- a line is at hand where its bit is set
-  hand-line : (x : ℕ) → x < 64 → atHandBy (ruleCount bs) (ruleCount bs + x) b ≡ hand x
+  -- a line is at hand where one of the two sets has it
+  hand-line : (x : ℕ) → x < 64 → atHandBy (ruleCount bs) (ruleCount bs + x) b ≡ lineAtHand b x
   unfolding atHandBy _∪_ items
   hand-line x h =
       let q : ruleCount bs + x - ruleCount bs ≡ x = omega arith in
-      rw (le-leb (ruleCount bs) (ruleCount bs + x) (omega arith), q) (ap₂ _||_ (member-low (b .strict) x h) (member-low (b .lax) x h))
+      rw (le-leb (ruleCount bs) (ruleCount bs + x) (omega arith), q)
+      (ap₂ _||_ (sym (line-of (b .strict) x h)) (sym (line-of (b .lax) x h)))
 
-  line-gone : (x : ℕ) → x < 64 → hand x ≡ false
+  line-gone : (x : ℕ) → x < 64 → lineAtHand b x ≡ false
       → takableBy bs waits heads b name (ruleCount bs + x) ≡ false
   unfolding openTo
   line-gone x h g = away (ruleCount bs + x) (rw (hand-line x h, g) refl)
 
-  line-here : (x : ℕ) (r : Bool) → x < 64 → ruleCount bs + x < b .count → hand x ≡ true
+  line-here : (x : ℕ) (r : Bool) → x < 64 → ruleCount bs + x < b .count → lineAtHand b x ≡ true
       → (codeFits bs (getD heads (ruleCount bs + x) 0) name && readyBy (ruleCount bs) (lineCount bs) waits (b .seen) (ruleCount bs + x)) ≡ r
       → takableBy bs waits heads b name (ruleCount bs + x) ≡ r
   unfolding openTo
   line-here x r h s g k = takes (ruleCount bs + x) r s (rw (hand-line x h, g) k)
 
-  -- What a word of lines says that are still to be looked at, from the entry `from` on: they are at hand, and of the others none can be used.
-  pub record Left (from word : ℕ) : Type 0 where
-    pub fits : word < 2 ^ 64
-    pub above : (x : ℕ) → bitAt word x ≡ true → from ≤ ruleCount bs + x
-    pub held : (x : ℕ) → bitAt word x ≡ true → hand x ≡ true
-    pub others : (x : ℕ) → x < lineCount bs → from ≤ ruleCount bs + x → bitAt word x ≡ false
+  -- What a set of lines says that are still to be looked at, from the entry `from` on: they are at hand, and of the others none can be used.
+  pub record Left (from : ℕ) (hand : LineWord) : Type 0 where
+    pub fits : hand .bits < 2 ^ 64
+    pub above : (x : ℕ) → lineIn hand x ≡ true → from ≤ ruleCount bs + x
+    pub held : (x : ℕ) → lineIn hand x ≡ true → lineAtHand b x ≡ true
+    pub others : (x : ℕ) → x < lineCount bs → from ≤ ruleCount bs + x → lineIn hand x ≡ false
         → takableBy bs waits heads b name (ruleCount bs + x) ≡ false
 
   -- all lines at hand
-  pub left-all : {from word : ℕ} → ruleCount bs ≤ from → lineCount bs ≤ 64 → HandFrom b (from - ruleCount bs) word → Left from word
-  left-all {from} {word} r t h = record {
+  pub left-all : {from : ℕ} {hand : LineWord} → ruleCount bs ≤ from → lineCount bs ≤ 64 → HandFrom b (from - ruleCount bs) hand → Left from hand
+  left-all {from} {hand} r t h = record {
     fits = h .fits;
     above = λ x s.
-        let late = and-right (hand x) (not (ltb x (from - ruleCount bs))) (sym (h .bits x) ∙ s) in
+        let late = and-right (lineAtHand b x) (not (ltb x (from - ruleCount bs))) (sym (h .line x) ∙ s) in
         let q = ltb-false x (from - ruleCount bs) (not-true (ltb x (from - ruleCount bs)) late) in
         omega arith;
-    held = λ x s. and-left (hand x) (not (ltb x (from - ruleCount bs))) (sym (h .bits x) ∙ s);
+    held = λ x s. and-left (lineAtHand b x) (not (ltb x (from - ruleCount bs))) (sym (h .line x) ∙ s);
     others = λ x k l s.
         line-gone x (omega arith)
-        (sym (and-true (hand x)) ∙ ap (λ (u : Bool). hand x && not u) (sym (le-ltb x (from - ruleCount bs) (omega arith))) ∙ sym (h .bits x) ∙ s);
+        (sym (and-true (lineAtHand b x)) ∙ ap (λ (u : Bool). lineAtHand b x && not u) (sym (le-ltb x (from - ruleCount bs) (omega arith)))
+        ∙ sym (h .line x) ∙ s);
   }
 
-  module _ {from word : ℕ} (L : Left from word) (r : ruleCount bs ≤ from) where
+  module _ {from : ℕ} {hand : LineWord} (L : Left from hand) (r : ruleCount bs ≤ from) where
     abbrev low : ℕ
-    low = trailingZeros 64 word
+    low = lowestL hand
 
-    -- an entry from there on that is no line of the word
-    unlit : (x : ℕ) → from ≤ x → x < ruleCount bs + lineCount bs → bitAt word (x - ruleCount bs) ≡ false
+    -- an entry from there on that is none of the lines
+    unlit : (x : ℕ) → from ≤ x → x < ruleCount bs + lineCount bs → lineIn hand (x - ruleCount bs) ≡ false
         → takableBy bs waits heads b name x ≡ false
     unlit x h k s =
         let q : ruleCount bs + (x - ruleCount bs) ≡ x = omega arith in
@@ -134,32 +119,29 @@ module _ (bs waits heads : List ℕ) (b : Branch) (name : ℕ) where
     -- those up to the lowest, and all where none is left
     pub left-passed : (e : ℕ) → e ≤ ruleCount bs + low → e ≤ ruleCount bs + lineCount bs
         → (x : ℕ) → from ≤ x → x < e → takableBy bs waits heads b name x ≡ false
-    left-passed e k t x h l = unlit x h (omega arith) (bits-under 64 word (x - ruleCount bs) (omega arith))
+    left-passed e k t x h l = unlit x h (omega arith) (under-lowest hand (x - ruleCount bs) (omega arith))
 
-    pub left-none : word ≡ 0 → (x : ℕ) → from ≤ x → x < ruleCount bs + lineCount bs → takableBy bs waits heads b name x ≡ false
-    left-none z x h l = unlit x h l (ap (λ (w : ℕ). bitAt w (x - ruleCount bs)) z ∙ bit-zero (x - ruleCount bs))
+    pub left-none : isEmptyL hand ≡ true → (x : ℕ) → from ≤ x → x < ruleCount bs + lineCount bs → takableBy bs waits heads b name x ≡ false
+    left-none z x h l = unlit x h l (no-line hand z (x - ruleCount bs))
 
     -- the lowest, if there is one
-    left-lowest : (word ≡ 0 → ⊥) → (from ≤ ruleCount bs + low) × (hand low ≡ true)
-    left-lowest n = let s = bit-lowest 64 word (omega arith) (L .fits) in (L .above low s, L .held low s)
+    left-lowest : isEmptyL hand ≡ false → (from ≤ ruleCount bs + low) × (lineAtHand b low ≡ true)
+    left-lowest n = let s = lowest-in hand (L .fits) n in (L .above low s, L .held low s)
 
     -- those behind it, where it cannot be used either
-    left-more : takableBy bs waits heads b name (ruleCount bs + low) ≡ false → Left from (bitAnd word (word - 1))
-    left-more g = record {
-      fits = lt-of-le-of-lt (and-le-l word (word - 1)) (L .fits);
-      above = λ x s. L .above x (and-left (bitAt word x) (bitAt (word - 1) x) (sym (bit-and word (word - 1) x) ∙ s));
-      held = λ x s. L .held x (and-left (bitAt word x) (bitAt (word - 1) x) (sym (bit-and word (word - 1) x) ∙ s));
-      others = λ x k l s. go x k l (sym (bit-and word (word - 1) x) ∙ s) (bitAt word x) refl;
+    left-more : isEmptyL hand ≡ false → takableBy bs waits heads b name (ruleCount bs + low) ≡ false → Left from (restL hand)
+    left-more n g = record {
+      fits = let l = L .fits in omega (arith, rest-less hand (L .fits) n);
+      above = λ x s. L .above x (and-left (lineIn hand x) (not (eqb x low)) (sym (line-rest hand (L .fits) n x) ∙ s));
+      held = λ x s. L .held x (and-left (lineIn hand x) (not (eqb x low)) (sym (line-rest hand (L .fits) n x) ∙ s));
+      others = λ x k l s. go x k l (sym (line-rest hand (L .fits) n x) ∙ s) (lineIn hand x) refl;
     }
       where
-        lit : (x : ℕ) → (true && bitAt (word - 1) x) ≡ false → (bitAt (word - 1) x ≡ true) ⊎ (x ≡ low)
-            → takableBy bs waits heads b name (ruleCount bs + x) ≡ false
-        lit x s (inl t) = absurd (true≢false (sym t ∙ s))
-        lit x s (inr q) = ap (λ (y : ℕ). takableBy bs waits heads b name (ruleCount bs + y)) q ∙ g
-
-        go : (x : ℕ) → x < lineCount bs → from ≤ ruleCount bs + x → (bitAt word x && bitAt (word - 1) x) ≡ false → (u : Bool)
-            → bitAt word x ≡ u → takableBy bs waits heads b name (ruleCount bs + x) ≡ false
-        go x k l s true e = lit x (ap (λ (v : Bool). v && bitAt (word - 1) x) (sym e) ∙ s) (bits-left 64 word x (L .fits) e)
+        go : (x : ℕ) → x < lineCount bs → from ≤ ruleCount bs + x → (lineIn hand x && not (eqb x low)) ≡ false → (u : Bool)
+            → lineIn hand x ≡ u → takableBy bs waits heads b name (ruleCount bs + x) ≡ false
+        go x k l s true e =
+            let q = eqb-true x low (not-false (eqb x low) (ap (λ (v : Bool). v && not (eqb x low)) (sym e) ∙ s)) in
+            ap (λ (y : ℕ). takableBy bs waits heads b name (ruleCount bs + y)) q ∙ g
         go x k l s false e = L .others x k l e
 
     -- the end of the lines, and a line that is not passed
@@ -168,7 +150,7 @@ module _ (bs waits heads : List ℕ) (b : Branch) (name : ℕ) where
         → Skips bs waits heads b name (ruleCount bs + lineCount bs) from e
     lines-end e q o p = record { onward = o; passed = p; takable = λ h k. absurd (omega arith) }
 
-    pub line-reached : (word ≡ 0 → ⊥) → (e : ℕ) → e ≡ ruleCount bs + low → e < ruleCount bs + lineCount bs → lineCount bs ≤ 64
+    pub line-reached : isEmptyL hand ≡ false → (e : ℕ) → e ≡ ruleCount bs + low → e < ruleCount bs + lineCount bs → lineCount bs ≤ 64
         → ruleCount bs + lineCount bs ≤ b .count
         → (getD heads e 0 ≤ 1000 → (codeFits bs (getD heads e 0) name && readyBy (ruleCount bs) (lineCount bs) waits (b .seen) e) ≡ true)
         → Skips bs waits heads b name (ruleCount bs + lineCount bs) from e
@@ -180,8 +162,8 @@ module _ (bs waits heads : List ℕ) (b : Branch) (name : ℕ) where
     }
 
     -- a line that is passed
-    pub line-passed : (word ≡ 0 → ⊥) → (e : ℕ) → e ≡ ruleCount bs + low → e < ruleCount bs + lineCount bs → lineCount bs ≤ 64
+    pub line-passed : isEmptyL hand ≡ false → (e : ℕ) → e ≡ ruleCount bs + low → e < ruleCount bs + lineCount bs → lineCount bs ≤ 64
         → ruleCount bs + lineCount bs ≤ b .count
         → (codeFits bs (getD heads e 0) name && readyBy (ruleCount bs) (lineCount bs) waits (b .seen) e) ≡ false
-        → Left from (bitAnd word (word - 1))
-    line-passed n e q k t s u = left-more (line-here low false (omega arith) (omega arith) (left-lowest n .1) (rw q at u))
+        → Left from (restL hand)
+    line-passed n e q k t s u = left-more n (line-here low false (omega arith) (omega arith) (left-lowest n .1) (rw q at u))

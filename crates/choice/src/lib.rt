@@ -4,6 +4,7 @@ use branch::Floor;
 use branch::Outcome;
 use card::format::byte;
 use lines::LineSet;
+use lines::LineWord;
 ghost use mathlib.Core.Path.{_≡_};
 ghost use Prim.Native.Nat.{ℕ, _+_, _-_, _≤_, _<_};
 ghost use lib.ListN.{length, getD};
@@ -127,15 +128,15 @@ fn skip_rules(card: &[u8], heads: &[u16; 256], name: usize, from: usize) -> usiz
     e
 }
 
-// The lines at hand from line i on, as a word.
-fn hand_from(b: Branch, i: usize) -> u64
+// The lines at hand from line i on.
+fn hand_from(b: Branch, i: usize) -> LineWord
     requires { ⌜ i < 64 ⌝ }
     ensures { λ r. ⌜ HandFrom b i r ⌝ }
 {
     let strict = b.strict;
     let hand = strict.join(b.lax);
     let late = hand.cut(LineSet::full(i));
-    late.low
+    late.lines()
 }
 
 // The line at hand cannot be used for the name; where it has a menu, that is not asked.
@@ -179,8 +180,8 @@ fn skip_lines(
         return from;
     }
     let mut hand = hand_from(b, from - rules);
-    while hand != 0 {
-        let e = rules + u64::trailing_zeros(hand) as usize;
+    while !hand.is_empty() {
+        let e = rules + hand.lowest();
         if end <= e {
             return end;
         }
@@ -189,7 +190,7 @@ fn skip_lines(
         if !on {
             return e;
         }
-        hand = hand & (hand - 1);
+        hand = hand.without_lowest();
     }
     end
 }

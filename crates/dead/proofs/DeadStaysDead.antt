@@ -15,26 +15,28 @@ use Rattle.scope.specs.Inner.Sets.{items}
 use Rattle.agenda.specs.Inner.Agenda.{Agenda}
 use Rattle.agenda.specs.Inner.Sought.{Place, None}
 use Rattle.agenda.proofs.SearchTells.{dead-none}
+use Rattle.lines.specs.declared.LineWord.{LineWord}
 use Rattle.entries.specs.Inner.Twins.{eligible}
 use Rattle.entries.specs.Inner.Masks.{Seen}
 use Rattle.branch.specs.declared.Branch.{Branch}
 use Rattle.segment.specs.Inner.Tasks.{taskOf, agendaOf}
 use Rattle.dead.specs.Inner.Rows.{rowCount, rowWidth, codeCells, wordCells}
 use Rattle.keys.specs.Inner.Keys.{keyWords}
-use Rattle.dead.specs.Inner.Rows.{wordAt, rowStrict, rowLax, rowSeen, rowLen, rowRoom, rowAgenda, Same, Put}
-use Rattle.dead.specs.Inner.Barren.{openPlace, Barren, BarrenIn, BarrenRow, Honest, Dead, Remembers}
+use Rattle.dead.specs.Inner.Rows.{keyRow, memoryWord, rowStrict, rowLax, rowSeen, rowLen, rowRoom, rowAgenda, SameRow, Put, Stored, Recorded}
+use Rattle.dead.specs.Inner.Barren.{openPlace, Barren, BarrenIn, BarrenRow, Honest}
+use Rattle.dead.proofs.RowsKept.{row-below}
 use Rattle.dead.proofs.LinesDecide.{seen-lines, chosen-same}
 
 -- Barren agendas
 
 -- THEOREM. Where the agenda is barren nothing is sought, from any floor on.
-pub barren-none : {bs : List ℕ} {es : Scope} {A : Agenda} {S L : Items} {seen r : ℕ} → Barren bs es A S L seen r
+pub barren-none : {bs : List ℕ} {es : Scope} {A : Agenda} {S L : Items} {seen : LineWord} {r : ℕ} → Barren bs es A S L seen r
     → (p : Place) → Seen bs seen (p .done) → p .strict ≡ S → p .lax ≡ L → p .room ≤ r → None (eligible bs) es A p
 barren-none {bs} {S} {L} {r} b p s e f h =
     dead-none (eligible bs) (openPlace (p .done) S L r) p (b .barren (p .done) s) e f h (λ m c. c)
 
 -- THEOREM. Where nothing is sought from no floor on the agenda is barren: what goes on eligibly goes by the lines seen.
-pub none-barren : {bs : List ℕ} {es : Scope} {A : Agenda} {seen : ℕ} (p : Place) → None (eligible bs) es A p → p .given ≡ []
+pub none-barren : {bs : List ℕ} {es : Scope} {A : Agenda} {seen : LineWord} (p : Place) → None (eligible bs) es A p → p .given ≡ []
     → p .from ≡ 0 → Seen bs seen (p .done) → Barren bs es A (p .strict) (p .lax) seen (p .room)
 none-barren {bs} {es} {A} {seen} p h g f s = record {
   barren = λ done t.
@@ -43,7 +45,7 @@ none-barren {bs} {es} {A} {seen} p h g f s = record {
 }
 
 -- the same key, and no more room
-barren-at : {bs : List ℕ} {es : Scope} {A A′ : Agenda} {S S′ L L′ : Items} {seen seen′ r r′ : ℕ}
+barren-at : {bs : List ℕ} {es : Scope} {A A′ : Agenda} {S S′ L L′ : Items} {seen seen′ : LineWord} {r r′ : ℕ}
     → Barren bs es A S L seen r → A′ ≡ A → S′ ≡ S → L′ ≡ L → seen′ ≡ seen → r′ ≤ r → Barren bs es A′ S′ L′ seen′ r′
 barren-at {bs} {es} {A} {A′} {S} {S′} {L} {L′} {seen} {seen′} {r} {r′} b a s l w h = record {
   barren = λ done t. rw a (barren-none b (openPlace done S′ L′ r′) (rw w at t) s l h);
@@ -52,32 +54,32 @@ barren-at {bs} {es} {A} {A′} {S} {S′} {L} {L′} {seen} {seen′} {r} {r′}
 -- Rows
 
 -- the row's codes are the agenda's
-row-agenda : (bs codes agenda : List ℕ) (at n : ℕ) → Same codes at agenda n → agendaOf bs agenda n ≡ agendaOf bs (drop at codes) n
+row-agenda : (bs codes agenda : List ℕ) (at n : ℕ) → SameRow codes at agenda n → agendaOf bs agenda n ≡ agendaOf bs (drop at codes) n
 unfolding agendaOf
 row-agenda bs codes agenda at zero s = refl
 row-agenda bs codes agenda at (suc n) s =
     ap₂ (λ c A. taskOf bs c ∷ A) (sym (s .same n (omega arith)) ∙ sym (getD-drop at codes n 0))
     (row-agenda bs codes agenda at n (record { same = λ i h. s .same i (omega arith) }))
 
-module _ {words : List ℕ} (row : ℕ) (b : Branch) (s : Same words (row * 9) (keyWords b) 8) where
+module _ {words : List ℕ} (row : ℕ) (b : Branch) (s : SameRow words (row * 9) (keyWords b) 8) where
   row-strict : b .strict ≡ rowStrict words row
-  unfolding rowStrict wordAt
+  unfolding rowStrict memoryWord
   row-strict = rw (s .same 0 (omega arith), s .same 1 (omega arith), s .same 2 (omega arith)) refl
 
   row-lax : b .lax ≡ rowLax words row
-  unfolding rowLax wordAt
+  unfolding rowLax memoryWord
   row-lax = rw (s .same 3 (omega arith), s .same 4 (omega arith), s .same 5 (omega arith)) refl
 
   row-seen : b .seen ≡ rowSeen words row
-  unfolding rowSeen wordAt
-  row-seen = sym (s .same 6 (omega arith))
+  unfolding rowSeen memoryWord
+  row-seen = λ i. record { bits = sym (s .same 6 (omega arith)) i }
 
   row-len : b .len ≡ rowLen words row
-  unfolding rowLen wordAt
+  unfolding rowLen memoryWord
   row-len = sym (s .same 7 (omega arith))
 
-module _ (bs : List ℕ) {codes words agenda : List ℕ} (row : ℕ) (b : Branch) (s : Same words (row * 9) (keyWords b) 8)
-    (t : Same codes (row * rowWidth) agenda (b .len)) where
+module _ (bs : List ℕ) {codes words agenda : List ℕ} (row : ℕ) (b : Branch) (s : SameRow words (row * 9) (keyWords b) 8)
+    (t : SameRow codes (row * rowWidth) agenda (b .len)) where
   agenda-is : agendaOf bs agenda (b .len) ≡ rowAgenda bs codes words row
   unfolding rowAgenda
   agenda-is = row-agenda bs codes agenda (row * rowWidth) (b .len) t ∙ ap (agendaOf bs (drop (row * rowWidth) codes)) (row-len row b s)
@@ -93,16 +95,15 @@ module _ (bs : List ℕ) {codes words agenda : List ℕ} (row : ℕ) (b : Branch
       barren-at h (sym agenda-is) (ap (items (ruleCount bs)) (sym (row-strict row b s))) (ap (items (ruleCount bs)) (sym (row-lax row b s)))
       (sym (row-seen row b s)) (omega arith)
 
--- THEOREM. A row with the branch's key and as much room tells that its agenda is barren.
-pub row-dead : {codes words agenda : List ℕ} (row : ℕ) (b : Branch) → row < rowCount → 1 ≤ b .len → Same words (row * 9) (keyWords b) 8
-    → Same codes (row * rowWidth) agenda (b .len) → b .limit - b .at ≤ getD words (row * 9 + 8) 0 → Dead codes words agenda b
-unfolding rowRoom wordAt
-row-dead row b h n s t r = record {
-  dead = λ bs es honest. row-barren bs row b s t (honest .rows row h (let e = row-len row b s in omega arith)) r;
-}
+-- THEOREM. What is stored is barren.
+pub stored-barren : {bs codes words agenda : List ℕ} {es : Scope} {b : Branch} → Honest bs es codes words → 1 ≤ b .len
+    → Stored codes words agenda b → BarrenIn bs es agenda b
+stored-barren {bs} {agenda = agenda} {b = b} honest n k =
+    let row = keyRow agenda b in
+    row-barren bs row b (k .key) (k .tasks) (honest .rows row (row-below agenda b) (let e = row-len row b (k .key) in omega arith)) (k .room)
 
 -- A row whose places are as they were says what it said.
-module _ (words words′ : List ℕ) (row : ℕ) (s : (j : ℕ) → j < 9 → wordAt words′ row j ≡ wordAt words row j) where
+module _ (words words′ : List ℕ) (row : ℕ) (s : (j : ℕ) → j < 9 → memoryWord words′ row j ≡ memoryWord words row j) where
   kept-len : rowLen words′ row ≡ rowLen words row
   unfolding rowLen
   kept-len = s 7 (omega arith)
@@ -117,13 +118,13 @@ module _ (words words′ : List ℕ) (row : ℕ) (s : (j : ℕ) → j < 9 → wo
 
   kept-seen : rowSeen words′ row ≡ rowSeen words row
   unfolding rowSeen
-  kept-seen = s 6 (omega arith)
+  kept-seen = λ i. record { bits = s 6 (omega arith) i }
 
   kept-room : rowRoom words′ row ≡ rowRoom words row
   unfolding rowRoom
   kept-room = s 8 (omega arith)
 
-  module _ (bs codes codes′ : List ℕ) (t : Same codes (row * rowWidth) (drop (row * rowWidth) codes′) rowWidth)
+  module _ (bs codes codes′ : List ℕ) (t : SameRow codes (row * rowWidth) (drop (row * rowWidth) codes′) rowWidth)
       (h : rowLen words row ≤ rowWidth) where
     kept-agenda : rowAgenda bs codes′ words′ row ≡ rowAgenda bs codes words row
     unfolding rowAgenda
@@ -140,15 +141,15 @@ module _ (words words′ : List ℕ) (row : ℕ) (s : (j : ℕ) → j < 9 → wo
 -- A row is told, and the others are as they were.
 module _ {codes codes′ words words′ agenda : List ℕ} (row : ℕ) (b : Branch) (short : b .len ≤ rowWidth)
     (p : Put codes codes′ (row * rowWidth) agenda (b .len)) (q : Put words words′ (row * 9) (keyWords b) 9) where
-  other-words : (k : ℕ) → (k ≡ row → ⊥) → (j : ℕ) → j < 9 → wordAt words′ k j ≡ wordAt words k j
-  unfolding wordAt
+  other-words : (k : ℕ) → (k ≡ row → ⊥) → (j : ℕ) → j < 9 → memoryWord words′ k j ≡ memoryWord words k j
+  unfolding memoryWord
   other-words k d j h = q .others (k * 9 + j) (go (decLt k row))
     where
       go : Dec (k < row) → (k * 9 + j < row * 9) ⊎ (row * 9 + 9 ≤ k * 9 + j)
       go (yes l) = inl (omega arith)
       go (no l) = inr (omega arith)
 
-  other-codes : (k : ℕ) → (k ≡ row → ⊥) → Same codes (k * rowWidth) (drop (k * rowWidth) codes′) rowWidth
+  other-codes : (k : ℕ) → (k ≡ row → ⊥) → SameRow codes (k * rowWidth) (drop (k * rowWidth) codes′) rowWidth
   other-codes k d = record {
     same = λ i h. sym (getD-drop (k * rowWidth) codes′ i 0 ∙ p .others (k * rowWidth + i) (go i h (decLt k row)));
   }
@@ -158,11 +159,11 @@ module _ {codes codes′ words words′ agenda : List ℕ} (row : ℕ) (b : Bran
       go i h (no l) = inr (omega arith)
 
   told-len : rowLen words′ row ≡ b .len
-  unfolding rowLen wordAt
+  unfolding rowLen memoryWord
   told-len = q .here .same 7 (omega arith)
 
   told-room : rowRoom words′ row ≡ b .limit - b .at
-  unfolding rowRoom wordAt
+  unfolding rowRoom memoryWord
   told-room = q .here .same 8 (omega arith)
 
   told-row : {bs : List ℕ} {es : Scope} → BarrenIn bs es agenda b → BarrenRow bs es codes′ words′ row
@@ -185,23 +186,27 @@ module _ {codes codes′ words words′ agenda : List ℕ} (row : ℕ) (b : Bran
           let same = kept-len words words′ k (other-words k d) in
           kept-row words words′ k (other-words k d) bs codes codes′ (other-codes k d) (honest .short k l) (honest .rows k l (omega arith))
 
-  -- THEOREM. A memory that is told of a barren agenda stays honest.
-  pub row-told : length codes ≡ codeCells → length words ≡ wordCells → Remembers codes words codes′ words′ agenda b
-  row-told c w = record {
-    code-room = p .room ∙ c;
-    word-room = q .room ∙ w;
-    honest = λ bs es honest h. record {
-      code-room = p .room ∙ c;
-      word-room = q .room ∙ w;
-      short = told-short honest;
-      rows = told-rows honest h;
-    };
+  told-all : {bs : List ℕ} {es : Scope} → Honest bs es codes words → BarrenIn bs es agenda b → Honest bs es codes′ words′
+  told-all honest h = record {
+    code-room = p .room ∙ honest .code-room;
+    word-room = q .room ∙ honest .word-room;
+    short = told-short honest;
+    rows = told-rows honest h;
   }
+
+-- THEOREM. A memory that is told of a barren agenda stays honest.
+pub recorded-honest : {bs codes words codes′ words′ agenda : List ℕ} {es : Scope} {b : Branch} → Honest bs es codes words
+    → BarrenIn bs es agenda b → Recorded codes words codes′ words′ agenda b → Honest bs es codes′ words′
+recorded-honest {bs} {codes} {words} {codes′} {words′} {agenda} {es} {b} honest h t = go (decLt rowWidth (b .len))
+  where
+    go : Dec (rowWidth < b .len) → Honest bs es codes′ words′
+    go (yes l) = rw (t .long l .0, t .long l .1) honest
+    go (no l) = told-all (keyRow agenda b) b (omega arith) (t .tasks (omega arith)) (t .key (omega arith)) honest h
 
 -- THEOREM. A memory of zeros is honest.
 pub honest-none : {bs codes words : List ℕ} {es : Scope} → length codes ≡ codeCells → length words ≡ wordCells
     → ((i : ℕ) → i < wordCells → getD words i 0 ≡ 0) → Honest bs es codes words
-unfolding rowLen wordAt
+unfolding rowLen memoryWord
 honest-none {words} c w z =
     let free : (row : ℕ) → row < rowCount → getD words (row * 9 + 7) 0 ≡ 0 = λ row h. z (row * 9 + 7) (omega arith) in
     record {

@@ -8,6 +8,7 @@ use lib.Dec.{leb, ltb}
 use borrow.Author.Tests.{leb-true, ltb-true}
 use Rattle.calculus.specs.Steps.{stands}
 use Rattle.card.specs.Format.{ruleCount, lineCount}
+use Rattle.lines.specs.declared.LineWord.{LineWord}
 use Rattle.agenda.specs.Inner.Order.{Chosen, none, step}
 use Rattle.entries.specs.Inner.Twins.{waits, every, isLine, met, eligible}
 use Rattle.entries.specs.Inner.Masks.{Seen}
@@ -17,7 +18,7 @@ use Rattle.calculus.proofs.StepsBounded.{stands-parts}
 pub record SameLines (bs done done′ : List ℕ) : Type 0 where
   pub line : (x : ℕ) → x < lineCount bs → stands (ruleCount bs + x) done ≡ stands (ruleCount bs + x) done′
 
-pub seen-lines : {bs : List ℕ} {seen : ℕ} {done done′ : List ℕ} → Seen bs seen done → Seen bs seen done′ → SameLines bs done done′
+pub seen-lines : {bs : List ℕ} {seen : LineWord} {done done′ : List ℕ} → Seen bs seen done → Seen bs seen done′ → SameLines bs done done′
 seen-lines s t = record { line = λ x h. sym (s .line x h) ∙ t .line x h }
 
 lines-more : {bs done done′ : List ℕ} (e : ℕ) → SameLines bs done done′ → SameLines bs (done ++ (e ∷ [])) (done′ ++ (e ∷ []))

@@ -4,13 +4,13 @@
 -- before; that of reader::read says of its answer that it is a `Reading` of the card and the sheet. Neither asks anything of its
 -- arguments. So what is said here of every outcome is said of every call.
 use Prim.Native.Nat.{ℕ, _+_, _≤_, _<_}
-use mathlib.Core.Path.{_≡_, ap}
+use mathlib.Core.Path.{_≡_, refl, ap}
 use mathlib.Core.Logic.{_↔_, _⊎_}
 use mathlib.Core.Bool.{true, false}
 use mathlib.Core.List.{List, []}
 use lib.ListN.{length, take}
 use Rattle.calculus.specs.Steps.{steps, surely, entriesUsed, stands, leftChoice, rightChoice}
-use Rattle.calculus.specs.Job.{Derivation, Derivable, Listed, surelyUsed}
+use Rattle.calculus.specs.Job.{Derivation, Derivable, DerivableWithin, Listed, surelyUsed}
 use Rattle.calculus.specs.Runs.{OnEveryRun, RunWith}
 use Rattle.calculus.specs.Walk.{ItemsDivide}
 use Rattle.calculus.specs.Ways.{ListsNameWays}
@@ -24,6 +24,11 @@ use Rattle.card.specs.Fault.{firstFault, Sound}
 use Rattle.card.specs.Decode.{jobOf}
 use Rattle.card.specs.Sheet.{markOf, sheetOf}
 use Rattle.card.proofs.StepsFitAByte.{entries-fit}
+use Rattle.branch.specs.declared.Branch.{Branch}
+use Rattle.branch.specs.declared.Floor.{Floor}
+use Rattle.engine.specs.Count.{CountIsScan}
+use Rattle.engine.specs.Inner.Engine.{Ready}
+use Rattle.engine.proofs.CountIsScan.{count-is-scan}
 use Rattle.planning.specs.Plan.{PlanVerdict, planned, refused as not-planned, roomOf, Planning, PlanDecided, Carries}
 use Rattle.planner.proofs.PlannedExactly.{plan-decided, plan-determined, planned-exactly, planned-sheet}
 use Rattle.sheet_front.specs.Front.{stepsOf, sheetFault}
@@ -68,8 +73,13 @@ module _ {bs new : List ℕ} {a : PlanVerdict} where
 -- Demand 2. "Given room for the longest sheet its limits allow, a sound card is planned if and only if Figure 1 of document 000 derives
 -- its goal, with its rules, from all must lines and any of the may lines, within its limits on nesting and steps;
 pub planned-if-derivable : {bs old new : List ℕ} {a : PlanVerdict} → Sound bs → roomOf bs ≤ length old → Planning bs old a new
-    → ((k : ℕ) × (a ≡ planned k)) ↔ Derivable (jobOf bs)
+    → ((k : ℕ) × (a ≡ planned k)) ↔ DerivableWithin (jobOf bs)
 planned-if-derivable = planned-exactly
+
+-- A planned card is then derivable in 01's sense, which asks for no limits.
+pub planned-derivable : {bs old new : List ℕ} {k : ℕ} → Sound bs → roomOf bs ≤ length old → Planning bs old (planned k) new
+    → Derivable (jobOf bs)
+planned-derivable {k = k} s room p = planned-exactly s room p .0 (k, refl) .derivation
 
 -- and the sheet carries the first such list in the stated order."
 pub sheet-carries-first : {bs old new : List ℕ} {k : ℕ} → Planning bs old (planned k) new → Carries bs old new k
@@ -77,7 +87,7 @@ sheet-carries-first = planned-sheet
 
 -- Demand 3. "The list names one way of doing the job: any two derivations within limits have equal lists exactly when the same entry serves
 -- every need; otherwise neither list is a beginning of the other.
-pub lists-name-ways : (bs : List ℕ) (c d : Derivable (jobOf bs)) → ListsNameWays (jobOf bs) (c .derivation) (d .derivation)
+pub lists-name-ways : (bs : List ℕ) (c d : DerivableWithin (jobOf bs)) → ListsNameWays (jobOf bs) (c .derivation) (d .derivation)
 lists-name-ways bs c d = job-lists-name-ways (jobOf bs) (c .derivation) (d .derivation)
 
 -- The reader accepts exactly when the card is sound and the sheet holds the list of such a derivation with its true marks; its k is that
@@ -125,13 +135,18 @@ pub used-one-way : {bs : List ℕ} → Sound bs → (d : Derivation (jobOf bs)) 
     → RunWith (d .tree) (ruleCount bs + i) true × RunWith (d .tree) (ruleCount bs + i) false
 used-one-way = MarksMean.one-way
 
+-- "At every goal met the count in the branch's record is what a scan of its open items finds" (02, #104). Every goal is met by a call of
+-- engine::solve, whose contract asks for `CountIsScan`; so every caller proves it, by this.
+pub count-at-every-goal : {bs waits tape nodes heads : List ℕ} {f : Floor} {b : Branch} → Ready bs waits tape nodes heads f b → CountIsScan bs b
+count-at-every-goal = count-is-scan
+
 -- "At most 103 stand in scope, so a number fits a byte": every entry of a sound card's list. The list's other steps are choices, 254 and 255
 -- (02, #103), which no entry meets.
-pub entries-fit-a-byte : {bs : List ℕ} → Sound bs → (d : Derivable (jobOf bs)) (e : ℕ)
+pub entries-fit-a-byte : {bs : List ℕ} → Sound bs → (d : DerivableWithin (jobOf bs)) (e : ℕ)
     → stands e (entriesUsed (d .derivation .tree)) ≡ true → (e < ruleCount bs + lineCount bs + 103) × (e ≤ 230)
 entries-fit-a-byte = entries-fit
 
-pub entries-or-choices : (bs : List ℕ) (d : Derivable (jobOf bs)) (e : ℕ) → stands e (steps (d .derivation .tree)) ≡ true
+pub entries-or-choices : (bs : List ℕ) (d : DerivableWithin (jobOf bs)) (e : ℕ) → stands e (steps (d .derivation .tree)) ≡ true
     → (stands e (entriesUsed (d .derivation .tree)) ≡ true) ⊎ ((e ≡ leftChoice) ⊎ (e ≡ rightChoice))
 entries-or-choices bs d = entry-or-choice (d .derivation .tree)
 

@@ -11,7 +11,7 @@ use Rattle.calculus.specs.Items.{Items, ∅, _∪_, Empty, Within}
 use Rattle.calculus.specs.Derivation.{Scope}
 use Rattle.calculus.specs.Inner.Summary.{Bounded}
 use Rattle.calculus.proofs.SetLaws.{empty-∅, all-used}
-use Rattle.lines.specs.Inner.Set.{Words, isEmptyS}
+use Rattle.lines.specs.Set.{Words, isEmptyS}
 use Rattle.card.specs.Format.{nodeCount, ruleCount, kindAt}
 use Rattle.card.specs.Fault.{Sound}
 use Rattle.card.proofs.SoundNodes.{goal-lower, node-here}
@@ -33,7 +33,7 @@ use Rattle.branch.specs.Inner.Values.{closedA, pastF}
 use Rattle.segment.specs.Inner.Tasks.{agendaOf, Laid, Unwound, Opened, OpenTask, itemsAt}
 use Rattle.segment.proofs.TasksAreAgendas.{laid-short}
 use Rattle.choice.specs.Inner.Choice.{givenAt, fromAt}
-use Rattle.engine.specs.Inner.Engine.{placeOf, Ready, NameNext, PartNext, OneOfNext, topNode, Solves, Told, Searches}
+use Rattle.engine.specs.Inner.Engine.{placeAt, Ready, NameNext, PartNext, OneOfNext, topNode, Solves, Told, Searches}
 use Rattle.engine.proofs.NumbersFall.{number}
 
 -- The next task of an agenda that is not empty
@@ -81,8 +81,8 @@ module _ {bs codes codes′ : List ℕ} {b c : Branch} (u : Unwound bs codes cod
       let n = u .no-heavier in
       rw (l, a) (omega arith)
 
-  unwound-place : (P : ℕ) (f : Floor) (tape : List ℕ) → placeOf P f c tape ≡ itemsAt P c (placeOf P f b tape)
-  unfolding placeOf
+  unwound-place : (P : ℕ) (f : Floor) (tape : List ℕ) → placeAt P f c tape ≡ itemsAt P c (placeAt P f b tape)
+  unfolding placeAt
   unwound-place P f tape = λ i. record {
     done = take (u .same-at i) tape;
     given = givenAt f (u .same-at i) tape;
@@ -116,18 +116,18 @@ module _ {bs codes codes′ : List ℕ} {b c : Branch} (u : Unwound bs codes cod
 
   -- THEOREM. What is told of the agenda after is told of the agenda before.
   module _ (f : Floor) (tape tape′ : List ℕ) (es : Scope) where
-    back-none : None (eligible bs) es (agendaOf bs codes′ (c .len)) (placeOf (ruleCount bs) f c tape)
-        → None (eligible bs) es (agendaOf bs codes (b .len)) (placeOf (ruleCount bs) f b tape)
-    unfolding placeOf
-    back-none n = u .none (ruleCount bs) (eligible bs) es (placeOf (ruleCount bs) f b tape)
+    back-none : None (eligible bs) es (agendaOf bs codes′ (c .len)) (placeAt (ruleCount bs) f c tape)
+        → None (eligible bs) es (agendaOf bs codes (b .len)) (placeAt (ruleCount bs) f b tape)
+    unfolding placeAt
+    back-none n = u .none (ruleCount bs) (eligible bs) es (placeAt (ruleCount bs) f b tape)
         (subst (None (eligible bs) es (agendaOf bs codes′ (c .len))) (unwound-place (ruleCount bs) f tape) n)
 
     back-least : (l : List ℕ) (U : Items) (v : Bool)
-        → Least (eligible bs) es (agendaOf bs codes′ (c .len)) (placeOf (ruleCount bs) f c tape) l U v
-        → (w : Bool) × Least (eligible bs) es (agendaOf bs codes (b .len)) (placeOf (ruleCount bs) f b tape) l U w
+        → Least (eligible bs) es (agendaOf bs codes′ (c .len)) (placeAt (ruleCount bs) f c tape) l U v
+        → (w : Bool) × Least (eligible bs) es (agendaOf bs codes (b .len)) (placeAt (ruleCount bs) f b tape) l U w
         × ((c .slack || v) ≡ (b .slack || w))
-    unfolding placeOf
-    back-least l U v n = u .least (ruleCount bs) (eligible bs) es (placeOf (ruleCount bs) f b tape) l U v
+    unfolding placeAt
+    back-least l U v n = u .least (ruleCount bs) (eligible bs) es (placeAt (ruleCount bs) f b tape) l U v
         (subst (λ (q : Place). Least (eligible bs) es (agendaOf bs codes′ (c .len)) q l U v) (unwound-place (ruleCount bs) f tape) n)
 
     back-solves : {w : Way} → Solves bs es (agendaOf bs codes′ (c .len)) f c tape tape′ w
@@ -135,7 +135,7 @@ module _ {bs codes codes′ : List ℕ} {b c : Branch} (u : Unwound bs codes cod
     back-solves {w} x = at (back-least (slice (c .at) (w .at) tape′) (x .items-used) (x .slack-left) (x .least))
       where
         p : Place
-        p = placeOf (ruleCount bs) f b tape
+        p = placeAt (ruleCount bs) f b tape
 
         A : Agenda
         A = agendaOf bs codes (b .len)
@@ -197,7 +197,7 @@ module _ {bs waits tape nodes heads : List ℕ} {f : Floor} {b : Branch} (R : Re
 
   done : (es : Scope) → Empty (items (ruleCount bs) (b .strict))
       → Solves bs es [] f b tape tape (record { at = b .at; used = b .used; seen = b .seen; slack = b .slack; kept = true })
-  unfolding placeOf pastF
+  unfolding placeAt pastF
   done es e = record {
     onward = omega arith;
     bounded = R .at;
@@ -210,8 +210,8 @@ module _ {bs waits tape nodes heads : List ℕ} {f : Floor} {b : Branch} (R : Re
     past = rw (slice-empty (b .at) tape) next-here;
   }
 
-  left-over : (es : Scope) → (Empty (items (ruleCount bs) (b .strict)) → ⊥) → None (eligible bs) es [] (placeOf (ruleCount bs) f b tape)
-  unfolding placeOf
+  left-over : (es : Scope) → (Empty (items (ruleCount bs) (b .strict)) → ⊥) → None (eligible bs) es [] (placeAt (ruleCount bs) f b tape)
+  unfolding placeAt
   left-over es n = record {
     none = λ l U v s.
         let e = reads-empty (s .reads) in

@@ -38,7 +38,7 @@ use Rattle.engine.proofs.NumbersFall.{number}
 use Rattle.engine.proofs.PartsTell.{rest-number}
 use Rattle.choice.specs.Inner.Choice.{givenAt, fromAt}
 use Rattle.moves.specs.Inner.Moves.{raisedF}
-use Rattle.engine.specs.Inner.Engine.{placeOf, Ready, Solves}
+use Rattle.engine.specs.Inner.Engine.{placeAt, Ready, Solves}
 use Rattle.engine.specs.Inner.Engine.{Told, Searches}
 use Rattle.engine.proofs.PlacesMove.{slices, lead-place}
 use Rattle.engine.proofs.PlacesMove.{past-tensor-place}
@@ -51,13 +51,13 @@ use Rattle.engine.proofs.TurnsRaise.{turn-nosteps, turn-raise, turn-cle
 abbrev pub Behind : List ℕ → List ℕ → Task → Agenda → Floor → Floor → Branch
     → List ℕ → List ℕ → List ℕ → List ℕ → List ℕ → List ℕ → Bool → Type 0
 Behind bs waits t A f g b tape₀ tape nodes₀ nodes heads₀ heads fresh =
-    Turns bs waits (t ∷ []) (lead (placeOf (ruleCount bs) f b tape₀) (placeOf (ruleCount bs) f b tape₀ .room)) (t ∷ A) f g b
+    Turns bs waits (t ∷ []) (lead (placeAt (ruleCount bs) f b tape₀) (placeAt (ruleCount bs) f b tape₀ .room)) (t ∷ A) f g b
     tape₀ tape nodes₀ nodes heads₀ heads fresh
 
 module _ {bs waits tape₀ tape nodes₀ nodes heads₀ heads : List ℕ} (t : Task) (A : Agenda) {f g : Floor} {b : Branch} {fresh : Bool}
     (I : Behind bs waits t A f g b tape₀ tape nodes₀ nodes heads₀ heads fresh) where
   abbrev p : Place
-  p = placeOf (ruleCount bs) f b tape₀
+  p = placeAt (ruleCount bs) f b tape₀
 
   abbrev es : Scope
   es = scopeIn bs nodes₀ (b .count)
@@ -72,8 +72,8 @@ module _ {bs waits tape₀ tape nodes₀ nodes heads₀ heads : List ℕ} (t : T
       (λ U v. tensor-strict (spare es v) (p .strict) U) (λ U v. tensor-lax (spare es v) (p .strict) (p .lax) U) _||_
   divides = behind-divides es t A (p .strict) (p .lax)
 
-  lead-here : placeOf (ruleCount bs) g (leadB b) tape ≡ lead (floored p F from) (p .room)
-  unfolding placeOf
+  lead-here : placeAt (ruleCount bs) g (leadB b) tape ≡ lead (floored p F from) (p .room)
+  unfolding placeAt
   lead-here = lead-place (ruleCount bs) g b tape ∙ ap (λ (q : Place). lead q (b .limit - b .at)) (here I)
 
   module _ {tape′ nodes′ heads′ : List ℕ} (r : Answer) (R : Searches bs (t ∷ []) g (leadB b) tape tape′ nodes nodes′ heads heads′ r) where
@@ -81,8 +81,8 @@ module _ {bs waits tape₀ tape nodes₀ nodes heads₀ heads : List ℕ} (t : T
     behind-stuck : r ≡ Stuck → Searches bs (t ∷ A) f b tape₀ tape′ nodes₀ nodes′ heads₀ heads′ r
     unfolding Told
     behind-stuck e =
-        let n : None (eligible bs) (scopeIn bs nodes (b .count)) (t ∷ []) (placeOf (ruleCount bs) g (leadB b) tape) = rw e at (R .told) in
-        let n₁ = subst (λ (s : Scope). None (eligible bs) s (t ∷ []) (placeOf (ruleCount bs) g (leadB b) tape)) (scope-now I) n in
+        let n : None (eligible bs) (scopeIn bs nodes (b .count)) (t ∷ []) (placeAt (ruleCount bs) g (leadB b) tape) = rw e at (R .told) in
+        let n₁ = subst (λ (s : Scope). None (eligible bs) s (t ∷ []) (placeAt (ruleCount bs) g (leadB b) tape)) (scope-now I) n in
         let n₂ = subst (λ (q : Place). None (eligible bs) es (t ∷ []) q) lead-here n₁ in
         rw e (turn-stuck I (R .tape-kept) (R .node-kept) (R .head-kept) (turn-none (eligible bs) p divides (I .raised) n₂))
 
@@ -118,10 +118,10 @@ module _ {bs waits tape₀ tape nodes₀ nodes heads₀ heads : List ℕ} (t : T
           subst (λ v. Least (eligible bs) es (t ∷ []) (lead (floored p F from) (p .room)) l U v) own-slack
           (subst (λ (J : Items). Least (eligible bs) es (t ∷ []) (lead (floored p F from) (p .room)) l J (s .slack-left)) own-items
           (subst (λ (q : Place). Least (eligible bs) es (t ∷ []) q l (s .items-used) (s .slack-left)) lead-here
-          (subst (λ (e : Scope). Least (eligible bs) e (t ∷ []) (placeOf (ruleCount bs) g (leadB b) tape) l (s .items-used) (s .slack-left))
+          (subst (λ (e : Scope). Least (eligible bs) e (t ∷ []) (placeAt (ruleCount bs) g (leadB b) tape) l (s .items-used) (s .slack-left))
           (scope-now I) (s .least))))
 
-      rest-here : placeOf (ruleCount bs) h (pastTensorB b w) tape′
+      rest-here : placeAt (ruleCount bs) h (pastTensorB b w) tape′
           ≡ pastLead es (floored p F from) l (givenAt h (w .at) tape′) (fromAt h (w .at)) U (w .slack)
       rest-here =
           past-tensor-place es (ruleCount bs) g h b w tape tape′ (R .tape-kept) (s .onward)
@@ -130,7 +130,7 @@ module _ {bs waits tape₀ tape nodes₀ nodes heads₀ heads : List ℕ} (t : T
 
       -- what the rest asks
       behind-rest : Ready bs waits tape′ nodes′ heads′ h (pastTensorB b w)
-      unfolding pastTensorB placeOf
+      unfolding pastTensorB placeAt
       behind-rest =
           ready-past g (pastTensorB b w) (w .kept) (I .ready) (R .tape-kept) (R .node-kept) (R .head-kept) refl refl (s .bounded) (s .seen)
           (rw (ap (λ (q : Place). q .strict) rest-here, ap (λ (q : Place). q .lax) rest-here)
@@ -183,13 +183,13 @@ module _ {bs waits tape₀ tape nodes₀ nodes heads₀ heads : List ℕ} (t : T
         -- the rest is solved
         pub behind-solved : (v : Way) → a ≡ Solved v
             → Searches bs (t ∷ A) f b tape₀ tape″ nodes₀ nodes″ heads₀ heads″ (Solved (followingW v (w .kept && fresh)))
-        unfolding Told pastTensorB placeOf
+        unfolding Told pastTensorB placeAt
         behind-solved v ea =
             let z : Solves bs (scopeIn bs nodes′ (b .count)) A h (pastTensorB b w) tape′ tape″ v = rw ea at (Q .told) in
             let m : List ℕ = slice (w .at) (v .at) tape″ in
             let rest : Least (eligible bs) es A rest-place m (z .items-used) (z .slack-left) =
             subst (λ (x : Place). Least (eligible bs) es A x m (z .items-used) (z .slack-left)) rest-here
-            (subst (λ (e : Scope). Least (eligible bs) e A (placeOf (ruleCount bs) h (pastTensorB b w) tape′) m (z .items-used)
+            (subst (λ (e : Scope). Least (eligible bs) e A (placeAt (ruleCount bs) h (pastTensorB b w) tape′) m (z .items-used)
             (z .slack-left)) scope-on (z .least)) in
             let list : l ++ m ≡ slice (b .at) (v .at) tape″ =
             slices (b .at) (w .at) (v .at) tape′ tape″ (Q .tape-kept) (s .onward) (z .onward) (omega (arith, tape′-room, way-low)) in
@@ -226,10 +226,10 @@ module _ {bs waits tape₀ tape nodes₀ nodes heads₀ heads : List ℕ} (t : T
           rest-none : None (eligible bs) es A rest-place
           unfolding Told pastTensorB
           rest-none =
-              let n : None (eligible bs) (scopeIn bs nodes′ (b .count)) A (placeOf (ruleCount bs) h (pastTensorB b w) tape′)
+              let n : None (eligible bs) (scopeIn bs nodes′ (b .count)) A (placeAt (ruleCount bs) h (pastTensorB b w) tape′)
               = rw ea at (Q .told) in
               subst (λ (x : Place). None (eligible bs) es A x) rest-here
-              (subst (λ (e : Scope). None (eligible bs) e A (placeOf (ruleCount bs) h (pastTensorB b w) tape′)) scope-on n)
+              (subst (λ (e : Scope). None (eligible bs) e A (placeAt (ruleCount bs) h (pastTensorB b w) tape′)) scope-on n)
 
           -- the rest is stuck, and the part took no steps
           pub behind-nosteps : w .at ≡ b .at → Searches bs (t ∷ A) f b tape₀ tape″ nodes₀ nodes″ heads₀ heads″ Stuck

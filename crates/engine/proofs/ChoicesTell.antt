@@ -41,7 +41,7 @@ use Rattle.branch.specs.Inner.Values.{Answer, Solved, Stuck, Tired, choseB, pas
 use Rattle.segment.specs.Inner.Tasks.{agendaOf}
 use Rattle.choice.specs.Inner.Choice.{givenAt, fromAt, firstAt, FirstEntry, keepsBy}
 use Rattle.moves.specs.Inner.Moves.{sideAt, shutBy}
-use Rattle.engine.specs.Inner.Engine.{placeOf, Ready, partGoal, PartGood, PartReady, choiceKind, ChoiceReady, Choosing, Siding}
+use Rattle.engine.specs.Inner.Engine.{placeAt, Ready, partGoal, PartGood, PartReady, choiceKind, ChoiceReady, ChoiceStep, Siding}
 use Rattle.engine.specs.Inner.Engine.{Solves, Told, Searches, Entering}
 use Rattle.engine.proofs.PlacesMove.{run-cons, written, given-past, from-here, given-step}
 use Rattle.engine.proofs.NumbersFall.{most, fewest, step-fewest}
@@ -136,9 +136,9 @@ module _ (P : ℕ) (f g : Floor) (b : Branch) (t₀ t : List ℕ) (c : ℕ) (k :
       ∙ take-suc-set t (b .at) c (let z = k .size in omega arith)
       ∙ ap (λ l. l ++ (c ∷ [])) (k .same)
 
-  chosen-place : placeOf P g (choseB b) (set t (b .at) c)
-      ≡ pastChoice (placeOf P f b t₀) c (givenAt g (b .at + 1) (set t (b .at) c)) (fromAt g (b .at + 1))
-  unfolding placeOf
+  chosen-place : placeAt P g (choseB b) (set t (b .at) c)
+      ≡ pastChoice (placeAt P f b t₀) c (givenAt g (b .at + 1) (set t (b .at) c)) (fromAt g (b .at + 1))
+  unfolding placeAt
   chosen-place = λ i. record {
     done = done-chosen i;
     given = givenAt g (b .at + 1) (set t (b .at) c);
@@ -158,7 +158,7 @@ choice-past {bs} s c o =
     ⊎-elim (λ e. omega (arith, e, f .rules, f .lines)) (λ e. omega (arith, e, f .rules, f .lines)) o
 
 pub chosen-ready : {bs waits tape nodes heads : List ℕ} {f : Floor} {b : Branch} (R : Ready bs waits tape nodes heads f b) (c : ℕ)
-    → Choosing c b → (g : Floor) → g .fixed ≤ 255 → g .from ≤ 256 → (b₂ : Branch) → b₂ ≡ choseB b
+    → ChoiceStep c b → (g : Floor) → g .fixed ≤ 255 → g .from ≤ 256 → (b₂ : Branch) → b₂ ≡ choseB b
     → Ready bs waits (set tape (b .at) c) nodes heads g b₂
 chosen-ready {bs} {tape = tape} {b = b} R c C g x y b₂ eb = rw eb (record {
   sound = R .sound;
@@ -197,8 +197,8 @@ module _ {bs waits tape₀ nodes₀ heads₀ : List ℕ} {f : Floor} {b : Branch
       ∙ ap (λ x. x ∷ givenAt f (b .at + 1) tape₀) (sym (first-given h))
 
   -- a choice below it is shut
-  shut-below : (es : Scope) (A : Agenda) (c : ℕ) → c < first → Shut (eligible bs) es A (placeOf (ruleCount bs) f b tape₀) c
-  unfolding placeOf
+  shut-below : (es : Scope) (A : Agenda) (c : ℕ) → c < first → Shut (eligible bs) es A (placeAt (ruleCount bs) f b tape₀) c
+  unfolding placeAt
   shut-below es A c l = by-cases (decLt (b .at) (f .fixed))
       (λ h. shut-given (eligible bs) (ahead h) l)
       (λ h. shut-open (eligible bs) (given-past f (b .at) tape₀ (omega arith)) (let e = first-open (omega arith) in omega arith))
@@ -253,13 +253,13 @@ module _ {bs waits tape₀ nodes₀ heads₀ : List ℕ} {f : Floor} {b : Branch
     g = pastF f same
 
     abbrev place₀ : Place
-    place₀ = placeOf (ruleCount bs) f b tape₀
+    place₀ = placeAt (ruleCount bs) f b tape₀
 
     on-floor : Next (c ∷ []) (givenAt f (b .at) tape₀) (fromAt f (b .at)) (givenAt g (b .at + 1) (set tape (b .at) c)) (fromAt g (b .at + 1))
     unfolding OnFloor
     on-floor = past-on tape c l kept-tape same refl
 
-    here-place : placeOf (ruleCount bs) g (choseB b) (set tape (b .at) c)
+    here-place : placeAt (ruleCount bs) g (choseB b) (set tape (b .at) c)
         ≡ pastChoice place₀ c (givenAt g (b .at + 1) (set tape (b .at) c)) (fromAt g (b .at + 1))
     here-place = chosen-place (ruleCount bs) f g b tape₀ tape c tk (let r = room in let k = R .limit in let z = R .tape-room in omega arith)
 
@@ -269,7 +269,7 @@ module _ {bs waits tape₀ nodes₀ heads₀ : List ℕ} {f : Floor} {b : Branch
     unfolding Told
     side-none {G} {n} {A} S =
         subst (λ p. None (eligible bs) es₀ (task G n ∷ A) p) here-place
-        (subst (λ es. None (eligible bs) es (task G n ∷ A) (placeOf (ruleCount bs) g (choseB b) (set tape (b .at) c))) (kept-scope bs nk) (S .told))
+        (subst (λ es. None (eligible bs) es (task G n ∷ A) (placeAt (ruleCount bs) g (choseB b) (set tape (b .at) c))) (kept-scope bs nk) (S .told))
 
     module _ {G : Goal} {n : ℕ} {A : Agenda} {tape′ nodes′ heads′ : List ℕ} {w : Way}
         (S : Searches bs (task G n ∷ A) g (choseB b) (set tape (b .at) c) tape′ nodes nodes′ heads heads′ (Solved w)) where
@@ -363,7 +363,7 @@ module _ {bs waits codes tape₀ nodes₀ heads₀ : List ℕ} {f : Floor} {b : 
   es₁ = scopeIn bs nodes₀ (b .count)
 
   abbrev place₁ : Place
-  place₁ = placeOf (ruleCount bs) f b tape₀
+  place₁ = placeAt (ruleCount bs) f b tape₀
 
   -- what is told of ⊕ of its sides is told of it
   whole-told : {tape′ nodes′ heads′ : List ℕ} {r : Answer} → Searches bs whole f b tape₀ tape′ nodes₀ nodes′ heads₀ heads′ r
@@ -372,7 +372,7 @@ module _ {bs waits codes tape₀ nodes₀ heads₀ : List ℕ} {f : Floor} {b : 
       subst (λ G. Searches bs (task G n ∷ rest) f b tape₀ tape′ nodes₀ nodes′ heads₀ heads′ r) (sym (choice-goal (R .sound) C)) S
 
   pub choice-room : b .limit ≤ b .at → Entering bs codes meets node name n f b tape₀ tape₀ nodes₀ nodes₀ heads₀ heads₀ Stuck
-  unfolding Told placeOf
+  unfolding Told placeAt
   choice-room h = whole-told (record {
     told = choice-roomless (eligible bs) (let z : b .limit - b .at ≡ 0 = omega arith in z);
     tape-kept = kept-self (b .at) tape₀;
@@ -382,7 +382,7 @@ module _ {bs waits codes tape₀ nodes₀ heads₀ : List ℕ} {f : Floor} {b : 
 
   module _ (room : b .at < b .limit) {first : ℕ} (F : FirstEntry f (b .at) tape₀ first) where
     chosen-room : 1 ≤ place₁ .room
-    unfolding placeOf
+    unfolding placeAt
     chosen-room = omega arith
 
     always : (c : ℕ) → (c ≡ leftChoice) ⊎ (c ≡ rightChoice) → eligible bs (place₁ .done) c ≡ true
@@ -393,7 +393,7 @@ module _ {bs waits codes tape₀ nodes₀ heads₀ : List ℕ} {f : Floor} {b : 
     module _ {tape₁ nodes₁ heads₁ : List ℕ} {r : Answer}
         (S : Siding bs codes meets node name n leftChoice first f b tape₀ tape₁ nodes₀ nodes₁ heads₀ heads₁ r) where
       left-shut : r ≡ Stuck → Shut (eligible bs) es₁ whole place₁ leftChoice
-      unfolding followed placeOf
+      unfolding followed placeAt
       left-shut e = by-cases (decLt leftChoice first)
           (λ h. shut-below R F es₁ whole leftChoice h)
           (λ h.
@@ -415,7 +415,7 @@ module _ {bs waits codes tape₀ nodes₀ heads₀ : List ℕ} {f : Floor} {b : 
 
       -- it is solved, or the search gives up
       pub left-told : (r ≡ Stuck → ⊥) → Entering bs codes meets node name n f b tape₀ tape₁ nodes₀ nodes₁ heads₀ heads₁ r
-      unfolding followed placeOf
+      unfolding followed placeAt
       left-told u = by-cases (decLt leftChoice first)
           (λ h. absurd (u (S .below h .0)))
           (λ h.
@@ -451,7 +451,7 @@ module _ {bs waits codes tape₀ nodes₀ heads₀ : List ℕ} {f : Floor} {b : 
         right-stuck x e = rw e (record { told = x; tape-kept = tape-on; node-kept = node-on; head-kept = head-on })
 
         pub right-told : Entering bs codes meets node name n f b tape₀ tape₂ nodes₀ nodes₂ heads₀ heads₂ r₂
-        unfolding placeOf
+        unfolding placeAt
         right-told = by-cases (decLt rightChoice first)
             (λ h. whole-told (right-stuck (choice-none (eligible bs) (left-shut stuck) (shut-below R F es₁ whole rightChoice h)) (S₂ .below h .0)))
             (λ h.
@@ -468,7 +468,7 @@ module _ {bs waits codes tape₀ nodes₀ heads₀ : List ℕ} {f : Floor} {b : 
 -- What a side tells
 
 module _ {bs waits codes tape nodes heads : List ℕ} {f : Floor} {b : Branch} (R : Ready bs waits tape nodes heads f b) {meets : Bool}
-    {node name n : ℕ} (C : ChoiceReady bs codes meets node name n b) {c : ℕ} (ch : Choosing c b) where
+    {node name n : ℕ} (C : ChoiceReady bs codes meets node name n b) {c : ℕ} (ch : ChoiceStep c b) where
   pub choice-byte : c < 256
   choice-byte = ⊎-elim (λ e. omega (arith, e)) (λ e. omega (arith, e)) (ch .choice)
 

@@ -5,18 +5,18 @@ use native.Mathlib.Omega.{arith}
 use mathlib.Core.Path.{_≡_, refl, ap, _∙_}
 use mathlib.Core.Bool.{Bool, true, false}
 use mathlib.Core.List.{List}
-use borrow.Author.Tests.{lt-leb}
 use Rattle.calculus.specs.Items.{Items}
 use Rattle.calculus.proofs.SetLaws.{∪-joins, join-left}
 use Rattle.card.specs.Format.{ruleCount}
-use Rattle.lines.specs.Inner.Set.{member}
-use Rattle.lines.specs.Inner.Count.{number, countS}
-use Rattle.lines.proofs.CountLaws.{number-add, number-none, number-same}
+use Rattle.lines.specs.Set.{member}
+use Rattle.lines.specs.Count.{number, countS}
+use Rattle.lines.proofs.CountLaws.{number-add, number-none}
 use Rattle.scope.specs.Inner.Sets.{items}
 use Rattle.scope.proofs.SetsAreItems.{items-at}
 use Rattle.entries.proofs.TablesAreScopes.{scope-len}
 use Rattle.branch.specs.declared.Branch.{Branch}
 use Rattle.branch.specs.declared.Floor.{Floor}
+use Rattle.engine.specs.Count.{CountIsScan}
 use Rattle.engine.specs.Inner.Engine.{Ready}
 
 module _ {bs waits tape nodes heads : List ℕ} {f : Floor} {b : Branch} (r : Ready bs waits tape nodes heads f b) where
@@ -25,11 +25,6 @@ module _ {bs waits tape nodes heads : List ℕ} {f : Floor} {b : Branch} (r : Re
 
   abbrev I : Items
   I = items (ruleCount bs) (b .strict)
-
-  -- no rule is an item
-  rule : (e : ℕ) → e < ruleCount bs → I e ≡ false
-  unfolding items
-  rule e h = rw (lt-leb (ruleCount bs) e h) refl
 
   -- no item is past the scope
   pub item-past : (i : ℕ) → b .count ≤ ruleCount bs + i → member (b .strict) i ≡ false
@@ -42,21 +37,15 @@ module _ {bs waits tape nodes heads : List ℕ} {f : Floor} {b : Branch} (r : Re
           absurd (omega (arith, r .bounded .bounded (P + i) all, scope-len bs nodes (b .count)))
       go false m = refl
 
-  pub count-is-scan : b .due ≡ number (items (ruleCount bs) (b .strict)) (b .count)
+  -- THEOREM. So it is wherever the engine is ready.
+  pub count-is-scan : CountIsScan bs b
   unfolding countS
   count-is-scan =
       let n = b .count - P in
-      let s = r .scoped in
       let few = r .few in
-      let all : P + n ≡ b .count = omega arith in
       let room : n + (192 - n) ≡ 192 = omega arith in
-      let a = number-add I P n in
-      let a0 = number-none I P rule in
-      let a1 = number-same (λ k. I (P + k)) (member (b .strict)) n
-      (λ k h. items-at P (b .strict) (P + k) (omega arith) ∙ ap (member (b .strict)) (omega arith)) in
       let c = number-add (member (b .strict)) n (192 - n) in
       let c0 = number-none (λ k. member (b .strict) (n + k)) (192 - n) (λ k h. item-past (n + k) (omega arith)) in
-      let x : number I (P + n) ≡ number I (b .count) = ap (number I) all in
       let y : number (member (b .strict)) (n + (192 - n)) ≡ number (member (b .strict)) 192 = ap (number (member (b .strict))) room in
       let k = r .counted in
-      omega arith
+      record { scan = omega arith }

@@ -38,7 +38,7 @@ use Rattle.engine.proofs.NumbersFall.{number, alone}
 use Rattle.engine.proofs.PartsTell.{right-asks}
 use Rattle.choice.specs.Inner.Choice.{givenAt, fromAt}
 use Rattle.moves.specs.Inner.Moves.{raisedF}
-use Rattle.engine.specs.Inner.Engine.{placeOf, Ready, Fresh, Solves}
+use Rattle.engine.specs.Inner.Engine.{placeAt, Ready, Fresh, Solves}
 use Rattle.engine.specs.Inner.Engine.{Told, Searches}
 use Rattle.engine.proofs.PlacesMove.{slices}
 use Rattle.engine.proofs.PlacesMove.{past-with-place}
@@ -55,13 +55,13 @@ with-len b w e = ap (λ (x : Branch). x .len) e
 abbrev pub Either : List ℕ → List ℕ → Goal → Goal → ℕ → Floor → Floor → Branch
     → List ℕ → List ℕ → List ℕ → List ℕ → List ℕ → List ℕ → Bool → Type 0
 Either bs waits G H n f g b tape₀ tape nodes₀ nodes heads₀ heads fresh =
-    Turns bs waits (task G n ∷ []) (placeOf (ruleCount bs) f b tape₀) (task (with G H) n ∷ []) f g b
+    Turns bs waits (task G n ∷ []) (placeAt (ruleCount bs) f b tape₀) (task (with G H) n ∷ []) f g b
     tape₀ tape nodes₀ nodes heads₀ heads fresh
 
 module _ {bs waits tape₀ tape nodes₀ nodes heads₀ heads : List ℕ} (G H : Goal) (n : ℕ) {f g : Floor} {b : Branch} {fresh : Bool}
     (fb : Fresh b) (I : Either bs waits G H n f g b tape₀ tape nodes₀ nodes heads₀ heads fresh) where
   abbrev p : Place
-  p = placeOf (ruleCount bs) f b tape₀
+  p = placeAt (ruleCount bs) f b tape₀
 
   abbrev es : Scope
   es = scopeIn bs nodes₀ (b .count)
@@ -93,8 +93,8 @@ module _ {bs waits tape₀ tape nodes₀ nodes heads₀ heads : List ℕ} (G H :
     either-stuck : r ≡ Stuck → Searches bs A f b tape₀ tape′ nodes₀ nodes′ heads₀ heads′ r
     unfolding Told
     either-stuck e =
-        let n : None (eligible bs) (scopeIn bs nodes (b .count)) B (placeOf (ruleCount bs) g b tape) = rw e at (R .told) in
-        let n₁ = subst (λ (s : Scope). None (eligible bs) s B (placeOf (ruleCount bs) g b tape)) (scope-now I) n in
+        let n : None (eligible bs) (scopeIn bs nodes (b .count)) B (placeAt (ruleCount bs) g b tape) = rw e at (R .told) in
+        let n₁ = subst (λ (s : Scope). None (eligible bs) s B (placeAt (ruleCount bs) g b tape)) (scope-now I) n in
         let n₂ = subst (λ (q : Place). None (eligible bs) es B q) (here I) n₁ in
         rw e (turn-stuck I (R .tape-kept) (R .node-kept) (R .head-kept) (turn-none (eligible bs) p divides (I .raised) n₂))
 
@@ -130,10 +130,10 @@ module _ {bs waits tape₀ tape nodes₀ nodes heads₀ heads : List ℕ} (G H :
           subst (λ v. Least (eligible bs) es B (floored p F from) l U v) own-slack
           (subst (λ (J : Items). Least (eligible bs) es B (floored p F from) l J (s .slack-left)) own-items
           (subst (λ (q : Place). Least (eligible bs) es B q l (s .items-used) (s .slack-left)) (here I)
-          (subst (λ (e : Scope). Least (eligible bs) e B (placeOf (ruleCount bs) g b tape) l (s .items-used) (s .slack-left))
+          (subst (λ (e : Scope). Least (eligible bs) e B (placeAt (ruleCount bs) g b tape) l (s .items-used) (s .slack-left))
           (scope-now I) (s .least))))
 
-      rest-here : placeOf (ruleCount bs) h (pastWithB b w) tape′
+      rest-here : placeAt (ruleCount bs) h (pastWithB b w) tape′
           ≡ pastWith es (floored p F from) l (givenAt h (w .at) tape′) (fromAt h (w .at)) U (w .slack)
       rest-here =
           past-with-place es (ruleCount bs) g h b w tape tape′ (R .tape-kept) (s .onward)
@@ -142,7 +142,7 @@ module _ {bs waits tape₀ tape nodes₀ nodes heads₀ heads : List ℕ} (G H :
 
       -- what the right part asks
       either-rest : Ready bs waits tape′ nodes′ heads′ h (pastWithB b w)
-      unfolding pastWithB placeOf
+      unfolding pastWithB placeAt
       either-rest =
           ready-past g (pastWithB b w) (w .kept) (I .ready) (R .tape-kept) (R .node-kept) (R .head-kept) refl refl (s .bounded) (s .seen)
           (rw (ap (λ (q : Place). q .strict) rest-here, ap (λ (q : Place). q .lax) rest-here)
@@ -191,7 +191,7 @@ module _ {bs waits tape₀ tape nodes₀ nodes heads₀ heads : List ℕ} (G H :
         -- the right part is solved
         pub either-solved : (v : Way) → a ≡ Solved v
             → Searches bs A f b tape₀ tape″ nodes₀ nodes″ heads₀ heads″ (Solved (followingW (besideW w v) (w .kept && fresh)))
-        unfolding Told pastWithB placeOf
+        unfolding Told pastWithB placeAt
         either-solved v ea =
             let z : Solves bs (scopeIn bs nodes′ (b .count)) C h (pastWithB b w) tape′ tape″ v = rw ea at (Q .told) in
             let m : List ℕ = slice (w .at) (v .at) tape″ in
@@ -202,7 +202,7 @@ module _ {bs waits tape₀ tape nodes₀ nodes heads₀ heads : List ℕ} (G H :
             subst (λ x. Least (eligible bs) es C rest-place m W x) (sym (z .slack))
             (subst (λ (J : Items). Least (eligible bs) es C rest-place m J (z .slack-left)) mine
             (subst (λ (x : Place). Least (eligible bs) es C x m (z .items-used) (z .slack-left)) rest-here
-            (subst (λ (e : Scope). Least (eligible bs) e C (placeOf (ruleCount bs) h (pastWithB b w) tape′) m (z .items-used)
+            (subst (λ (e : Scope). Least (eligible bs) e C (placeAt (ruleCount bs) h (pastWithB b w) tape′) m (z .items-used)
             (z .slack-left)) scope-on (z .least)))) in
             let list : l ++ m ≡ slice (b .at) (v .at) tape″ =
             slices (b .at) (w .at) (v .at) tape′ tape″ (Q .tape-kept) (s .onward) (z .onward) (omega (arith, tape′-room, way-low)) in
@@ -238,10 +238,10 @@ module _ {bs waits tape₀ tape nodes₀ nodes heads₀ heads : List ℕ} (G H :
           rest-none : None (eligible bs) es C rest-place
           unfolding Told pastWithB
           rest-none =
-              let n : None (eligible bs) (scopeIn bs nodes′ (b .count)) C (placeOf (ruleCount bs) h (pastWithB b w) tape′)
+              let n : None (eligible bs) (scopeIn bs nodes′ (b .count)) C (placeAt (ruleCount bs) h (pastWithB b w) tape′)
               = rw ea at (Q .told) in
               subst (λ (x : Place). None (eligible bs) es C x) rest-here
-              (subst (λ (e : Scope). None (eligible bs) e C (placeOf (ruleCount bs) h (pastWithB b w) tape′)) scope-on n)
+              (subst (λ (e : Scope). None (eligible bs) e C (placeAt (ruleCount bs) h (pastWithB b w) tape′)) scope-on n)
 
           -- the right part is stuck, and the left took no steps
           pub either-nosteps : w .at ≡ b .at → Searches bs A f b tape₀ tape″ nodes₀ nodes″ heads₀ heads″ Stuck

@@ -30,7 +30,7 @@ use Rattle.segment.specs.Inner.Tasks.{taskOf, agendaOf, Laid, Pushing}
 use Rattle.segment.proofs.TasksAreAgendas.{agenda-next, agenda-put, task-code, fit-code, laid-put, laid-less, nest-low}
 use Rattle.segment.proofs.TurnsTell.{total-pos}
 use Rattle.moves.specs.Inner.Moves.{shutBy}
-use Rattle.engine.specs.Inner.Engine.{placeOf, Ready, OneOfNext, topNode, topNest, partGoal, PartGood, PartReady, choiceKind, ChoiceReady}
+use Rattle.engine.specs.Inner.Engine.{placeAt, Ready, OneOfNext, topNode, topNest, partGoal, PartGood, PartReady, choiceKind, ChoiceReady}
 use Rattle.engine.specs.Inner.Engine.{Told, Searches, Solving, Entering}
 use Rattle.engine.proofs.NumbersFall.{number, most, fewest, under-most}
 
@@ -65,7 +65,7 @@ searched-alike {bs} {f = f} {b} {tape} {tape′} {nodes} {r = r} h S = record {
 
 told-sized : (bs : List ℕ) (es : Scope) (A : Agenda) (f : Floor) (b : Branch) (len : ℕ) (tape tape′ : List ℕ) (r : Answer)
     → Told bs es A f (sizedB b len) tape tape′ r → Told bs es A f b tape tape′ r
-unfolding Told placeOf
+unfolding Told placeAt
 told-sized bs es A f b len tape tape′ (Solved w) t = record {
   onward = t .onward;
   bounded = t .bounded;
@@ -276,7 +276,7 @@ module _ {bs waits tape nodes heads codes : List ℕ} {f : Floor} {b : Branch} (
         let z : goalAt bs (topNode codes b) ≡ zeroᴳ = reads-never bs (topNode codes b) (ap (kindAt bs) (sym eg) ∙ k) in
         let e = one-of-task ∙ ap (λ G. task G (topNest codes b) ∷ agendaOf bs codes (b .len - 1)) z in
         record {
-          told = subst (λ A. None (eligible bs) (scopeIn bs nodes (b .count)) A (placeOf (ruleCount bs) f b tape)) (sym e)
+          told = subst (λ A. None (eligible bs) (scopeIn bs nodes (b .count)) A (placeAt (ruleCount bs) f b tape)) (sym e)
               (record { none = λ l U v s. reads-0 (s .reads) });
           tape-kept = kept-self (b .at) tape;
           node-kept = kept-self (b .count) nodes;

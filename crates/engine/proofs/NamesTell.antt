@@ -1,5 +1,5 @@
 -- What a search says where the next task is a name: by the entries that can be used for it, each with its conditions before the rest.
-use Prim.Native.Nat.{ℕ, zero, suc, _+_, _-_, _*_, _%_, _^_, _≤_, _<_}
+use Prim.Native.Nat.{ℕ, zero, suc, _+_, _-_, _*_, _≤_, _<_}
 use native.Mathlib.Decide.{decLt}
 use native.Mathlib.Omega.{arith}
 use mathlib.Core.Path.{_≡_, refl, sym, _∙_, ap, ap₂, subst, fun-ext}
@@ -9,7 +9,6 @@ use mathlib.Core.List.{List, [], _∷_, _++_}
 use lib.ListN.{length, getD, take, set, length-set}
 use lib.Seq.{slice, set-getD}
 use lib.Dec.{leb, ltb, eqb}
-use lib.Bits.{bitOr}
 use borrow.Author.Tests.{lt-ltb, le-ltb, eq-eqb, ne-eqb, eqb-true, ltb-true, ltb-false}
 use Rattle.calculus.specs.Formula.{Clause, Fits, atomᴳ, residual, usable}
 use Rattle.calculus.specs.Items.{Items, _∪_, _∖_, only, Within}
@@ -24,6 +23,7 @@ use Rattle.card.proofs.SoundNodes.{goal-lower, clause-lower, node-here, name-lo
 use Rattle.scope.specs.Inner.Sets.{items}
 use Rattle.scope.specs.Inner.Tables.{Kept}
 use Rattle.scope.proofs.TablesAreScopes.{kept-self, kept-trans, kept-again, kept-set}
+use Rattle.lines.specs.Inner.Word.{addL}
 use Rattle.entries.specs.Inner.Entries.{scopeIn, codeFits}
 use Rattle.entries.specs.Inner.Twins.{eligible}
 use Rattle.entries.specs.Inner.Masks.{Seen, readyBy}
@@ -49,13 +49,13 @@ use Rattle.segment.proofs.TasksAreAgendas.{agenda-next, nest-low, laid-less, la
 use Rattle.choice.specs.declared.Sought.{Sought as Found}
 use Rattle.choice.specs.declared.Sought.the-variants.{At, Nothing}
 use Rattle.choice.specs.Inner.Choice.{atHandBy, openTo, takableBy, Testing, SeeksAt, Seeks, givenAt, fromAt}
-use Rattle.engine.specs.Inner.Engine.{placeOf, Ready, topNode}
+use Rattle.engine.specs.Inner.Engine.{placeAt, Ready, topNode}
 use Rattle.engine.specs.Inner.Engine.{topNest}
 use Rattle.engine.specs.Inner.Engine.{NameNext, NameOpen, CanUse, PartGood, PartReady, partGoal, found, Solves, Told, Searches, Solving, Entering, Using}
 use Rattle.choice.specs.Inner.Choice.{FirstEntry, firstAt, keepsBy, openBy, gives}
 use Rattle.dead.specs.Inner.Barren.{BarrenIn}
 use Rattle.dead.proofs.DeadStaysDead.{none-barren}
-use Rattle.prune.specs.Inner.Prune.{Rooted, Asks, Doom}
+use Rattle.prune.specs.Inner.Prune.{Rooted, PruneAsks, Doom}
 use Rattle.engine.proofs.PlacesMove.{openF, ready-moved, next-from, from-low}
 use Rattle.engine.proofs.PlacesMove.{run-cons, run-length, written, given-past, from-here, from-past, floor-gone, open-floor}
 use Rattle.engine.proofs.PlacesMove.{given-step, floor-place, spending-items, spent-items, use-place}
@@ -114,8 +114,8 @@ no-floor a t = by-cases (decLt 0 a) (λ h. floor-gone noF a t h)
 
 -- the same steps done and the same floor
 pub same-place : (P : ℕ) (f g : Floor) (b : Branch) (t t′ : List ℕ) → take (b .at) t′ ≡ take (b .at) t
-    → givenAt g (b .at) t′ ≡ givenAt f (b .at) t → fromAt g (b .at) ≡ fromAt f (b .at) → placeOf P g b t′ ≡ placeOf P f b t
-unfolding placeOf
+    → givenAt g (b .at) t′ ≡ givenAt f (b .at) t → fromAt g (b .at) ≡ fromAt f (b .at) → placeAt P g b t′ ≡ placeAt P f b t
+unfolding placeAt
 same-place P f g b t t′ k e h = λ i. record {
   done = k i;
   given = e i;
@@ -138,7 +138,7 @@ next-past e n = rw (← e .0, ← e .1) n
 
 -- What is told at a place is told at the same place on another tape.
 told-same : (bs : List ℕ) (es : Scope) (A : Agenda) (f g : Floor) (b : Branch) (t t₀ t′ : List ℕ) (r : Answer)
-    → placeOf (ruleCount bs) g b t ≡ placeOf (ruleCount bs) f b t₀ → (givenAt g (b .at) t ≡ givenAt f (b .at) t₀)
+    → placeAt (ruleCount bs) g b t ≡ placeAt (ruleCount bs) f b t₀ → (givenAt g (b .at) t ≡ givenAt f (b .at) t₀)
     × (fromAt g (b .at) ≡ fromAt f (b .at)) → AlikePast f g b t′ → Told bs es A g b t t′ r → Told bs es A f b t₀ t′ r
 unfolding Told
 told-same bs es A f g b t t₀ t′ (Solved w) p q s T = record {
@@ -198,14 +198,14 @@ ready-kept {f = f} R t n h = ready-moved f R t n h (R .fixed) (R .from)
 -- At a name, every list sought begins with e or higher.
 pub record Tries (bs codes tape nodes : List ℕ) (f : Floor) (b : Branch) (e : ℕ) : Type 0 where
   pub tried : Trying (eligible bs) (scopeIn bs nodes (b .count)) (leftAt bs (topNode codes b)) (topNest codes b)
-      (agendaOf bs codes (b .len - 1)) (placeOf (ruleCount bs) f b tape) e
+      (agendaOf bs codes (b .len - 1)) (placeAt (ruleCount bs) f b tape) e
 
 module _ {bs waits tape nodes heads : List ℕ} {f : Floor} {b : Branch} (R : Ready bs waits tape nodes heads f b) where
   abbrev es : Scope
   es = scopeIn bs nodes (b .count)
 
   abbrev place : Place
-  place = placeOf (ruleCount bs) f b tape
+  place = placeAt (ruleCount bs) f b tape
 
   -- an answer that leaves tape and tables alone
   at-once : {A : Agenda} {r : Answer} → Told bs es A f b tape tape r → Searches bs A f b tape tape nodes nodes heads heads r
@@ -262,7 +262,7 @@ module _ {bs waits tape nodes heads : List ℕ} {f : Floor} {b : Branch} (R : Re
     unnested z = stuck-at (subst (λ k. None (eligible bs) es (task (atomᴳ a) k ∷ rest) place) (sym z) (name-unnested (eligible bs)))
 
     pub roomless : b .limit ≤ b .at → Solving bs codes f b tape tape nodes nodes heads heads Stuck
-    unfolding placeOf
+    unfolding placeAt
     roomless h = stuck-at (name-roomless (eligible bs) (let z : b .limit - b .at ≡ 0 = omega arith in z))
 
     -- The test of an entry
@@ -274,13 +274,13 @@ module _ {bs waits tape nodes heads : List ℕ} {f : Floor} {b : Branch} (R : Re
             ∙ sym (scope-usable bs nodes (b .count) e h a)
 
         hand-test : atHandBy (ruleCount bs) e b ≡ (not (linearAt es e) || (place .strict ∪ place .lax) e)
-        unfolding atHandBy placeOf
+        unfolding atHandBy placeAt
         hand-test =
             ap (λ c. not c || (items (ruleCount bs) (b .strict) ∪ items (ruleCount bs) (b .lax)) e)
             (sym (scope-linear bs nodes (b .count) e h))
 
         ready-test : readyBy (ruleCount bs) (lineCount bs) waits (b .seen) e ≡ eligible bs (place .done) e
-        unfolding placeOf
+        unfolding placeAt
         ready-test = ready-eligible (R .waiting) (R .seen) (ruleCount bs) (lineCount bs) e refl refl
 
         -- an entry that can be used
@@ -376,12 +376,12 @@ module _ {bs waits tape nodes heads : List ℕ} {f : Floor} {b : Branch} (R : Re
         abbrev next : Branch
         next = usingB b (ruleCount bs) (lineCount bs) e len
 
-        pub one-more : (g : Floor) → placeOf (ruleCount bs) g next (set tape (b .at) e)
+        pub one-more : (g : Floor) → placeAt (ruleCount bs) g next (set tape (b .at) e)
             ≡ pastUse es place e (givenAt g (b .at + 1) (set tape (b .at) e)) (fromAt g (b .at + 1))
         one-more g = use-place es (ruleCount bs) e linear-test (lineCount bs) len f g b tape at-tape
 
         done-more : take (b .at + 1) (set tape (b .at) e) ≡ take (b .at) tape ++ (e ∷ [])
-        unfolding placeOf usingB
+        unfolding placeAt usingB
         done-more = ap (λ q. q .done) (one-more f)
 
         seen-more : Seen bs (next .seen) (take (b .at) tape ++ (e ∷ []))
@@ -389,13 +389,12 @@ module _ {bs waits tape nodes heads : List ℕ} {f : Floor} {b : Branch} (R : Re
         seen-more = at (ltb e (ruleCount bs)) refl (ltb (e - ruleCount bs) (lineCount bs)) refl
           where
             at : (c : Bool) → ltb e (ruleCount bs) ≡ c → (d : Bool) → ltb (e - ruleCount bs) (lineCount bs) ≡ d
-                → Seen bs (cond c (b .seen) (cond d (bitOr (b .seen) (2 ^ ((e - ruleCount bs) % 64))) (b .seen)))
+                → Seen bs (cond c (b .seen) (cond d (addL (b .seen) (e - ruleCount bs)) (b .seen)))
                 (take (b .at) tape ++ (e ∷ []))
             at true p d q = seen-rule (R .seen) e (ltb-true e (ruleCount bs) p)
             at false p true q =
                 let k = ltb-true (e - ruleCount bs) (lineCount bs) q in
-                let low : (e - ruleCount bs) % 64 ≡ e - ruleCount bs = omega (arith, R .seen .few) in
-                rw low (seen-item (R .seen) e (ltb-false e (ruleCount bs) p))
+                seen-item (R .seen) e (ltb-false e (ruleCount bs) p) (omega (arith, R .seen .few))
             at false p false q =
                 let h = ltb-false e (ruleCount bs) p in
                 let k = ltb-false (e - ruleCount bs) (lineCount bs) q in
@@ -498,7 +497,7 @@ module _ {bs waits tape nodes heads : List ℕ} {f : Floor} {b : Branch} (R : Re
       module _ (on : PastStep f g b tape e) (t : Tries bs codes tape nodes f b e) where
         -- past the use nothing is found: the next entry
         pub use-stuck : Using bs codes e g b tape tape′ nodes nodes′ heads heads′ Stuck → Tries bs codes tape nodes f b (suc e)
-        unfolding Told placeOf
+        unfolding Told placeAt
         use-stuck X = record {
           tried = subst (λ k. Trying (eligible bs) es a k rest place (suc e)) (deeper (U .step .deep))
               (trying-next (eligible bs) (deep-name (U .step .deep) t) on
@@ -538,7 +537,7 @@ module _ {bs waits tape nodes heads : List ℕ} {f : Floor} {b : Branch} (R : Re
 
           least-way : Least (eligible bs) es (task (atomᴳ a) (suc (n - 1)) ∷ rest) place (e ∷ slice (b .at + 1) (w .at) tape′)
               (spending es e (way .items-used)) (way .slack-left)
-          unfolding placeOf usingB
+          unfolding placeAt usingB
           least-way =
               let s = taken e (U .inside) (U .takable) in
               let left : 1 ≤ b .limit - b .at = let r = U .step .room in omega arith in
@@ -624,7 +623,7 @@ pub record Turn (bs waits codes : List ℕ) (first : ℕ) (b : Branch) (tape₀ 
 
 pub turn-start : {bs waits codes tape nodes heads : List ℕ} {first : ℕ} {b : Branch} → Ready bs waits tape nodes heads (openF b first) b
     → (from : ℕ) → from ≡ first → Turn bs waits codes first b tape tape nodes nodes heads heads from
-unfolding placeOf
+unfolding placeAt
 turn-start {bs} {codes} {tape} {nodes} {heads} {first} {b} R from e = record {
   ready = R;
   tape-kept = kept-self (b .at) tape;
@@ -633,7 +632,7 @@ turn-start {bs} {codes} {tape} {nodes} {heads} {first} {b} R from e = record {
   onward = omega arith;
   tries = record {
     tried = subst (λ x. Trying (eligible bs) (scopeIn bs nodes (b .count)) (leftAt bs (topNode codes b)) (topNest codes b)
-        (agendaOf bs codes (b .len - 1)) (placeOf (ruleCount bs) (openF b first) b tape) x) (open-floor b first tape .1 ∙ sym e)
+        (agendaOf bs codes (b .len - 1)) (placeAt (ruleCount bs) (openF b first) b tape) x) (open-floor b first tape .1 ∙ sym e)
         (trying-open (eligible bs) (open-floor b first tape .0));
   };
 }
@@ -700,13 +699,13 @@ module _ {bs waits codes : List ℕ} {first : ℕ} {b : Branch} {tape₀ tape no
                 → Tries bs codes tape nodes (openF b first) b k → Tries bs codes tape′ nodes′ (openF b first) b m
             tries-on {k} tk nk q s = record {
               tried = subst (λ es. Trying (eligible bs) es (leftAt bs (topNode codes b)) (topNest codes b) (agendaOf bs codes (b .len - 1))
-                  (placeOf (ruleCount bs) (openF b first) b tape′) m) (sym (kept-scope bs nk))
+                  (placeAt (ruleCount bs) (openF b first) b tape′) m) (sym (kept-scope bs nk))
                   (subst (λ z. Trying (eligible bs) (scopeIn bs nodes (b .count)) (leftAt bs (topNode codes b)) (topNest codes b)
                   (agendaOf bs codes (b .len - 1)) z m)
                   (same-place (ruleCount bs) (openF b first) (openF b first) b tape′ tape (sym (tk .same))
                   (open-floor b first tape .0 ∙ sym (open-floor b first tape′ .0)) refl)
                   (subst (λ z. Trying (eligible bs) (scopeIn bs nodes (b .count)) (leftAt bs (topNode codes b)) (topNest codes b)
-                  (agendaOf bs codes (b .len - 1)) (placeOf (ruleCount bs) (openF b first) b tape) z) q (s .tried)));
+                  (agendaOf bs codes (b .len - 1)) (placeAt (ruleCount bs) (openF b first) b tape) z) q (s .tried)));
             }
 
         pub turn-found : (w : Way) → r ≡ Solved w → Solving bs codes (openF b first) b tape₀ tape′ nodes₀ nodes′ heads₀ heads′ r
@@ -812,7 +811,7 @@ module _ {bs waits tape nodes heads : List ℕ} {f : Floor} {b : Branch} (R : Re
       rw (ahead, same-tape, from-here f (b .at) here, from-here f (b .at + 1) there) (next-same next-here)
 
   given-tries : Tries bs codes tape nodes f b e
-  unfolding placeOf
+  unfolding placeAt
   given-tries = record { tried = trying-given (eligible bs) ahead }
 
   module _ (name : ℕ) (en : name ≡ leftAt bs (topNode codes b)) where
@@ -832,15 +831,15 @@ module _ {bs waits tape nodes heads : List ℕ} {f : Floor} {b : Branch} (R : Re
     A₀ = agendaOf bs codes (b .len)
 
     -- what is sought is not below the floor above the step
-    higher : {l : List ℕ} {U : Items} {v : Bool} → Sought (eligible bs) es₀ A₀ (placeOf (ruleCount bs) f b tape) l U v
-        → Sought (eligible bs) es₀ A₀ (floored (placeOf (ruleCount bs) f b tape) [] first) l U v
+    higher : {l : List ℕ} {U : Items} {v : Bool} → Sought (eligible bs) es₀ A₀ (placeAt (ruleCount bs) f b tape) l U v
+        → Sought (eligible bs) es₀ A₀ (floored (placeAt (ruleCount bs) f b tape) [] first) l U v
     higher {l} {U} {v} s = record { reads = s .reads; window = s .window; short = s .short; chosen = s .chosen; floor = at l s }
       where
-        at : (k : List ℕ) → Sought (eligible bs) es₀ A₀ (placeOf (ruleCount bs) f b tape) k U v → FloorOf k [] first
+        at : (k : List ℕ) → Sought (eligible bs) es₀ A₀ (placeAt (ruleCount bs) f b tape) k U v → FloorOf k [] first
         at [] s = ends
         at (x ∷ k) s =
             let q : suc e ≤ x = t .tried .trying x k U v
-            (subst (λ A. Sought (eligible bs) es₀ A (placeOf (ruleCount bs) f b tape) (x ∷ k) U v) (named R (N .next)) s) in
+            (subst (λ A. Sought (eligible bs) es₀ A (placeAt (ruleCount bs) f b tape) (x ∷ k) U v) (named R (N .next)) s) in
             opens (let z : first ≤ x = omega arith in z)
 
     -- and what is not below that is not below the step
@@ -849,14 +848,14 @@ module _ {bs waits tape nodes heads : List ℕ} {f : Floor} {b : Branch} (R : Re
     lower (x ∷ l) (opens q) = above (let z : e < x = omega arith in z)
 
     module _ {tape₁ : List ℕ} (tk : Kept (b .at) tape tape₁) where
-      place-above : placeOf (ruleCount bs) (openF b first) b tape₁ ≡ floored (placeOf (ruleCount bs) f b tape) [] first
+      place-above : placeAt (ruleCount bs) (openF b first) b tape₁ ≡ floored (placeAt (ruleCount bs) f b tape) [] first
       place-above =
           floor-place (ruleCount bs) f (openF b first) b tape tape₁ (tk .same)
-          ∙ ap₂ (λ F k. floored (placeOf (ruleCount bs) f b tape) F k) (open-floor b first tape₁ .0) (open-floor b first tape₁ .1)
+          ∙ ap₂ (λ F k. floored (placeAt (ruleCount bs) f b tape) F k) (open-floor b first tape₁ .0) (open-floor b first tape₁ .1)
 
       above-tells : (tape₂ : List ℕ) (r : Answer) → Told bs es₀ A₀ (openF b first) b tape₁ tape₂ r → Departs r
           → Told bs es₀ A₀ f b tape tape₂ r
-      unfolding Told Departs placeOf
+      unfolding Told Departs placeAt
       above-tells tape₂ (Solved w) T d =
           let L = subst (λ z. Least (eligible bs) es₀ A₀ z (found b w tape₂) (T .items-used) (T .slack-left)) place-above (T .least) in
           record {
@@ -1136,7 +1135,7 @@ module _ {bs waits codes tape₀ nodes₀ heads₀ : List ℕ} {f : Floor} {b : 
 
 module _ {bs waits tape nodes heads : List ℕ} {f : Floor} {b : Branch} (R : Ready bs waits tape nodes heads f b) {codes : List ℕ}
     (N : NameNext bs codes b) where
-  pub asks : Rooted bs nodes (b .count) → Asks bs nodes codes b
+  pub asks : Rooted bs nodes (b .count) → PruneAsks bs nodes codes b
   asks k = record {
     sound = R .sound;
     node-room = R .entered .node-room;
@@ -1151,15 +1150,15 @@ module _ {bs waits tape nodes heads : List ℕ} {f : Floor} {b : Branch} (R : Re
   }
 
   pub doomed-told : Doom bs nodes codes b → Solving bs codes f b tape tape nodes nodes heads heads Stuck
-  unfolding Told placeOf
-  doomed-told d = at-once R {r = Stuck} (d .none (placeOf (ruleCount bs) f b tape) (R .seen) refl refl refl)
+  unfolding Told placeAt
+  doomed-told d = at-once R {r = Stuck} (d .none (placeAt (ruleCount bs) f b tape) (R .seen) refl refl refl)
 
 -- a dead end on which no floor bears
 pub dead-barren : {bs waits tape₀ tape nodes₀ nodes heads₀ heads : List ℕ} {f : Floor} {b : Branch} {first : ℕ} (codes : List ℕ)
     → Ready bs waits tape₀ nodes₀ heads₀ f b → FirstEntry f (b .at) tape₀ first → Kept (b .count) nodes₀ nodes
     → Solving bs codes f b tape₀ tape nodes₀ nodes heads₀ heads Stuck → openBy f (b .at) first ≡ true
     → BarrenIn bs (scopeIn bs nodes (b .count)) codes b
-unfolding Told placeOf openBy firstAt
+unfolding Told placeAt openBy firstAt
 dead-barren {bs} {tape₀ = tape₀} {f = f} {b = b} {first = first} codes R F nk S o = by-cases (decLt (b .at) (f .fixed))
     (λ h. absurd (true≢false (sym o ∙ ap (λ c. cond c false (eqb first 0)) (lt-ltb (b .at) (f .fixed) h))))
     (λ h.
@@ -1168,7 +1167,7 @@ dead-barren {bs} {tape₀ = tape₀} {f = f} {b = b} {first = first} codes R F n
     let z : first ≡ 0 = eqb-true first 0 (sym (ap (λ c. cond c false (eqb first 0)) t) ∙ o) in
     let d : fromAt f (b .at) ≡ 0 = sym (F .is ∙ ap (λ c. cond c (byteAt tape₀ (b .at)) (fromAt f (b .at))) t) ∙ z in
     subst (λ es. BarrenIn bs es codes b) (sym (kept-scope bs nk))
-    (none-barren (placeOf (ruleCount bs) f b tape₀) (S .told) (given-past f (b .at) tape₀ l) d (R .seen)))
+    (none-barren (placeAt (ruleCount bs) f b tape₀) (S .told) (given-past f (b .at) tape₀ l) d (R .seen)))
 
 -- what a use says, of the answer that it is
 pub solved-using : {bs codes : List ℕ} {e : ℕ} {f : Floor} {b : Branch} {tape tape′ nodes nodes′ heads heads′ : List ℕ} {r : Answer} {w : Way}

@@ -6,7 +6,8 @@ use mathlib.Core.List.{List}
 use Rattle.card.specs.Fault.{Sound}
 use Rattle.card.specs.Decode.{goalAt}
 use Rattle.branch.specs.declared.Branch.{Branch}
-use Rattle.segment.specs.Inner.Tasks.{weight, total, Laid}
+use Rattle.card.specs.Inner.Size.{weight}
+use Rattle.segment.specs.Inner.Tasks.{total, Laid}
 use Rattle.segment.proofs.TasksAreAgendas.{total-bound}
 use Rattle.segment.proofs.TurnsTell.{total-pos}
 

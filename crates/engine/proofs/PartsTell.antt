@@ -20,7 +20,7 @@ use Rattle.card.specs.Decode.{goalAt, clauseOf}
 use Rattle.card.proofs.CardChecked.{sound-front}
 use Rattle.card.proofs.SoundNodes.{goal-lower, goal-kind, goal-above, clause-above, height-pos, height-parts, either-parts, lend-parts}
 use Rattle.card.proofs.SoundNodes.{sound-either, sound-lend}
-use Rattle.lines.specs.Inner.Set.{member, addS}
+use Rattle.lines.specs.Set.{member, addS}
 use Rattle.scope.specs.Inner.Sets.{items}
 use Rattle.scope.specs.Inner.Tables.{Kept}
 use Rattle.scope.proofs.SetsAreItems.{items-empty, items-join, items-add, items-take}
@@ -37,11 +37,12 @@ use Rattle.branch.specs.declared.Floor.{Floor}
 use Rattle.branch.specs.Inner.Values.{Answer, Solved, Stuck, Tired}
 use Rattle.branch.specs.Inner.Values.{ownB, leadB, lentB, joinedW, withoutW}
 use Rattle.branch.proofs.CountsKept.{counted-lent}
-use Rattle.inside.specs.Inner.Inside.{Opening, Opened, lends, outsideW}
-use Rattle.segment.specs.Inner.Tasks.{taskOf, agendaOf, weight, taskWeight, total, Laid}
-use Rattle.segment.proofs.WeightsFall.{weight-pos, weight-times, either-weight, lend-weight}
+use Rattle.inside.specs.Inner.Inside.{Opening, InsideOpened, lends, outsideW}
+use Rattle.segment.specs.Inner.Tasks.{taskOf, agendaOf, taskWeight, total, Laid}
+use Rattle.card.specs.Inner.Size.{weight}
+use Rattle.card.proofs.WeightsFall.{weight-pos, weight-times, either-weight, lend-weight}
 use Rattle.segment.proofs.TasksAreAgendas.{nest-low, agenda-next, total-next, agenda-one, total-one, laid-one}
-use Rattle.engine.specs.Inner.Engine.{placeOf, Ready, topNode, topNest, PartNext, GoalReady, Fresh, Solves}
+use Rattle.engine.specs.Inner.Engine.{placeAt, Ready, topNode, topNest, PartNext, GoalReady, Fresh, Solves}
 use Rattle.engine.specs.Inner.Engine.{Told, Searches}
 use Rattle.engine.proofs.PlacesMove.{lent-place}
 use Rattle.engine.proofs.NumbersFall.{number, alone}
@@ -136,9 +137,9 @@ part-number bs codes goal n b b′ e d l h =
 
 own-stuck : {bs tape tape′ nodes nodes′ heads heads′ : List ℕ} {A : Agenda} {f : Floor} {b : Branch} {r : Answer}
     → Searches bs A f (ownB b) tape tape′ nodes nodes′ heads heads′ r → r ≡ Stuck → Searches bs A f b tape tape′ nodes nodes′ heads heads′ r
-unfolding Told placeOf
+unfolding Told placeAt
 own-stuck {bs} {tape} {nodes} {A} {f} {b} R e =
-    let n : None (eligible bs) (scopeIn bs nodes (b .count)) A (placeOf (ruleCount bs) f b tape) = rw e at (R .told) in
+    let n : None (eligible bs) (scopeIn bs nodes (b .count)) A (placeAt (ruleCount bs) f b tape) = rw e at (R .told) in
     rw e (record { told = n; tape-kept = R .tape-kept; node-kept = R .node-kept; head-kept = R .head-kept })
 
 pub own-unsolved : {bs tape tape′ nodes nodes′ heads heads′ : List ℕ} {A : Agenda} {f : Floor} {b : Branch} {r : Answer}
@@ -151,7 +152,7 @@ own-unsolved R (inr e) = rw e (record { told = tt; tape-kept = R .tape-kept; nod
 pub own-solved : {bs tape tape′ nodes nodes′ heads heads′ : List ℕ} {A : Agenda} {f : Floor} {b : Branch} {r : Answer} (w : Way)
     → Searches bs A f (ownB b) tape tape′ nodes nodes′ heads heads′ r → r ≡ Solved w
     → Searches bs A f b tape tape′ nodes nodes′ heads heads′ (Solved (joinedW b w))
-unfolding Told placeOf
+unfolding Told placeAt
 own-solved {bs} {tape} {tape′} {nodes} {A} {f} {b} w R e =
     let s : Solves bs (scopeIn bs nodes (b .count)) A f (ownB b) tape tape′ w = rw e at (R .told) in
     record {
@@ -379,7 +380,7 @@ module _ {bs waits tape nodes heads : List ℕ} {f : Floor} {goal n : ℕ} {b : 
       heads-on = kept-trans {n = b .count} {m = b .count + 1} (omega arith)
           (rw (hd .written) (kept-set (b .count) (b .count) heads (hd .code) (omega arith))) (S .head-kept)
 
-      lent-here : placeOf (ruleCount bs) f (lentB b item) tape ≡ lentPlace es (placeOf (ruleCount bs) f b tape)
+      lent-here : placeAt (ruleCount bs) f (lentB b item) tape ≡ lentPlace es (placeAt (ruleCount bs) f b tape)
       lent-here = lent-place es (ruleCount bs) f b tape (scope-len bs nodes (b .count)) rules-in item-low
 
       the-goal : task (lolliᴳ D G) n ∷ [] ≡ task (goalAt bs goal) n ∷ []
@@ -388,13 +389,13 @@ module _ {bs waits tape nodes heads : List ℕ} {f : Floor} {goal n : ℕ} {b : 
       lent-stuck : a ≡ Stuck → Searches bs (task (goalAt bs goal) n ∷ []) f b tape tape′ nodes nodes″ heads heads″ a
       unfolding Told
       lent-stuck e =
-          let z : None (eligible bs) (scopeIn bs nodes′ (b .count + 1)) (task G n ∷ []) (placeOf (ruleCount bs) f (lentB b item) tape)
+          let z : None (eligible bs) (scopeIn bs nodes′ (b .count + 1)) (task G n ∷ []) (placeAt (ruleCount bs) f (lentB b item) tape)
           = rw e at (S .told) in
-          let z₁ = subst (λ (s : Scope). None (eligible bs) s (task G n ∷ []) (placeOf (ruleCount bs) f (lentB b item) tape))
+          let z₁ = subst (λ (s : Scope). None (eligible bs) s (task G n ∷ []) (placeAt (ruleCount bs) f (lentB b item) tape))
           lent-scope z in
           let z₂ = subst (λ (q : Place). None (eligible bs) (lend es D) (task G n ∷ []) q) lent-here z₁ in
-          let u = subst (λ (A : Agenda). None (eligible bs) es A (placeOf (ruleCount bs) f b tape)) the-goal
-          (lend-none (eligible bs) (placeOf (ruleCount bs) f b tape) z₂) in
+          let u = subst (λ (A : Agenda). None (eligible bs) es A (placeAt (ruleCount bs) f b tape)) the-goal
+          (lend-none (eligible bs) (placeAt (ruleCount bs) f b tape) z₂) in
           rw e (record { told = u; tape-kept = S .tape-kept; node-kept = nodes-on; head-kept = heads-on })
 
       pub lent-unsolved : (a ≡ Stuck) ⊎ (a ≡ Tired)
@@ -405,16 +406,16 @@ module _ {bs waits tape nodes heads : List ℕ} {f : Floor} {goal n : ℕ} {b : 
 
       pub lent-solved : (w : Way) → a ≡ Solved w
           → Searches bs (task (goalAt bs goal) n ∷ []) f b tape tape′ nodes nodes″ heads heads″ (Solved (withoutW w item))
-      unfolding Told placeOf
+      unfolding Told placeAt
       lent-solved w e =
           let s : Solves bs (scopeIn bs nodes′ (b .count + 1)) (task G n ∷ []) f (lentB b item) tape tape′ w = rw e at (S .told) in
           let l : List ℕ = slice (b .at) (w .at) tape′ in
-          let z₁ = subst (λ (c : Scope). Least (eligible bs) c (task G n ∷ []) (placeOf (ruleCount bs) f (lentB b item) tape) l
+          let z₁ = subst (λ (c : Scope). Least (eligible bs) c (task G n ∷ []) (placeAt (ruleCount bs) f (lentB b item) tape) l
           (s .items-used) (s .slack-left)) lent-scope (s .least) in
           let z₂ = subst (λ (q : Place). Least (eligible bs) (lend es D) (task G n ∷ []) q l (s .items-used) (s .slack-left))
           lent-here z₁ in
-          let u = subst (λ (A : Agenda). Least (eligible bs) es A (placeOf (ruleCount bs) f b tape) l (s .items-used ∖ only (size es))
-          (s .slack-left)) the-goal (lend-least (eligible bs) (placeOf (ruleCount bs) f b tape) (r .bounded) z₂) in
+          let u = subst (λ (A : Agenda). Least (eligible bs) es A (placeAt (ruleCount bs) f b tape) l (s .items-used ∖ only (size es))
+          (s .slack-left)) the-goal (lend-least (eligible bs) (placeAt (ruleCount bs) f b tape) (r .bounded) z₂) in
           record {
             told = record {
               onward = s .onward;
@@ -459,7 +460,7 @@ module _ {bs waits tape nodes heads : List ℕ} {f : Floor} {goal n : ℕ} {b : 
   }
 
   module _ {nodes′ heads′ : List ℕ} (codes : List ℕ) {codes′ : List ℕ} {c : Branch} (room : length codes ≡ 104) where
-    pub opened-asks : Opened bs nodes nodes′ heads heads′ codes codes′ goal n b c
+    pub opened-asks : InsideOpened bs nodes nodes′ heads heads′ codes codes′ goal n b c
         → (number bs codes′ c < alone bs goal n b) × (Ready bs waits tape nodes′ heads′ f c × Laid bs codes′ (c .len) (c .count))
     opened-asks (lends k en hd ea ec) = lent-asks refl en hd c refl ec codes room refl ea
 
@@ -468,12 +469,12 @@ module _ {bs waits tape nodes heads : List ℕ} {f : Floor} {goal n : ℕ} {b : 
         → Searches bs (task G n ∷ []) f (lentB b item) tape tape′ nodes′ nodes″ heads′ heads″ a
     inner ec ea S = searched-at ec (searched-as (one-task bs codes (g .nested) room (ap (λ (x : Branch). x .len) ec) refl ea) S)
 
-    pub opened-unsolved : {tape′ nodes″ heads″ : List ℕ} {a : Answer} → Opened bs nodes nodes′ heads heads′ codes codes′ goal n b c
+    pub opened-unsolved : {tape′ nodes″ heads″ : List ℕ} {a : Answer} → InsideOpened bs nodes nodes′ heads heads′ codes codes′ goal n b c
         → Searches bs (agendaOf bs codes′ (c .len)) f c tape tape′ nodes′ nodes″ heads′ heads″ a → (a ≡ Stuck) ⊎ (a ≡ Tired)
         → Searches bs (task (goalAt bs goal) n ∷ []) f b tape tape′ nodes nodes″ heads heads″ a
     opened-unsolved (lends k en hd ea ec) S u = lent-unsolved refl en hd (inner ec ea S) u
 
-    pub opened-solved : {tape′ nodes″ heads″ : List ℕ} {a : Answer} (w : Way) → Opened bs nodes nodes′ heads heads′ codes codes′ goal n b c
+    pub opened-solved : {tape′ nodes″ heads″ : List ℕ} {a : Answer} (w : Way) → InsideOpened bs nodes nodes′ heads heads′ codes codes′ goal n b c
         → Searches bs (agendaOf bs codes′ (c .len)) f c tape tape′ nodes′ nodes″ heads′ heads″ a → a ≡ Solved w
         → Searches bs (task (goalAt bs goal) n ∷ []) f b tape tape′ nodes nodes″ heads heads″ (Solved (outsideW bs goal (b .count) w))
     unfolding outsideW

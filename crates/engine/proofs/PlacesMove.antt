@@ -14,7 +14,7 @@ use Rattle.calculus.specs.Derivation.{Scope, size, linearAt}
 use Rattle.calculus.specs.Inner.Summary.{spare}
 use Rattle.calculus.specs.Inner.Window.{tensor-strict, tensor-lax, with-strict, with-lax}
 use Rattle.lines.specs.declared.LineSet.{LineSet}
-use Rattle.lines.specs.Inner.Set.{emptyS, addS, takeS, cutS, joinS}
+use Rattle.lines.specs.Set.{emptyS, addS, takeS, cutS, joinS}
 use Rattle.scope.specs.Inner.Sets.{items}
 use Rattle.scope.specs.Inner.Tables.{Kept}
 use Rattle.scope.proofs.SetsAreItems.{items-empty, items-join, items-cut, items-add, items-take}
@@ -28,7 +28,7 @@ use Rattle.branch.specs.declared.Floor.{Floor}
 use Rattle.branch.specs.Inner.Values.{leadB, pastTensorB, pastWithB, lentB, usingB}
 use Rattle.choice.specs.Inner.Choice.{givenAt, fromAt}
 use Rattle.moves.specs.Inner.Moves.{raisedF}
-use Rattle.engine.specs.Inner.Engine.{placeOf, Ready}
+use Rattle.engine.specs.Inner.Engine.{placeAt, Ready}
 
 -- the floor of the entries from the given one on
 abbrev pub openF : Branch → ℕ → Floor
@@ -108,8 +108,8 @@ raised-given t a z = refl
 
 -- the same place with another floor
 pub floor-place : (P : ℕ) (f g : Floor) (b : Branch) (t t′ : List ℕ) → take (b .at) t′ ≡ take (b .at) t
-    → placeOf P g b t′ ≡ floored (placeOf P f b t) (givenAt g (b .at) t′) (fromAt g (b .at))
-unfolding placeOf
+    → placeAt P g b t′ ≡ floored (placeAt P f b t) (givenAt g (b .at) t′) (fromAt g (b .at))
+unfolding placeAt
 floor-place P f g b t t′ k = λ i. record {
   done = k i;
   given = givenAt g (b .at) t′;
@@ -120,8 +120,8 @@ floor-place P f g b t t′ k = λ i. record {
 }
 
 -- a part with more behind it
-pub lead-place : (P : ℕ) (f : Floor) (b : Branch) (t : List ℕ) → placeOf P f (leadB b) t ≡ lead (placeOf P f b t) (b .limit - b .at)
-unfolding placeOf
+pub lead-place : (P : ℕ) (f : Floor) (b : Branch) (t : List ℕ) → placeAt P f (leadB b) t ≡ lead (placeAt P f b t) (b .limit - b .at)
+unfolding placeAt
 lead-place P f b t = λ i. record {
   done = take (b .at) t;
   given = givenAt f (b .at) t;
@@ -134,8 +134,8 @@ lead-place P f b t = λ i. record {
 -- past a list on the tape, with other items
 pub past-place : (P : ℕ) (f h : Floor) (b b′ : Branch) (t t′ : List ℕ) → Kept (b .at) t t′ → b .at ≤ b′ .at → b′ .at ≤ length t
     → b′ .limit ≡ b .limit → {S L : Items} → items P (b′ .strict) ≡ S → items P (b′ .lax) ≡ L
-    → placeOf P h b′ t′ ≡ past (placeOf P f b t) (slice (b .at) (b′ .at) t′) (givenAt h (b′ .at) t′) (fromAt h (b′ .at)) S L
-unfolding placeOf
+    → placeAt P h b′ t′ ≡ past (placeAt P f b t) (slice (b .at) (b′ .at) t′) (givenAt h (b′ .at) t′) (fromAt h (b′ .at)) S L
+unfolding placeAt
 past-place P f h b b′ t t′ k on top same s l = λ i. record {
   done = taken-run (b .at) (b′ .at) t t′ k on i;
   given = givenAt h (b′ .at) t′;
@@ -175,17 +175,17 @@ module _ (es : Scope) (P : ℕ) where
 
   -- the rest of the segment, and the right part of a &, past a way w
   pub past-tensor-place : (f h : Floor) (b : Branch) (w : Way) (t t′ : List ℕ) → Kept (b .at) t t′ → b .at ≤ w .at → w .at ≤ length t
-      → placeOf P h (pastTensorB b w) t′
-      ≡ pastLead es (placeOf P f b t) (slice (b .at) (w .at) t′) (givenAt h (w .at) t′) (fromAt h (w .at)) (items P (w .used)) (w .slack)
-  unfolding pastTensorB placeOf
+      → placeAt P h (pastTensorB b w) t′
+      ≡ pastLead es (placeAt P f b t) (slice (b .at) (w .at) t′) (givenAt h (w .at) t′) (fromAt h (w .at)) (items P (w .used)) (w .slack)
+  unfolding pastTensorB placeAt
   past-tensor-place f h b w t t′ k on top =
       past-place P f h b (pastTensorB b w) t t′ k on top refl (tensor-strict-items (w .slack) (b .strict) (w .used))
       (tensor-lax-items (w .slack) (b .strict) (b .lax) (w .used))
 
   pub past-with-place : (f h : Floor) (b : Branch) (w : Way) (t t′ : List ℕ) → Kept (b .at) t t′ → b .at ≤ w .at → w .at ≤ length t
-      → placeOf P h (pastWithB b w) t′
-      ≡ pastWith es (placeOf P f b t) (slice (b .at) (w .at) t′) (givenAt h (w .at) t′) (fromAt h (w .at)) (items P (w .used)) (w .slack)
-  unfolding pastWithB placeOf
+      → placeAt P h (pastWithB b w) t′
+      ≡ pastWith es (placeAt P f b t) (slice (b .at) (w .at) t′) (givenAt h (w .at) t′) (fromAt h (w .at)) (items P (w .used)) (w .slack)
+  unfolding pastWithB placeAt
   past-with-place f h b w t t′ k on top =
       past-place P f h b (pastWithB b w) t t′ k on top refl (with-strict-items (w .slack) (b .strict) (w .used))
       (with-lax-items (w .slack) (b .lax) (w .used))
@@ -215,9 +215,9 @@ module _ (es : Scope) (P e : ℕ) (l : linearAt es e ≡ leb P e) where
       at false p = refl
 
   pub use-place : (T len : ℕ) (f h : Floor) (b : Branch) (t : List ℕ) → b .at < length t
-      → placeOf P h (usingB b P T e len) (set t (b .at) e)
-      ≡ pastUse es (placeOf P f b t) e (givenAt h (b .at + 1) (set t (b .at) e)) (fromAt h (b .at + 1))
-  unfolding usingB placeOf
+      → placeAt P h (usingB b P T e len) (set t (b .at) e)
+      ≡ pastUse es (placeAt P f b t) e (givenAt h (b .at + 1) (set t (b .at) e)) (fromAt h (b .at + 1))
+  unfolding usingB placeAt
   use-place T len f h b t top = λ i. record {
     done = one-more i;
     given = givenAt h (b .at + 1) (set t (b .at) e);
@@ -236,8 +236,8 @@ module _ (es : Scope) (P e : ℕ) (l : linearAt es e ≡ leb P e) where
 -- The goal of a lend
 
 pub lent-place : (es : Scope) (P : ℕ) (f : Floor) (b : Branch) (t : List ℕ) → size es ≡ b .count → P ≤ b .count → b .count - P < 192
-    → placeOf P f (lentB b (b .count - P)) t ≡ lentPlace es (placeOf P f b t)
-unfolding placeOf
+    → placeAt P f (lentB b (b .count - P)) t ≡ lentPlace es (placeAt P f b t)
+unfolding placeAt
 lent-place es P f b t e h k = λ i. record {
   done = take (b .at) t;
   given = givenAt f (b .at) t;

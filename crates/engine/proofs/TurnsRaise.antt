@@ -36,7 +36,7 @@ use Rattle.branch.specs.Inner.Values.{leadB, ownB, pastF}
 use Rattle.branch.proofs.CountsKept.{counted-freed}
 use Rattle.choice.specs.Inner.Choice.{givenAt, fromAt}
 use Rattle.moves.specs.Inner.Moves.{raisedF}
-use Rattle.engine.specs.Inner.Engine.{placeOf, Ready, Fresh}
+use Rattle.engine.specs.Inner.Engine.{placeAt, Ready, Fresh}
 use Rattle.engine.specs.Inner.Engine.{Told, Searches}
 use Rattle.engine.proofs.PlacesMove.{ready-moved, next-from, from-low, run-length, given-run, given-past, from-here, raised-given, floor-place}
 use Rattle.engine.proofs.RaisesEnd.{ByteSteps, leftOver, raise-falls, run-last, bytes-run}
@@ -200,12 +200,12 @@ pub record Turns (bs waits : List ℕ) (B : Agenda) (pp : Place) (A : Agenda) (f
   pub head-kept : Kept (b .count) heads₀ heads
   pub same-floor : fresh ≡ true → g ≡ f
   pub bytes : fresh ≡ false → ByteSteps (givenAt g (b .at) tape)
-  pub raised : Raised (eligible bs) (scopeIn bs nodes₀ (b .count)) B pp A (placeOf (ruleCount bs) f b tape₀) (givenAt g (b .at) tape)
+  pub raised : Raised (eligible bs) (scopeIn bs nodes₀ (b .count)) B pp A (placeAt (ruleCount bs) f b tape₀) (givenAt g (b .at) tape)
       (fromAt g (b .at)) (not fresh)
 
 pub turns-start : {bs waits tape nodes heads : List ℕ} (B : Agenda) (pp : Place) (A : Agenda) {f : Floor} {b : Branch}
     → Ready bs waits tape nodes heads f b → Turns bs waits B pp A f f b tape tape nodes nodes heads heads true
-unfolding placeOf
+unfolding placeAt
 turns-start {bs} {tape} {nodes} {heads} B pp A {f} {b} r = record {
   ready = r;
   tape-kept = kept-self (b .at) tape;
@@ -213,7 +213,7 @@ turns-start {bs} {tape} {nodes} {heads} B pp A {f} {b} r = record {
   head-kept = kept-self (b .count) heads;
   same-floor = λ e. refl;
   bytes = λ e. absurd (false≢true (sym e));
-  raised = raised-start (eligible bs) (scopeIn bs nodes (b .count)) B pp A (placeOf (ruleCount bs) f b tape);
+  raised = raised-start (eligible bs) (scopeIn bs nodes (b .count)) B pp A (placeAt (ruleCount bs) f b tape);
 }
 
 spares-all : (es : Scope) (A : Agenda) (r : ℕ) → Spares es A r r
@@ -272,7 +272,7 @@ raised-floor tape g a z lt e = (
 -- Where a turn stands.
 module _ {bs waits tape₀ tape nodes₀ nodes heads₀ heads : List ℕ} {B : Agenda} {pp : Place} {A : Agenda} {f g : Floor} {b : Branch}
     {fresh : Bool} (I : Turns bs waits B pp A f g b tape₀ tape nodes₀ nodes heads₀ heads fresh) where
-  pub here : placeOf (ruleCount bs) g b tape ≡ floored (placeOf (ruleCount bs) f b tape₀) (givenAt g (b .at) tape) (fromAt g (b .at))
+  pub here : placeAt (ruleCount bs) g b tape ≡ floored (placeAt (ruleCount bs) f b tape₀) (givenAt g (b .at) tape) (fromAt g (b .at))
   here = floor-place (ruleCount bs) f g b tape₀ tape (I .tape-kept .same)
 
   pub scope-now : scopeIn bs nodes (b .count) ≡ scopeIn bs nodes₀ (b .count)
@@ -281,7 +281,7 @@ module _ {bs waits tape₀ tape nodes₀ nodes heads₀ heads : List ℕ} {B : A
   -- the next turn, with the list raised
   pub next-turn : (w : Way) {tape′ nodes′ heads′ : List ℕ} (g′ : Floor) → b .at < w .at → w .at ≤ 255 → g′ ≡ raisedF tape′ (w .at)
       → ((i : ℕ) → byteAt tape′ i < 256) → Kept (b .at) tape tape′ → Kept (b .count) nodes nodes′ → Kept (b .count) heads heads′
-      → Raised (eligible bs) (scopeIn bs nodes₀ (b .count)) B pp A (placeOf (ruleCount bs) f b tape₀)
+      → Raised (eligible bs) (scopeIn bs nodes₀ (b .count)) B pp A (placeAt (ruleCount bs) f b tape₀)
       (slice (b .at) (w .at - 1) tape′) (suc (getD tape′ (w .at - 1) 0)) true
       → Turns bs waits B pp A f g′ b tape₀ tape′ nodes₀ nodes′ heads₀ heads′ false
   unfolding raisedF
@@ -333,7 +333,7 @@ module _ {bs waits tape₀ tape nodes₀ nodes heads₀ heads : List ℕ} {B : A
 
   -- stuck
   pub turn-stuck : {tape′ nodes′ heads′ : List ℕ} → Kept (b .at) tape tape′ → Kept (b .count) nodes nodes′ → Kept (b .count) heads heads′
-      → None (eligible bs) (scopeIn bs nodes₀ (b .count)) A (placeOf (ruleCount bs) f b tape₀)
+      → None (eligible bs) (scopeIn bs nodes₀ (b .count)) A (placeAt (ruleCount bs) f b tape₀)
       → Searches bs A f b tape₀ tape′ nodes₀ nodes′ heads₀ heads′ Stuck
   unfolding Told
   turn-stuck kt kn kh n = record {

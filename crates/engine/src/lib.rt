@@ -32,11 +32,13 @@ ghost use Rattle.card.specs.Format.{kindAt, leftAt};
 ghost use Rattle.segment.specs.Inner.Tasks.{Laid};
 ghost use Rattle.branch.specs.Inner.Values.{answerIn, floorOf};
 ghost use Rattle.choice.specs.Inner.Choice.{FirstEntry};
+ghost use Rattle.engine.specs.Count.{CountIsScan};
 ghost use Rattle.engine.specs.Inner.Engine.{Ready, NameNext, NameOpen, CanUse, PartNext, GoalReady, Fresh, Solving, Alone, Using};
-ghost use Rattle.engine.specs.Inner.Engine.{topNode, OneOfNext, PartReady, ChoiceReady, Choosing, Entering, Siding, Equipped, Stays};
+ghost use Rattle.engine.specs.Inner.Engine.{topNode, OneOfNext, PartReady, ChoiceReady, ChoiceStep, Entering, Siding, Equipped, Stays};
 
 // The agenda in the branch, its lists not below the floor. The floor is handed over by its numbers: as a struct it would be laid down in memory at
 // every step.
+// What the lent agenda holds afterwards is free: 104 places as before, and no caller looks at them.
 pub fn solve(
     card: &[u8],
     waits: &[u64; 64],
@@ -58,6 +60,7 @@ pub fn solve(
     requires { ⌜ Laid (now card) (now agenda) (b .len) (b .count) ⌝ }
     requires { ⌜ Equipped (now card) (now names) (now table) (now masks) (now codes) (now words) (now way)
         (now nodes) (b .count) ⌝ }
+    requires { ⌜ CountIsScan (now card) b ⌝ }
     ensures { λ r. ⌜ Solving (now (card .entry)) (now (agenda .entry)) (floorOf fixed from) b (now (tape .entry)) (now (tape .exit))
         (now (nodes .entry)) (now (nodes .exit)) (now (heads .entry)) (now (heads .exit))
         (answerIn r (now (way .exit))) ⌝ }
@@ -594,7 +597,7 @@ fn side(
     b: Branch,
 ) -> Outcome
     requires { ⌜ Ready (now card) (now waits) (now tape) (now nodes) (now heads) f b ⌝ }
-    requires { ⌜ ChoiceReady (now card) (now agenda) meets node name n b × Choosing choice b ⌝ }
+    requires { ⌜ ChoiceReady (now card) (now agenda) meets node name n b × ChoiceStep choice b ⌝ }
     requires { ⌜ Equipped (now card) (now names) (now table) (now masks) (now codes) (now words) (now way)
         (now nodes) (b .count) ⌝ }
     ensures { λ r. ⌜ Siding (now (card .entry)) (now (agenda .entry)) meets node name n choice first f b

@@ -1,15 +1,15 @@
 -- Laws of masks: the lines of a mask, the masks of a card's lines, and eligible entries by masks.
-use Prim.Native.Nat.{ℕ, zero, suc, _+_, _-_, _/_, _%_, _^_, _≤_, _<_}
-use native.Mathlib.Decide.{decLt, ℕ-discrete}
+use Prim.Native.Nat.{ℕ, zero, suc, _+_, _-_, _^_, _≤_, _<_}
+use native.Mathlib.Decide.{ℕ-discrete}
 use native.Mathlib.Omega.{arith}
 use mathlib.Core.Path.{_≡_, refl, sym, _∙_, ap, ap₂, subst}
-use mathlib.Core.Bool.{Bool, true, false, not, _&&_, _||_, false≢true, and-true as and-unit, or-comm}
+use mathlib.Core.Bool.{Bool, true, false, not, _&&_, _||_, false≢true, and-true as and-unit}
 use mathlib.Core.List.{List, [], _∷_, _++_}
 use lib.ListN.{length, getD, set, length-set}
 use lib.Seq.{getD-set-same, getD-set-other}
 use lib.Dec.{leb, ltb, eqb}
 use lib.Pow.{pow-pos, pow-lt}
-use lib.Bits.{bitAnd, bitOr, or-lt, and-le-l}
+use lib.Bits.{or-lt}
 use borrow.Author.Tests.{eqb-true, eqb-false, eq-eqb, ne-eqb, lt-ltb, le-ltb, ltb-true, leb-true, not-false}
 use Rattle.calculus.specs.Steps.{stands}
 use Rattle.card.specs.Format.{ruleCount, lineCount, nodeCount, lineNode, lineByte}
@@ -17,36 +17,19 @@ use Rattle.card.specs.Fault.{Sound, clausePart, lineFault, lineGood}
 use Rattle.card.proofs.FrontChecked.{both-right}
 use Rattle.card.proofs.FaultsInOrder.{not-applied}
 use Rattle.card.proofs.CardChecked.{sound-front, sound-line}
-use Rattle.lines.specs.Inner.Set.{bitAt, wordOf, member}
-use Rattle.lines.proofs.Word.{bit-or, bit-and, bit-zero, bit-pow, bit-ext}
+use Rattle.lines.specs.declared.LineWord.{LineWord}
+use Rattle.lines.specs.Set.{bitAt}
+use Rattle.lines.specs.Inner.Word.{emptyL, addL, holdsL}
+use Rattle.lines.proofs.Word.{bit-or, bit-zero, bit-pow}
+use Rattle.lines.proofs.LineLaws.{line-empty, line-add, holds-all, all-holds}
 use Rattle.calculus.proofs.StepsBounded.{stands-parts}
 use Rattle.entries.specs.Inner.Twins.{waits, every, isLine, met, eligible}
-use Rattle.entries.specs.Inner.Masks.{maskSet, withLine, passing, hasNode, mustNode, wider, Waiting, within, readyBy}
-use Rattle.entries.specs.Inner.Masks.{Seen}
+use Rattle.entries.specs.Inner.Masks.{withLine, passing, hasNode, mustNode, wider, maskAt, Waiting, readyBy, Seen}
 use Rattle.calculus.proofs.SetLaws.{or-right}
 use Rattle.scope.proofs.SetsAreItems.{same-line}
 use Rattle.entries.proofs.TestLaws.{and-true, same-test, every-at, every-all}
 
 -- The lines of a mask
-
-no-word : (w k : ℕ) → 1 ≤ k → wordOf (maskSet w) k ≡ 0
-unfolding maskSet wordOf
-no-word w zero h = absurd (omega arith)
-no-word w (suc zero) h = refl
-no-word w (suc (suc zero)) h = refl
-no-word w (suc (suc (suc k))) h = refl
-
--- a mask has lines below 64 alone
-pub mask-past : (w x : ℕ) → 64 ≤ x → member (maskSet w) x ≡ false
-unfolding member
-mask-past w x h = ap (λ (a : ℕ). bitAt a (x % 64)) (no-word w (x / 64) (omega arith)) ∙ bit-zero (x % 64)
-
-pub mask-low : (w x : ℕ) → x < 64 → member (maskSet w) x ≡ bitAt w x
-unfolding maskSet member wordOf
-mask-low w x h =
-    let q : x / 64 ≡ 0 = omega arith in
-    let r : x % 64 ≡ x = omega arith in
-    ap₂ (λ (k j : ℕ). bitAt (wordOf (maskSet w) k) j) q r
 
 -- the lines below n that pass
 module _ (p : ℕ → Bool) where
@@ -203,9 +186,10 @@ maskOf bs i =
     wider (eqb (lineByte bs i) 1) (passing (mustNode bs (lineNode bs i)) i) (passing (hasNode bs (lineNode bs i)) i)
 
 module _ {bs : List ℕ} (s : Sound bs) (i : ℕ) (h : i < lineCount bs) where
-  mask-bit : (x : ℕ) → bitAt (maskOf bs i) x ≡ waits bs i x
+  -- THEOREM. The mask of line i is that of the lines that it waits for.
+  pub mask-waits : (x : ℕ) → bitAt (maskOf bs i) x ≡ waits bs i x
   unfolding maskOf wider waits hasNode mustNode
-  mask-bit x = go (eqb (lineByte bs i) 1) refl
+  mask-waits x = go (eqb (lineByte bs i) 1) refl
     where
       node : Bool
       node = eqb (lineNode bs x) (lineNode bs i)
@@ -241,23 +225,11 @@ module _ {bs : List ℕ} (s : Sound bs) (i : ℕ) (h : i < lineCount bs) where
       go true = passing-word (mustNode bs (lineNode bs i)) i few
       go false = passing-word (hasNode bs (lineNode bs i)) i few
 
-  not-past : (x : ℕ) → 64 ≤ x → waits bs i x ≡ false
-  unfolding waits
-  not-past x l = rw (le-ltb x i (omega (arith, sound-front bs s .lines))) refl
-
-  -- THEOREM. The mask of line i is that of the lines that it waits for.
-  pub mask-waits : (x : ℕ) → member (maskSet (maskOf bs i)) x ≡ waits bs i x
-  mask-waits x = go (decLt x 64)
-    where
-      go : Dec (x < 64) → member (maskSet (maskOf bs i)) x ≡ waits bs i x
-      go (yes l) = mask-low (maskOf bs i) x l ∙ mask-bit x
-      go (no n) = mask-past (maskOf bs i) x (omega arith) ∙ sym (not-past x (omega arith))
-
 -- Lines seen
 
-pub seen-none : {bs : List ℕ} → Sound bs → Seen bs 0 []
+pub seen-none : {bs : List ℕ} → Sound bs → Seen bs emptyL []
 unfolding stands
-seen-none {bs} s = record { few = sound-front bs s .lines; line = λ x h. bit-zero x }
+seen-none {bs} s = record { few = sound-front bs s .lines; line = λ x h. line-empty x }
 
 stands-more : (x e : ℕ) (done : List ℕ) → stands x (done ++ (e ∷ [])) ≡ (eqb x e || stands x done)
 unfolding stands
@@ -269,7 +241,7 @@ stands-more x e done = stands-parts x done (e ∷ []) ∙ law (stands x done) (e
     law false true = refl
     law false false = refl
 
-module _ {bs : List ℕ} {seen : ℕ} {done : List ℕ} (s : Seen bs seen done) (e : ℕ) where
+module _ {bs : List ℕ} {seen : LineWord} {done : List ℕ} (s : Seen bs seen done) (e : ℕ) where
   -- an entry that is no line
   seen-beside : ((x : ℕ) → x < lineCount bs → ruleCount bs + x ≡ e → ⊥) → Seen bs seen (done ++ (e ∷ []))
   seen-beside d =
@@ -286,22 +258,18 @@ module _ {bs : List ℕ} {seen : ℕ} {done : List ℕ} (s : Seen bs seen done) 
   pub seen-lent : ruleCount bs + lineCount bs ≤ e → Seen bs seen (done ++ (e ∷ []))
   seen-lent h = seen-beside (λ x l p. omega arith)
 
-  -- a line, or a lent clause
-  pub seen-item : ruleCount bs ≤ e → Seen bs (bitOr seen (2 ^ (e - ruleCount bs))) (done ++ (e ∷ []))
-  seen-item h =
+  -- a line
+  pub seen-item : ruleCount bs ≤ e → e - ruleCount bs < 64 → Seen bs (addL seen (e - ruleCount bs)) (done ++ (e ∷ []))
+  seen-item h k =
       record {
         few = s .few;
         line = λ x l.
-            bit-or seen (2 ^ (e - ruleCount bs)) x ∙ or-comm (bitAt seen x) (bitAt (2 ^ (e - ruleCount bs)) x)
-            ∙ ap₂ _||_ (bit-pow (e - ruleCount bs) x ∙ same-line (ruleCount bs) (e - ruleCount bs) e x (omega arith)) (s .line x l)
+            line-add seen (e - ruleCount bs) x k
+            ∙ ap₂ _||_ (same-line (ruleCount bs) (e - ruleCount bs) e x (omega arith)) (s .line x l)
             ∙ sym (stands-more (ruleCount bs + x) e done);
       }
 
 -- Eligible by masks
-
-absorbed : (a b : Bool) → (a ≡ true → b ≡ true) → (a && b) ≡ a
-absorbed true b h = h refl
-absorbed false b h = refl
 
 met-if : (w t : Bool) → (w ≡ true → t ≡ true) → (not w || t) ≡ true
 met-if true t h = h refl
@@ -311,63 +279,46 @@ if-met : (w t : Bool) → (not w || t) ≡ true → w ≡ true → t ≡ true
 if-met true t h p = h
 if-met false t h p = absurd (false≢true p)
 
-module _ {bs masks : List ℕ} {seen : ℕ} {done : List ℕ} (w : Waiting bs masks) (s : Seen bs seen done) where
+module _ {bs masks : List ℕ} {seen : LineWord} {done : List ℕ} (w : Waiting bs masks) (s : Seen bs seen done) where
   module _ (i : ℕ) (h : i < lineCount bs) where
-    mask : ℕ
-    mask = getD masks i 0
-
-    mask-at : (x : ℕ) → x < 64 → bitAt mask x ≡ waits bs i x
-    unfolding mask
-    mask-at x l = sym (mask-low mask x l) ∙ w .bits i h x
-
     waits-low : (x : ℕ) → waits bs i x ≡ true → x < i
     unfolding waits
     waits-low x p = ltb-true x i (and-true (ltb x i) _ p .0)
 
-    all-met : within mask seen ≡ true → every (met bs done i) i ≡ true
-    unfolding within met
+    all-met : holdsL seen (maskAt masks i) ≡ true → every (met bs done i) i ≡ true
+    unfolding met
     all-met p =
         every-all (met bs done i) i
         (λ x l. met-if (waits bs i x) (stands (ruleCount bs + x) done)
-        (λ q.
-        let both = bit-and mask seen x in
-        let in-mask : bitAt mask x ≡ true = mask-at x (omega (arith, s .few)) ∙ q in
-        let e = eqb-true (bitAnd mask seen) mask p in
-        let t = sym both ∙ ap (λ a. bitAt a x) e ∙ in-mask in
-        sym (s .line x (omega arith)) ∙ and-true (bitAt mask x) (bitAt seen x) t .1))
+        (λ q. sym (s .line x (omega arith)) ∙ holds-all seen (maskAt masks i) p x (w .bits i h x ∙ q)))
 
-    none-missing : every (met bs done i) i ≡ true → within mask seen ≡ true
-    unfolding within met mask
+    none-missing : every (met bs done i) i ≡ true → holdsL seen (maskAt masks i) ≡ true
+    unfolding met
     none-missing p =
-        let low = and-le-l mask seen in
-        let word = w .words i h in
-        eq-eqb (bitAnd mask seen) mask
-        (bit-ext 64 (bitAnd mask seen) mask (omega arith) word
-        (λ x l. bit-and mask seen x
-        ∙ absorbed (bitAt mask x) (bitAt seen x)
-        (λ q.
-        let r = sym (mask-at x l) ∙ q in
+        all-holds seen (maskAt masks i) (w .words i h)
+        (λ x l q.
+        let r = sym (w .bits i h x) ∙ q in
         let k = waits-low x r in
         s .line x (omega arith)
-        ∙ if-met (waits bs i x) (stands (ruleCount bs + x) done) (every-at (met bs done i) i p x k) r)))
+        ∙ if-met (waits bs i x) (stands (ruleCount bs + x) done) (every-at (met bs done i) i p x k) r)
 
-    within-met : within mask seen ≡ every (met bs done i) i
-    within-met = same-test (within mask seen) (every (met bs done i) i) all-met none-missing
+    holds-met : holdsL seen (maskAt masks i) ≡ every (met bs done i) i
+    holds-met = same-test (holdsL seen (maskAt masks i)) (every (met bs done i) i) all-met none-missing
 
   -- THEOREM. By the card's masks and the lines seen an entry is eligible as it should be.
   pub ready-eligible : (rules lines e : ℕ) → rules ≡ ruleCount bs → lines ≡ lineCount bs
       → readyBy rules lines masks seen e ≡ eligible bs done e
-  unfolding readyBy eligible isLine mask
+  unfolding readyBy eligible isLine
   ready-eligible rules lines e p q =
       ap₂ (λ r l. readyBy r l masks seen e) p q
       ∙ by-test (leb (ruleCount bs) e) refl (ltb e (ruleCount bs + lineCount bs)) refl
     where
       by-test : (a : Bool) → leb (ruleCount bs) e ≡ a → (b : Bool) → ltb e (ruleCount bs + lineCount bs) ≡ b
-          → _≡_ {A = Bool} (elim (a && b) [ true ↦ within (getD masks (e - ruleCount bs) 0) seen | false ↦ true ])
+          → _≡_ {A = Bool} (elim (a && b) [ true ↦ holdsL seen (maskAt masks (e - ruleCount bs)) | false ↦ true ])
           (elim (a && b) [ true ↦ every (met bs done (e - ruleCount bs)) (e - ruleCount bs) | false ↦ true ])
       by-test true u true v =
           let h = leb-true (ruleCount bs) e u in
           let k = ltb-true e (ruleCount bs + lineCount bs) v in
-          within-met (e - ruleCount bs) (omega arith)
+          holds-met (e - ruleCount bs) (omega arith)
       by-test true u false v = refl
       by-test false u b v = refl

@@ -6,6 +6,7 @@ use card::format::line_byte;
 use card::format::line_node;
 use card::format::right;
 use card::format::rule_node;
+use lines::LineWord;
 ghost use mathlib.Core.Path.{_≡_};
 ghost use mathlib.Core.Bool.{true};
 ghost use Prim.Native.Nat.{_+_, _≤_, _<_};
@@ -92,8 +93,10 @@ fn with_line(mask: u64, i: usize, joins: bool) -> u64
     requires { ⌜ i < 64 ⌝ }
     ensures { λ r. ⌜ r ≡ withLine joins mask i ⌝ }
 {
+    let lines = LineWord { bits: mask };
     if joins {
-        return mask | (1u64 << i);
+        let more = lines.add(i);
+        return more.bits;
     }
     mask
 }
@@ -136,7 +139,7 @@ pub fn waits(card: &[u8]) -> [u64; 64]
 }
 
 // Whether entry e may be used: every line that it waits for is seen. What is no line waits for nothing.
-pub fn ready(rules: usize, lines: usize, waits: &[u64; 64], seen: u64, e: usize) -> bool
+pub fn ready(rules: usize, lines: usize, waits: &[u64; 64], seen: LineWord, e: usize) -> bool
     requires { ⌜ (rules < 256) × (lines ≤ 64) ⌝ }
     requires { ⌜ length (now waits) ≡ 64 ⌝ }
     ensures { λ r. ⌜ r ≡ readyBy rules lines (now (waits .entry)) seen e ⌝ }
@@ -147,6 +150,7 @@ pub fn ready(rules: usize, lines: usize, waits: &[u64; 64], seen: u64, e: usize)
     if rules + lines <= e {
         return true;
     }
-    let mask = waits[e - rules];
-    mask & seen == mask
+    let bits = waits[e - rules];
+    let mask = LineWord { bits };
+    seen.holds(mask)
 }

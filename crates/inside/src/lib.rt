@@ -12,7 +12,7 @@ ghost use lib.ListN.{length};
 ghost use Rattle.card.specs.Format.{ruleCount};
 ghost use Rattle.card.specs.Fault.{Sound};
 ghost use Rattle.branch.specs.Inner.Values.{wayIn, Counted};
-ghost use Rattle.inside.specs.Inner.Inside.{Opening, Opened, outsideW};
+ghost use Rattle.inside.specs.Inner.Inside.{Opening, InsideOpened, outsideW};
 
 // D ⊸ G: D joins the scope and is strict, G is the only task.
 pub fn open(
@@ -26,7 +26,7 @@ pub fn open(
 ) -> Branch
     requires { ⌜ Opening (now card) (now nodes) (now heads) goal n b ⌝ }
     requires { ⌜ length (now agenda) ≡ 104 ⌝ }
-    ensures { λ r. ⌜ Opened (now (card .entry)) (now (nodes .entry)) (now (nodes .exit)) (now (heads .entry))
+    ensures { λ r. ⌜ InsideOpened (now (card .entry)) (now (nodes .entry)) (now (nodes .exit)) (now (heads .entry))
         (now (heads .exit)) (now (agenda .entry)) (now (agenda .exit)) goal n b r ⌝ }
 {
     let count = b.count;

@@ -22,7 +22,7 @@ pub fn words_of(b: Branch) -> [u64; 9]
         lax.low,
         lax.mid,
         lax.high,
-        seen,
+        seen.bits,
         len,
         room,
     ]

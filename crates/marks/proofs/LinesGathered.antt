@@ -11,7 +11,8 @@ use Rattle.calculus.proofs.StepsBounded.{stands-parts}
 use Rattle.card.specs.Format.{ruleCount}
 use Rattle.card.specs.Sheet.{markOf}
 use Rattle.lines.specs.declared.LineSet.{LineSet}
-use Rattle.lines.specs.Inner.Set.{member, emptyS, addS}
+use Rattle.lines.specs.declared.LineWord.{LineWord}
+use Rattle.lines.specs.Set.{member, emptyS, addS}
 use Rattle.lines.proofs.MemberLaws.{member-empty, member-add}
 use Rattle.scope.specs.Inner.Sets.{wordItems}
 use Rattle.scope.proofs.SetsAreItems.{same-line}
@@ -51,7 +52,7 @@ module _ {l : List ℕ} {rules : ℕ} {s : LineSet} (g : Gathers l rules s) (e :
   pub gathers-item : (i : ℕ) → e ≡ rules + i → i < 64 → Gathers (l ++ (e ∷ [])) rules (addS s i)
   gathers-item i q k = gathers-more (λ x h. member-add s i x (omega arith) ∙ ap (λ (b : Bool). b || member s x) (same-line rules i e x q))
 
-module _ (bs : List ℕ) {l : List ℕ} {s : LineSet} (g : Gathers l (ruleCount bs) s) (sure i : ℕ) (h : i < 64) where
+module _ (bs : List ℕ) {l : List ℕ} {s : LineSet} (g : Gathers l (ruleCount bs) s) (sure : LineWord) (i : ℕ) (h : i < 64) where
   pub mark-by : markBy bs s sure i ≡ markOf bs (wordItems bs sure) l i
   unfolding markBy markOf wordItems
   mark-by = let e : ruleCount bs + i - ruleCount bs ≡ i = omega arith in rw (g .line i h, e)

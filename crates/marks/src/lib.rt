@@ -5,6 +5,7 @@ use card::format::byte;
 use card::format::line_byte;
 use card::refuse;
 use lines::LineSet;
+use lines::LineWord;
 ghost use mathlib.Core.Path.{_≡_};
 ghost use mathlib.Core.Bool.{cond};
 ghost use mathlib.Core.List.{List, [], _∷_, _++_};
@@ -14,7 +15,6 @@ ghost use Rattle.card.specs.Format.{lineCount};
 ghost use Rattle.card.specs.Verdict.{told, firstOf};
 ghost use Rattle.card.specs.Inner.Checks.{Framed};
 ghost use Rattle.card.specs.Sheet.{marksOf};
-ghost use Rattle.lines.specs.Inner.Set.{bitAt};
 ghost use Rattle.scope.specs.Inner.Sets.{wordItems};
 ghost use Rattle.marks.specs.Marks.{markFault};
 ghost use Rattle.marks.specs.Inner.Used.{Gathers, markBy, faultBy};
@@ -47,14 +47,6 @@ fn listed(steps: &[u8], k: usize, rules: usize) -> LineSet
     set
 }
 
-// Whether the word has line i.
-fn has_line(lines: u64, i: usize) -> bool
-    requires { ⌜ i < 64 ⌝ }
-    ensures { λ r. ⌜ r ≡ bitAt lines i ⌝ }
-{
-    (lines >> i) & 1 == 1
-}
-
 // The mark of a line that stands in the list: surely used, or one way only.
 fn mark_used(surely: bool) -> u8
     ensures { λ r. ⌜ r ≡ cond surely 1 3 ⌝ }
@@ -65,14 +57,14 @@ fn mark_used(surely: bool) -> u8
     3
 }
 
-// The mark of line i, where the lines used stand in the list and those of the word are surely used.
-fn mark(card: &[u8], used: LineSet, sure: u64, i: usize) -> u8
+// The mark of line i, where the lines used stand in the list and those of `sure` are surely used.
+fn mark(card: &[u8], used: LineSet, sure: LineWord, i: usize) -> u8
     requires { ⌜ Framed (now card) ⌝ }
     requires { ⌜ i < lineCount (now card) ⌝ }
     ensures { λ r. ⌜ r ≡ markBy (now (card .entry)) used sure i ⌝ }
 {
     if used.has(i) {
-        return mark_used(has_line(sure, i));
+        return mark_used(sure.has(i));
     }
     let must = line_byte(card, i);
     if must == 1 {
@@ -81,8 +73,8 @@ fn mark(card: &[u8], used: LineSet, sure: u64, i: usize) -> u8
     0
 }
 
-// The marks of all lines, where those of the word are surely used.
-pub fn write_marks(card: &[u8], steps: &[u8; 255], k: usize, sure: u64, marks: &mut [u8])
+// The marks of all lines, where those of `sure` are surely used.
+pub fn write_marks(card: &[u8], steps: &[u8; 255], k: usize, sure: LineWord, marks: &mut [u8])
     requires { ⌜ Framed (now card) ⌝ }
     requires { ⌜ length (now steps) ≡ 255 ⌝ }
     requires { ⌜ k ≤ 255 ⌝ }
@@ -102,7 +94,7 @@ pub fn write_marks(card: &[u8], steps: &[u8; 255], k: usize, sure: u64, marks: &
 }
 
 // 14 at mark i: it is not the true one.
-fn mark_check(card: &[u8], used: LineSet, sure: u64, marks: &[u8], i: usize) -> Checked
+fn mark_check(card: &[u8], used: LineSet, sure: LineWord, marks: &[u8], i: usize) -> Checked
     requires { ⌜ Framed (now card) ⌝ }
     requires { ⌜ i < lineCount (now card) ⌝ }
     requires { ⌜ i < length (now marks) ⌝ }
@@ -112,8 +104,8 @@ fn mark_check(card: &[u8], used: LineSet, sure: u64, marks: &[u8], i: usize) -> 
     refuse(marks[i] != asked, 14, Place::Mark(i as u16))
 }
 
-// 14, by rising index, where the lines of the word are surely used.
-pub fn marks_check(card: &[u8], steps: &[u8], k: usize, sure: u64, marks: &[u8]) -> Checked
+// 14, by rising index, where the lines of `sure` are surely used.
+pub fn marks_check(card: &[u8], steps: &[u8], k: usize, sure: LineWord, marks: &[u8]) -> Checked
     requires { ⌜ Framed (now card) ⌝ }
     requires { ⌜ k ≤ length (now steps) ⌝ }
     requires { ⌜ lineCount (now card) ≤ length (now marks) ⌝ }

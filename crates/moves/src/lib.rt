@@ -6,6 +6,7 @@ use card::format::byte;
 use card::format::left;
 use card::format::right;
 use lines::LineSet;
+use lines::LineWord;
 use segment::tasks::nest;
 use segment::tasks::put;
 ghost use mathlib.Core.Path.{_≡_};
@@ -107,6 +108,7 @@ pub fn start(card: &[u8]) -> Branch
     let strict = scope::strict_lines(card);
     let lax = LineSet::full(t).cut(strict);
     let used = LineSet::empty();
+    let seen = LineWord::empty();
     let due = strict.count();
     Branch {
         at: 0,
@@ -117,7 +119,7 @@ pub fn start(card: &[u8]) -> Branch
         strict,
         lax,
         used,
-        seen: 0,
+        seen,
         slack: false,
     }
 }

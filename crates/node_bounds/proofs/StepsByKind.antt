@@ -8,7 +8,7 @@ use mathlib.Core.List.{List}
 use lib.Dec.{leb}
 use borrow.Author.Tests.{leb-true, leb-false}
 use Rattle.card.specs.Format.{kindAt, leftAt, rightAt}
-use Rattle.lines.specs.Inner.Count.{bit}
+use Rattle.lines.specs.Count.{bit}
 use Rattle.bounds.specs.Inner.Bound.{off}
 use Rattle.bounds.specs.Inner.Table.{headAt, rowOf, lowAt, highAt, leastAt, byKind, ifRecipe, inClass, menuCode, headStep, leastStep}
 use Rattle.bounds.specs.Inner.Table.{lowStep, highStep}
@@ -235,6 +235,10 @@ zero-small = omega arith
 
 pub top-small : 255 < 512
 top-small = omega arith
+
+-- a byte that is not 255 is a greatest number
+pub some-greatest : (a b : ℕ) → a ≡ b → a < 256 → (a ≡ 255 → ⊥) → b < 255
+some-greatest a b e h n = omega arith
 
 -- equal numbers are below and above the same numbers
 pub same-low : (a b n : ℕ) → a ≡ b → a < n → b < n

@@ -12,13 +12,14 @@ use bounds::table::of_head;
 use bounds::table::row;
 ghost use mathlib.Core.Path.{_≡_};
 ghost use mathlib.Core.Bool.{true, _&&_};
+ghost use mathlib.Core.Logic.{_↔_};
 ghost use Prim.Native.Nat.{_-_, _<_, _≤_, min, max};
 ghost use Rattle.card.specs.Format.{nodeCount, kindAt};
 ghost use Rattle.card.specs.Fault.{Sound, clausePart};
 ghost use Rattle.card.specs.Decode.{clauseOf};
-ghost use Rattle.lines.specs.Inner.Count.{bit};
-ghost use Rattle.bounds.specs.Inner.Table.{NameCells, Held, Node, ifRecipe, inClass, headStep, leastStep, lowStep, highStep};
-ghost use Rattle.bounds.specs.Inner.Table.{menuCode, NodeFits, TableCells, OnWay, HeadFits, WaysFit};
+ghost use Rattle.lines.specs.Count.{bit};
+ghost use Rattle.bounds.specs.Inner.Table.{NameCells, TableHeld, Node, ifRecipe, inClass, headStep, leastStep, lowStep, highStep};
+ghost use Rattle.bounds.specs.Inner.Table.{menuCode, NodeFits, TableCells, OnWay, RowFits, WaysFit};
 
 fn greater(a: usize, b: usize) -> usize
     ensures { λ r. ⌜ r ≡ max a b ⌝ }
@@ -100,7 +101,7 @@ pub fn head_step(card: &[u8], names: &[u16; 1577], i: usize) -> usize
 
 // The least steps at node i, if it is one of, never or a menu. Never has no list; a menu has no conditions of its own.
 fn least_choice(card: &[u8], names: &[u16; 1577], table: &[u8; 66177], i: usize, k: usize) -> usize
-    requires { ⌜ Held (now card) (now names) (now table) ⌝ }
+    requires { ⌜ TableHeld (now card) (now names) (now table) ⌝ }
     requires { ⌜ Node (now card) i × ((k ≡ kindAt (now card) i) × (7 < k)) ⌝ }
     ensures { λ r. ⌜ (r ≡ leastStep (now (card .entry)) (now (names .entry)) (now (table .entry)) i) × (r < 512) ⌝ }
 {
@@ -114,7 +115,7 @@ fn least_choice(card: &[u8], names: &[u16; 1577], table: &[u8; 66177], i: usize,
 
 // The least steps at node i.
 pub fn least_step(card: &[u8], names: &[u16; 1577], table: &[u8; 66177], i: usize) -> usize
-    requires { ⌜ Held (now card) (now names) (now table) ⌝ }
+    requires { ⌜ TableHeld (now card) (now names) (now table) ⌝ }
     requires { ⌜ Node (now card) i ⌝ }
     ensures { λ r. ⌜ (r ≡ leastStep (now (card .entry)) (now (names .entry)) (now (table .entry)) i) × (r < 512) ⌝ }
 {
@@ -149,7 +150,7 @@ fn low_choice(
     k: usize,
     c: usize,
 ) -> usize
-    requires { ⌜ Held (now card) (now names) (now table) ⌝ }
+    requires { ⌜ TableHeld (now card) (now names) (now table) ⌝ }
     requires { ⌜ (Node (now card) i × (c < 64)) × ((k ≡ kindAt (now card) i) × (7 < k)) ⌝ }
     ensures { λ r. ⌜ (r ≡ lowStep (now (card .entry)) (now (names .entry)) (now (table .entry)) i c) × (r < 512) ⌝ }
 {
@@ -163,7 +164,7 @@ fn low_choice(
 
 // The least number of items of class c at node i.
 pub fn low_step(card: &[u8], names: &[u16; 1577], table: &[u8; 66177], i: usize, c: usize) -> usize
-    requires { ⌜ Held (now card) (now names) (now table) ⌝ }
+    requires { ⌜ TableHeld (now card) (now names) (now table) ⌝ }
     requires { ⌜ Node (now card) i × (c < 64) ⌝ }
     ensures { λ r. ⌜ (r ≡ lowStep (now (card .entry)) (now (names .entry)) (now (table .entry)) i c) × (r < 512) ⌝ }
 {
@@ -202,7 +203,7 @@ fn high_choice(
     k: usize,
     c: usize,
 ) -> usize
-    requires { ⌜ Held (now card) (now names) (now table) ⌝ }
+    requires { ⌜ TableHeld (now card) (now names) (now table) ⌝ }
     requires { ⌜ (Node (now card) i × (c < 64)) × ((k ≡ kindAt (now card) i) × (7 < k)) ⌝ }
     ensures { λ r. ⌜ (r ≡ highStep (now (card .entry)) (now (names .entry)) (now (table .entry)) i c) × (r < 512) ⌝ }
 {
@@ -216,7 +217,7 @@ fn high_choice(
 
 // The greatest number of items of class c at node i.
 pub fn high_step(card: &[u8], names: &[u16; 1577], table: &[u8; 66177], i: usize, c: usize) -> usize
-    requires { ⌜ Held (now card) (now names) (now table) ⌝ }
+    requires { ⌜ TableHeld (now card) (now names) (now table) ⌝ }
     requires { ⌜ Node (now card) i × (c < 64) ⌝ }
     ensures { λ r. ⌜ (r ≡ highStep (now (card .entry)) (now (names .entry)) (now (table .entry)) i c) × (r < 512) ⌝ }
 {
@@ -251,9 +252,9 @@ pub fn high_step(card: &[u8], names: &[u16; 1577], table: &[u8; 66177], i: usize
 
 // Whether class c of the table at node i is settled: its bounds take in those from the node's parts.
 pub fn node_fits(card: &[u8], names: &[u16; 1577], table: &[u8; 66177], i: usize, c: usize) -> bool
-    requires { ⌜ Held (now card) (now names) (now table) ⌝ }
+    requires { ⌜ TableHeld (now card) (now names) (now table) ⌝ }
     requires { ⌜ Node (now card) i × (c < 64) ⌝ }
-    ensures { λ r. ⌜ (r ≡ true → NodeFits (now (card .entry)) (now (names .entry)) (now (table .entry)) i c) ⌝ }
+    ensures { λ r. ⌜ (r ≡ true) ↔ NodeFits (now (card .entry)) (now (names .entry)) (now (table .entry)) i c ⌝ }
 {
     if low_step(card, names, table, i, c) < low(table, i, c) {
         return false;
@@ -268,21 +269,18 @@ pub fn node_fits(card: &[u8], names: &[u16; 1577], table: &[u8; 66177], i: usize
     true
 }
 
-// Whether the bounds of a name take in so many steps and items of class c.
-fn head_fits(
-    names: &[u16; 1577],
+// Whether the bounds at row r take in so many steps and items of class c.
+pub fn row_fits(
     table: &[u8; 66177],
-    name: usize,
+    r: usize,
     c: usize,
     steps: usize,
     lowest: usize,
     highest: usize,
 ) -> bool
-    requires { ⌜ (name < 1000) × (c < 64) ⌝ }
-    requires { ⌜ NameCells (now names) × TableCells (now table) ⌝ }
-    ensures { λ r. ⌜ (r ≡ true → HeadFits (now (names .entry)) (now (table .entry)) name c steps lowest highest) ⌝ }
+    requires { ⌜ (r ≤ 512) × ((c < 64) × TableCells (now table)) ⌝ }
+    ensures { λ q. ⌜ (q ≡ true) ↔ RowFits (now (table .entry)) r c steps lowest highest ⌝ }
 {
-    let r = row(names, name);
     if steps < least(table, r) {
         return false;
     }
@@ -308,15 +306,16 @@ pub fn ways_fit(
     lowest: usize,
     highest: usize,
 ) -> bool
-    requires { ⌜ Held (now card) (now names) (now table) ⌝ }
+    requires { ⌜ TableHeld (now card) (now names) (now table) ⌝ }
     requires { ⌜ (clausePart (now card) (nodeCount (now card)) i ≡ true) × (c < 64) ⌝ }
     requires { ⌜ OnWay i steps lowest highest ⌝ }
-    ensures { λ r. ⌜ (r ≡ true → (let bs = now (card .entry) in
-        WaysFit bs (now (names .entry)) (now (table .entry)) (clauseOf bs i) i c steps lowest highest)) ⌝ }
+    ensures { λ r. ⌜ (r ≡ true) ↔ (let bs = now (card .entry) in
+        WaysFit bs (now (names .entry)) (now (table .entry)) (clauseOf bs i) i c steps lowest highest) ⌝ }
 {
     let k = kind_at(card, i);
     if k == 1 {
-        return head_fits(names, table, name_at(card, i), c, steps, lowest, highest);
+        let r = row(names, name_at(card, i));
+        return row_fits(table, r, c, steps, lowest, highest);
     }
     if k == 7 {
         let g = left_part(card, i);

@@ -17,7 +17,7 @@ use Rattle.card.specs.Fault.{wellBuilt, partHeight, heightStep, heightAt, nodeF
 use Rattle.card.specs.Inner.Checks.{PartBelow}
 use Rattle.card.proofs.NodesBuilt.{left-below, right-below}
 use Rattle.nodes.specs.declared.Built.the-variants.{Height, Faulty}
-use Rattle.nodes.specs.Inner.Nodes.{builtAt, Tabled}
+use Rattle.nodes.specs.Inner.Nodes.{builtAt, HeightsTabled}
 
 -- what is below n is below all that n is below
 below-more : (f : Field) (v : ℕ) {n m : ℕ} → n < m → PartBelow n f v → PartBelow m f v
@@ -30,7 +30,7 @@ below-more Unknown v h p = tt
 
 module _ (bs : List ℕ) (i : ℕ) where
   -- the height of a part below the node, from any table that begins with the heights before the node
-  height-same : (t : List ℕ) → Tabled bs i t → (f : Field) (v : ℕ) → PartBelow i f v
+  height-same : (t : List ℕ) → HeightsTabled bs i t → (f : Field) (v : ℕ) → PartBelow i f v
       → partHeight t f v ≡ partHeight (grow (heightStep bs) i) f v
   unfolding PartBelow partHeight
   height-same t tab Unused v h = refl
@@ -52,7 +52,7 @@ module _ (bs : List ℕ) (i : ℕ) where
       right-within p q r = below-more f v few (rw p (rw q (rw r (right-below bs i e))))
 
     -- the height from any table that begins with the heights before the node
-    pub height-from : (t : List ℕ) → Tabled bs i t
+    pub height-from : (t : List ℕ) → HeightsTabled bs i t
         → max (partHeight t (row .left) (leftAt bs i)) (partHeight t (row .right) (rightAt bs i)) + 1 ≡ heightAt bs i
     unfolding heightAt heightStep
     height-from t tab =

@@ -20,7 +20,7 @@ ghost use Rattle.card.specs.Format.{nodeCount};
 ghost use Rattle.card.specs.Verdict.{told, firstOf};
 ghost use Rattle.card.specs.Fault.{nodeFault, fitsField, wellBuilt, partHeight, heightAt};
 ghost use Rattle.card.specs.Inner.Checks.{Framed, PartBelow};
-ghost use Rattle.nodes.specs.Inner.Nodes.{builtAt, Tabled};
+ghost use Rattle.nodes.specs.Inner.Nodes.{builtAt, HeightsTabled};
 
 // The value fits a field of node i that is to hold this.
 fn fits_field(card: &[u8], i: usize, field: Field, value: usize) -> bool
@@ -77,7 +77,7 @@ fn part_height(field: Field, value: usize, heights: &[u8; 512]) -> usize
 
 // The height of a well built node, from the heights of those before it.
 pub fn height(card: &[u8], i: usize, heights: &[u8; 512]) -> usize
-    requires { ⌜ Tabled (now card) i (now heights) ⌝ }
+    requires { ⌜ HeightsTabled (now card) i (now heights) ⌝ }
     requires { ⌜ wellBuilt (now card) i ≡ true ⌝ }
     ensures { λ r. ⌜ r ≡ heightAt (now (card .entry)) i ⌝ }
 {
@@ -90,7 +90,7 @@ pub fn height(card: &[u8], i: usize, heights: &[u8; 512]) -> usize
 
 // Node i by itself.
 fn node_check(card: &[u8], i: usize, heights: &[u8; 512]) -> Built
-    requires { ⌜ Tabled (now card) i (now heights) ⌝ }
+    requires { ⌜ HeightsTabled (now card) i (now heights) ⌝ }
     ensures { λ r. ⌜ r ≡ builtAt (now (card .entry)) i ⌝ }
 {
     let good = well_built(card, i);

@@ -8,7 +8,7 @@ use native.Mathlib.Omega.{arith}
 use lib.ListN.{length, getD, drop}
 use Rattle.calculus.specs.Items.{Items}
 use Rattle.calculus.specs.Steps.{Before, here, there}
-use Rattle.calculus.specs.Job.{Job, Derivable, Listed, First}
+use Rattle.calculus.specs.Job.{Job, DerivableWithin, Listed, First}
 use Rattle.calculus.proofs.SurelyByList.{job-surely}
 use Rattle.card.specs.Format.{Bytes, lineCount}
 use Rattle.card.specs.Verdict.{Where, fault}
@@ -40,7 +40,7 @@ first-unique j l m f g = at (f .least m (g .listed)) (g .least l (f .listed))
     at (inr b) (inr d) = absurd (before-not-both b d)
 
 -- a list within limits is that of a derivation within limits, and the other way round
-pub derivable : {j : Job} {l : List ℕ} → Listed j l → Derivable j
+pub derivable : {j : Job} {l : List ℕ} → Listed j l → DerivableWithin j
 derivable x = record { derivation = x .derivation; limited = x .limited }
 
 -- "Card, .. old buffer and these rules therefore determine every answer and byte": the cases of an outcome exclude each other.
@@ -67,7 +67,7 @@ plan-determined {bs} {old} (planned-as s h l f) (planned-as t i m g) =
 
 -- Demand 2. Of a sound card and a buffer with room: it is planned exactly if there is a derivation within limits.
 pub planned-exactly : {bs old new : List ℕ} {a : PlanVerdict} → Sound bs → roomOf bs ≤ length old → Planning bs old a new
-    → ((k : ℕ) × (a ≡ planned k)) ↔ Derivable (jobOf bs)
+    → ((k : ℕ) × (a ≡ planned k)) ↔ DerivableWithin (jobOf bs)
 planned-exactly s r (faulty p) = absurd (sound-or-faulty (s .faultless) p)
 planned-exactly s r (short t h) = absurd (omega arith)
 planned-exactly s r (underivable t h u) = (λ q. let z : _≡_ {A = ℕ} 0 1 = cc (q .1) in absurd (omega arith), λ d. absurd (u d))

@@ -2,7 +2,7 @@
 use Prim.Native.Nat.{ℕ}
 use mathlib.Core.Path.{_≡_, refl}
 use mathlib.Core.List.{List}
-use Rattle.calculus.specs.Job.{Derivable, Listed}
+use Rattle.calculus.specs.Job.{DerivableWithin, Listed}
 use Rattle.card.specs.Decode.{jobOf}
 use Rattle.search.specs.declared.Found.{Found}
 use Rattle.search.specs.declared.Found.the-variants.{List as ListOf, Nothing}
@@ -13,7 +13,7 @@ module _ (bs : List ℕ) where
   unfolding Finds
   list-found e h = rw e at h
 
-  pub none-found : (tape : List ℕ) {r : Found} → r ≡ Nothing → Finds bs tape r → Derivable (jobOf bs) → ⊥
+  pub none-found : (tape : List ℕ) {r : Found} → r ≡ Nothing → Finds bs tape r → DerivableWithin (jobOf bs) → ⊥
   unfolding Finds
   none-found tape e h d =
       let none : (l : List ℕ) → Listed (jobOf bs) l → ⊥ = rw e at h in

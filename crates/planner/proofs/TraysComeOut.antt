@@ -8,8 +8,8 @@ use Rattle.calculus.specs.Formula.{residual, matched}
 use Rattle.calculus.specs.Items.{∅, _∪_, _∩_, _∖_, only}
 use Rattle.calculus.specs.Derivation.{size, entryAt, clauseAt, linearAt, residualAt, extend, lend}
 use Rattle.calculus.specs.Steps.{stands}
-use Rattle.calculus.specs.Inner.Surely.{inTurn, taken, usedFirst, goalSurely, entrySurely, nameSurely, surelyOf}
-use Rattle.calculus.specs.Inner.Enumeration.{kept, pairs, below, all, apart, covering, tensored, sided, lent, spent, sideTaken, takings, named}
+use Rattle.calculus.specs.Inner.Surely.{surelyInTurn, taken, usedFirst, goalSurely, entrySurely, nameSurely, surelyOf}
+use Rattle.calculus.specs.Inner.Enumeration.{kept, pairs, below, all, apart, covering, tensored, sided, lent, takingUse, sideTaken, takings, named}
 use Rattle.calculus.specs.Inner.Enumeration.{fitting, lists, matches, among, leads}
 use Rattle.calculus.proofs.SurelyByList.{surely-of}
 use Rattle.calculus.proofs.EnumerationExact.{first-listed, none-listed}
@@ -41,9 +41,9 @@ all-come : EachComes trays × EachComes samples
 unfolding _⋀_ kinds kindOf given fitsField partHeight held readBy
     firstFault frontFault inRange isGoal isClause goalPart clausePart wellBuilt heightStep heightAt nodeFault goalFault
     ruleFault lineFault lineGood refuse _▹_ firstOf grow listing scopeOf jobOf readStep readAt goalAt clauseOf ruleEntry lineEntry linesWith
-    marksOf markOf stands inTurn taken usedFirst goalSurely entrySurely nameSurely surelyOf residual matched ∅ _∪_ _∩_ _∖_ only size entryAt
+    marksOf markOf stands surelyInTurn taken usedFirst goalSurely entrySurely nameSurely surelyOf residual matched ∅ _∪_ _∩_ _∖_ only size entryAt
     clauseAt linearAt residualAt extend lend flatMap kept pairs below
-    all apart covering tensored sided lent spent sideTaken takings named fitting lists matches among leads
+    all apart covering tensored sided lent takingUse sideTaken takings named fitting lists matches among leads
 all-come = (
   planned-by refl refl refl refl
       ⋀ underivable-by refl refl

@@ -3,7 +3,7 @@
 use Prim.Native.Nat.{ℕ}
 use mathlib.Core.Path.{_≡_}
 use mathlib.Core.List.{List, [], _∷_}
-use Rattle.calculus.specs.Job.{Derivable, First, surelyUsed}
+use Rattle.calculus.specs.Job.{DerivableWithin, First, surelyUsed}
 use Rattle.card.specs.Fault.{Sound}
 use Rattle.card.specs.Decode.{jobOf}
 use Rattle.card.specs.Sheet.{marksOf}
@@ -30,7 +30,7 @@ pub record PlannedAs (bs l m : List ℕ) : Type 0 where
 -- no derivation within limits exists
 pub record Underivable (bs : List ℕ) : Type 0 where
   pub sound : Sound bs
-  pub none : Derivable (jobOf bs) → ⊥
+  pub none : DerivableWithin (jobOf bs) → ⊥
 
 abbrev pub Comes : List ℕ → TrayOutcome → Type 0
 Comes bs (planned l m) = PlannedAs bs l m

@@ -12,6 +12,7 @@ use Rattle.card.specs.Decode.{jobOf}
 use Rattle.card.specs.Sheet.{sheetOf}
 use Rattle.card.proofs.NodesDecoded.{listed-short}
 use Rattle.card.proofs.MarksByLines.{sheet-same}
+use Rattle.lines.specs.declared.LineWord.{LineWord}
 use Rattle.scope.specs.Inner.Sets.{wordItems, SureLines}
 use Rattle.scope.proofs.SetsAreItems.{word-lines}
 use Rattle.planning.specs.declared.Room.{Room}
@@ -38,7 +39,7 @@ module _ (bs steps : List ℕ) (k : ℕ) (size : length steps ≡ 255) (few : k 
   within = rw is-count at (listed-short bs (take k steps) (f .listed))
 
   pub sheet-planned : (old new : List ℕ) → Sound bs → roomOf bs ≤ length old
-      → {sure : ℕ} → SureLines bs (take k steps) sure
+      → {sure : LineWord} → SureLines bs (take k steps) sure
       → new ≡ sheetOf bs (wordItems bs sure) (take k steps) ++ drop (5 + k + lineCount bs) old → Planning bs old (planned k) new
   sheet-planned old new s r {sure} c e =
       let l = take k steps in

@@ -2,6 +2,7 @@
 use card::Place;
 use card::Refusal;
 use card::format::byte;
+use lines::LineWord;
 ghost use mathlib.Core.Path.{_≡_};
 ghost use Prim.Native.Nat.{_≤_};
 ghost use lib.ListN.{length, take};
@@ -58,8 +59,14 @@ pub fn no_plan() -> Answer
     })
 }
 
-// The sheet of the card's first list, which is the first k of steps and surely uses the lines of the word, and planned with k.
-pub fn write_plan(card: &[u8], steps: &[u8; 255], k: usize, sure: u64, sheet: &mut [u8]) -> Answer
+// The sheet of the card's first list, which is the first k of steps and surely uses the lines of `sure`, and planned with k.
+pub fn write_plan(
+    card: &[u8],
+    steps: &[u8; 255],
+    k: usize,
+    sure: LineWord,
+    sheet: &mut [u8],
+) -> Answer
     requires { ⌜ Sound (now card) ⌝ }
     requires { ⌜ length (now steps) ≡ 255 ⌝ }
     requires { ⌜ k ≤ 255 ⌝ }

@@ -1,25 +1,24 @@
 -- THEOREM. Where the table of bounds or the memory speaks against an agenda nothing is sought; and a dead end may be remembered.
-use Prim.Native.Nat.{ℕ, _-_, _<_, _≤_}
+use Prim.Native.Nat.{ℕ, _-_}
 use native.Mathlib.Omega.{arith}
-use mathlib.Core.Path.{_≡_, sym, _∙_, ap}
-use mathlib.Core.Logic.{_⊎_, inl, inr, ⊎-elim}
+use mathlib.Core.Path.{_≡_, _∙_, ap}
+use mathlib.Core.Logic.{inr, ⊎-elim}
 use mathlib.Core.Bool.{true}
 use mathlib.Core.List.{List}
-use lib.ListN.{length, getD}
+use lib.ListN.{length}
 use Rattle.calculus.specs.Derivation.{Scope}
 use Rattle.card.specs.Decode.{jobOf}
-use Rattle.agenda.specs.Inner.Agenda.{Agenda}
-use Rattle.agenda.specs.Inner.Sought.{Place, None}
 use Rattle.entries.specs.Inner.Entries.{scopeIn}
 use Rattle.entries.specs.Inner.Twins.{eligible}
 use Rattle.branch.specs.declared.Branch.{Branch}
-use Rattle.segment.specs.Inner.Tasks.{nodeOf, agendaOf, Laid}
-use Rattle.dead.specs.Inner.Barren.{BarrenIn, Honest, Asking, Dead, Remembers}
-use Rattle.dead.proofs.DeadStaysDead.{barren-none}
+use Rattle.segment.specs.Inner.Tasks.{nodeOf, Laid}
+use Rattle.dead.specs.Inner.Barren.{BarrenIn, Honest, Asking}
+use Rattle.dead.specs.Inner.Rows.{Stored, Recorded}
+use Rattle.dead.proofs.DeadStaysDead.{barren-none, stored-barren, recorded-honest}
 use Rattle.bounds.specs.Inner.Table.{Settled}
 use Rattle.bounds.specs.Inner.Doom.{Coded, Doomed}
 use Rattle.bounds.proofs.DoomedHasNone.{doomed-none}
-use Rattle.prune.specs.Inner.Prune.{jobCount, Asks, Memory, Doom}
+use Rattle.prune.specs.Inner.Prune.{jobCount, PruneAsks, Memory, Doom}
 use Rattle.prune.proofs.ScopesAgree.{scopes-agree, entered, stocked}
 
 -- the tasks are goals of the card
@@ -31,7 +30,7 @@ coded l = record { goals = λ k h. l .fits k h .goal-node }
 pub remembering : {bs codes words : List ℕ} → Memory bs codes words → (length words ≡ 1 → ⊥) → Honest bs (jobOf bs .scope) codes words
 remembering m h = ⊎-elim (λ p. absurd (h p)) (λ p. p) m
 
-module _ {bs nodes agenda : List ℕ} {b : Branch} (a : Asks bs nodes agenda b) where
+module _ {bs nodes agenda : List ℕ} {b : Branch} (a : PruneAsks bs nodes agenda b) where
   -- what the memory is handed
   pub asking : {es : Scope} {codes words : List ℕ} → Honest bs es codes words → Asking codes words agenda b
   asking h = record {
@@ -56,12 +55,12 @@ module _ {bs nodes agenda : List ℕ} {b : Branch} (a : Asks bs nodes agenda b) 
   job-scope n = ap (scopeIn bs nodes) n ∙ a .rooted .base
 
   pub known-doom : {codes words : List ℕ} → b .count ≡ jobCount bs → Honest bs (jobOf bs .scope) codes words
-      → Dead codes words agenda b → Doom bs nodes agenda b
+      → Stored codes words agenda b → Doom bs nodes agenda b
   known-doom n h d = record {
-    none = λ p seen s l r. rw (job-scope n) (barren-none (d .dead bs (jobOf bs .scope) h) p seen s l (omega arith));
+    none = λ p seen s l r. rw (job-scope n) (barren-none (stored-barren h (a .some) d) p seen s l (omega arith));
   }
 
   -- what is remembered is so
   pub honest-more : {codes words codes′ words′ : List ℕ} → b .count ≡ jobCount bs → Honest bs (jobOf bs .scope) codes words
-      → BarrenIn bs (scopeIn bs nodes (b .count)) agenda b → Remembers codes words codes′ words′ agenda b → Memory bs codes′ words′
-  honest-more n h d m = inr (m .honest bs (jobOf bs .scope) h (rw (job-scope n) at d))
+      → BarrenIn bs (scopeIn bs nodes (b .count)) agenda b → Recorded codes words codes′ words′ agenda b → Memory bs codes′ words′
+  honest-more n h d m = inr (recorded-honest h (rw (job-scope n) at d) m)

@@ -2,7 +2,7 @@
 use Prim.Native.Nat.{ℕ, _+_, _≤_, _<_}
 use native.Mathlib.Decide.{decLt}
 use native.Mathlib.Omega.{arith}
-use mathlib.Core.Path.{_≡_, refl, sym, _∙_, ap}
+use mathlib.Core.Path.{_≡_, _∙_, ap}
 use mathlib.Core.List.{List}
 use lib.ListN.{length, getD, set}
 use lib.Seq.{getD-set-same, getD-set-other}
@@ -12,7 +12,7 @@ use Rattle.scope.specs.Inner.Tables.{Kept}
 use Rattle.scope.proofs.TablesAreScopes.{kept-trans, kept-self, kept-set}
 use Rattle.entries.specs.Inner.Entries.{scopeIn}
 use Rattle.entries.proofs.TablesAreScopes.{cell-kept, scope-kept}
-use Rattle.prune.specs.Inner.Prune.{jobCount, Lends, Rooted}
+use Rattle.prune.specs.Inner.Prune.{jobCount, LendPart, Rooted}
 
 pub rooted-start : {bs nodes : List ℕ} → scopeIn bs nodes (jobCount bs) ≡ jobOf bs .scope → Rooted bs nodes (jobCount bs)
 rooted-start p = record { base = p; lent = λ e h l. absurd (omega arith) }
@@ -34,7 +34,7 @@ rooted-lent {bs} {nodes} {n} j r h k low room w = record {
   lent = λ e l m. go e l m (decLt e n);
 }
   where
-    go : (e : ℕ) → jobCount bs ≤ e → e < n + 1 → Dec (e < n) → Lends bs (getD (set nodes n (leftAt bs j)) e 0)
+    go : (e : ℕ) → jobCount bs ≤ e → e < n + 1 → Dec (e < n) → LendPart bs (getD (set nodes n (leftAt bs j)) e 0)
     go e l m (yes q) = rw (getD-set-other nodes n e (leftAt bs j) 0 (λ p. omega arith)) (r .lent e l q)
     go e l m (no q) =
         let here : e ≡ n = omega arith in

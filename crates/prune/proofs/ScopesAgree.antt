@@ -4,7 +4,7 @@ use Prim.Native.Nat.{ℕ, zero, suc, _+_, _-_, _≤_, _<_}
 use native.Mathlib.Decide.{decLt}
 use native.Mathlib.Omega.{arith}
 use mathlib.Core.Path.{_≡_, refl, sym, _∙_, ap, ap₂}
-use mathlib.Core.Bool.{Bool, true, false}
+use mathlib.Core.Bool.{Bool, false}
 use mathlib.Core.List.{List, [], _∷_, _++_}
 use lib.ListN.{getD}
 use lib.Dec.{leb}
@@ -15,13 +15,13 @@ use Rattle.card.specs.Decode.{clauseOf, ruleEntry, lineEntry, scopeOf, jobOf}
 use Rattle.card.proofs.TablesGrow.{length-listing, listing-at}
 use Rattle.card.proofs.NodesDecoded.{rule-at, line-at}
 use Rattle.card.proofs.SoundNodes.{sound-rule-node, sound-line-node}
-use Rattle.scope.specs.Inner.Tables.{scopeIn as tableScope, Entered}
+use Rattle.scope.specs.Inner.Tables.{tableScope, TableEntered}
 use Rattle.entries.specs.Inner.Entries.{scopeIn}
 use Rattle.entries.proofs.TablesAreScopes.{scope-clause}
 use Rattle.branch.specs.declared.Branch.{Branch}
 use Rattle.bounds.specs.Inner.Table.{OfCard, rule, line, lent}
 use Rattle.bounds.specs.Inner.Doom.{ScopeOfCard}
-use Rattle.prune.specs.Inner.Prune.{jobCount, Asks}
+use Rattle.prune.specs.Inner.Prune.{jobCount, PruneAsks}
 
 -- all entries but the rules
 unfoldable pub linearOf : List ℕ → List Bool
@@ -42,8 +42,8 @@ scopes-agree bs nodes n few =
     ap (λ es. record { entries = es; fits = scopeOf bs .fits })
     (listing-same n _ _ (λ e h. ap (λ b. record { clause = clauseOf bs (getD nodes e 0); linear = b }) (linear-at bs e (omega arith))))
 
-module _ {bs nodes agenda : List ℕ} {b : Branch} (a : Asks bs nodes agenda b) where
-  pub entered : Entered bs nodes (linearOf bs) (b .count)
+module _ {bs nodes agenda : List ℕ} {b : Branch} (a : PruneAsks bs nodes agenda b) where
+  pub entered : TableEntered bs nodes (linearOf bs) (b .count)
   unfolding linearOf
   entered = record {
     node-room = a .node-room;

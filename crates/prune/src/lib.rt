@@ -4,16 +4,18 @@ use branch::Branch;
 use card::format::byte;
 ghost use mathlib.Core.Path.{_≡_};
 ghost use mathlib.Core.Bool.{true};
-ghost use lib.ListN.{length};
+ghost use mathlib.Core.Logic.{_↔_};
+ghost use Prim.Native.Nat.{_-_};
+ghost use lib.ListN.{length, getD};
 ghost use Rattle.card.specs.Fault.{Sound};
 ghost use Rattle.entries.specs.Inner.Entries.{scopeIn};
 ghost use Rattle.dead.specs.Inner.Barren.{BarrenIn};
-ghost use Rattle.prune.specs.Inner.Prune.{jobCount, Asks, Memory, Stocked, Doom};
+ghost use Rattle.prune.specs.Inner.Prune.{jobCount, PruneAsks, Memory, Stocked, Doom};
 
 // Whether nothing is lent: the scope is the job's.
 fn unlent(card: &[u8], count: usize) -> bool
     requires { ⌜ Sound (now card) ⌝ }
-    ensures { λ r. ⌜ (r ≡ true → count ≡ jobCount (now (card .entry))) ⌝ }
+    ensures { λ r. ⌜ (r ≡ true) ↔ (count ≡ jobCount (now (card .entry))) ⌝ }
 {
     let rules = byte(card, 3);
     let lines = byte(card, 4);
@@ -23,7 +25,9 @@ fn unlent(card: &[u8], count: usize) -> bool
 // One dead end more: whether no more are put up with.
 fn tired(words: &mut [u64]) -> bool
     requires { ⌜ length (now words) ≡ 1 ⌝ }
-    ensures { λ _. ⌜ length (now (words .exit)) ≡ 1 ⌝ }
+    ensures { λ r. ⌜ (r ≡ true) ↔ (getD (now (words .entry)) 0 0 ≡ 0) ⌝ }
+    ensures { λ _. ⌜ (length (now (words .exit)) ≡ 1)
+        × (getD (now (words .exit)) 0 0 ≡ getD (now (words .entry)) 0 0 - 1) ⌝ }
 {
     let left = words[0];
     if left == 0 {
@@ -33,7 +37,8 @@ fn tired(words: &mut [u64]) -> bool
     false
 }
 
-// Whether nothing is to be found for the agenda: so the table of bounds says, or the memory, which is of the job's scope alone.
+// Whether nothing is to be found for the agenda: so the table of bounds says, or the memory, which is of the job's scope alone. `false` is free:
+// it claims nothing of the agenda, the search goes on, and what it finds is the same.
 pub fn doomed(
     card: &[u8],
     names: &[u16],
@@ -45,7 +50,7 @@ pub fn doomed(
     agenda: &[u16; 104],
     b: Branch,
 ) -> bool
-    requires { ⌜ Asks (now card) (now nodes) (now agenda) b ⌝ }
+    requires { ⌜ PruneAsks (now card) (now nodes) (now agenda) b ⌝ }
     requires { ⌜ Stocked (now card) (now names) (now table) (now masks) (now codes) (now words) ⌝ }
     ensures { λ r. ⌜ (r ≡ true → Doom (now (card .entry)) (now (nodes .entry)) (now (agenda .entry)) b) ⌝ }
 {
@@ -79,7 +84,8 @@ pub fn doomed(
     dead::known(codes, words, agenda, b)
 }
 
-// A dead end: remembered if no floor bore on it and nothing is lent. Whether the search gives up: a first run that met too many.
+// A dead end: remembered if no floor bore on it and nothing is lent. Whether the search gives up: a first run that met too many. When a first
+// run does is free, and so is what is remembered of what is so: a run with a memory follows and does not give up.
 pub fn dead_end(
     card: &[u8],
     codes: &mut [u16],
@@ -89,7 +95,7 @@ pub fn dead_end(
     open: bool,
     b: Branch,
 ) -> bool
-    requires { ⌜ Asks (now card) (now nodes) (now agenda) b ⌝ }
+    requires { ⌜ PruneAsks (now card) (now nodes) (now agenda) b ⌝ }
     requires { ⌜ Memory (now card) (now codes) (now words) ⌝ }
     requires { ⌜ («open» ≡ true → BarrenIn (now card) (scopeIn (now card) (now nodes) (b .count)) (now agenda) b) ⌝ }
     ensures { λ _. ⌜ Memory (now (card .entry)) (now (codes .exit)) (now (words .exit)) ⌝ }

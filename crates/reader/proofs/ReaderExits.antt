@@ -1,7 +1,7 @@
 -- What each way out of the reader's code shows of the outcome.
 use Prim.Native.Nat.{ℕ, zero, suc, _+_, _-_, _≤_, _<_}
 use native.Mathlib.Omega.{arith}
-use mathlib.Core.Path.{_≡_, refl, sym, ap, ap₂, _∙_}
+use mathlib.Core.Path.{_≡_, refl, sym, ap, ap₂, subst, _∙_}
 use mathlib.Core.Bool.{not}
 use lib.Dec.{eqb}
 use mathlib.Core.List.{List}
@@ -12,10 +12,11 @@ use Rattle.card.specs.declared.Checked.{Checked}
 use Rattle.card.specs.declared.Checked.the-variants.{Sound as SoundCard, Refused as RefusedCard}
 use Rattle.card.specs.declared.Refusal.{Refusal}
 use Rattle.card.specs.Format.{byteAt, lineCount}
-use Rattle.card.specs.Verdict.{Verdict, Where, sound, fault, mark, refuse, _▹_, firstOf, told, steps, whereOf}
+use Rattle.card.specs.Verdict.{Verdict, Where, sound, fault, mark, refuse, _▹_, firstOf, told, steps}
 use Rattle.card.specs.Fault.{Sound}
 use Rattle.card.specs.Decode.{jobOf}
 use Rattle.card.proofs.MarksByLines.{mark-same}
+use Rattle.lines.specs.declared.LineWord.{LineWord}
 use Rattle.scope.specs.Inner.Sets.{wordItems, SureLines}
 use Rattle.scope.proofs.SetsAreItems.{word-lines}
 use Rattle.trace.specs.declared.Followed.{Followed}
@@ -74,7 +75,7 @@ module _ {bs sh : List ℕ} {k : ℕ} (c : Fits bs sh k) where
     of-steps : Following bs (stepsOf sh) (toldFollowed a)
     of-steps = rw lent-steps at h
 
-    pub found-list : {s : ℕ} → a ≡ Listed s → ListOf (jobOf bs) (stepsOf sh)
+    pub found-list : {s : LineWord} → a ≡ Listed s → ListOf (jobOf bs) (stepsOf sh)
     unfolding toldFollowed
     found-list e = listed (of-steps) (ap toldFollowed e)
       where
@@ -83,13 +84,15 @@ module _ {bs sh : List ℕ} {k : ℕ} (c : Fits bs sh k) where
         listed (divides-not q n) p = let z : _≡_ {A = ℕ} 0 1 = cc in absurd (omega arith)
         listed (follows x) p = x
 
-    pub found-sure : {s : ℕ} → a ≡ Listed s → SurelyFollows bs (take k (take (length sh - 5) (drop 5 sh))) a → SureLines bs (stepsOf sh) s
+    pub found-sure : {s : LineWord} → a ≡ Listed s → SurelyFollows bs (take k (take (length sh - 5) (drop 5 sh))) a → SureLines bs (stepsOf sh) s
     unfolding SurelyFollows
     found-sure {s} e g = let f : SureLines bs (take k (take (length sh - 5) (drop 5 sh))) s = rw e at g in rw lent-steps at f
 
-    pub found-wrong : (r : Refusal) → a ≡ Refused r → Reading bs sh (refused (r .number) (whereOf (r .place)))
-    unfolding toldFollowed
-    found-wrong r e = wrong of-steps (ap toldFollowed e)
+    pub found-wrong : (r : Refusal) (n : ℕ) {y : ReadVerdict} → a ≡ Refused r → y ≡ answerOf accepted refused (toldFollowed a) n → Reading bs sh y
+    unfolding toldFollowed answerOf
+    found-wrong r n e q =
+        subst (Reading bs sh) (sym (q ∙ ap (λ (x : Followed). answerOf accepted refused (toldFollowed x) n) e))
+        (wrong of-steps (ap toldFollowed e))
       where
         wrong : {v : Verdict} {m : ℕ} {w : Where} → Following bs (stepsOf sh) v → v ≡ fault m w → Reading bs sh (refused m w)
         wrong (strays q) p = astray (c .card) (c .fits) (q ∙ p)
@@ -99,7 +102,7 @@ module _ {bs sh : List ℕ} {k : ℕ} (c : Fits bs sh k) where
             rw (sym x, sym y) (undivided (c .card) (c .fits) q d)
         wrong (follows x) p = let z : _≡_ {A = ℕ} 0 1 = cc in absurd (omega arith)
 
-  module _ (a : Checked) {sure : ℕ}
+  module _ (a : Checked) {sure : LineWord}
       (t : told a ≡ firstOf (lineCount bs) (markFault bs (wordItems bs sure) (take k (take (length sh - 5) (drop 5 sh)))
       (take (length sh - (5 + k)) (drop (5 + k) sh))))
       (x : ListOf (jobOf bs) (stepsOf sh)) (g : SureLines bs (stepsOf sh) sure) where

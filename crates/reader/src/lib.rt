@@ -2,6 +2,7 @@
 use card::Checked;
 use card::Refusal;
 use card::format::byte;
+use lines::LineWord;
 use trace::Followed;
 ghost use mathlib.Core.Path.{_≡_};
 ghost use Rattle.calculus.specs.Job.{Listed};
@@ -12,6 +13,7 @@ ghost use Rattle.scope.specs.Inner.Sets.{SureLines};
 ghost use Rattle.sheet_front.specs.Front.{stepCount, stepsOf, sheetFault};
 ghost use Rattle.reader.specs.Read.{accepted, refused, toldRead, Reading, AcceptsExactly};
 ghost use Rattle.card.specs.Inner.Checks.{answerOf};
+ghost use Rattle.trace.specs.Inner.Listing.{toldFollowed};
 
 // 01: "the reader answers accepted with k, or a refusal".
 pub enum Answer {
@@ -29,8 +31,18 @@ fn answered(found: Checked, k: u8) -> Answer
     }
 }
 
-// 14, of a list of the card that surely uses the lines of the word; or accepted with k.
-fn read_marks(card: &[u8], sheet: &[u8], k: usize, sure: u64) -> Answer
+// The same of what is found of the steps.
+fn steps_answered(found: Followed, k: u8) -> Answer
+    ensures { λ r. ⌜ toldRead r ≡ answerOf accepted refused (toldFollowed found) k ⌝ }
+{
+    match found {
+        Followed::Listed(_) => Answer::Accepted(k),
+        Followed::Refused(refusal) => Answer::Refused(refusal),
+    }
+}
+
+// 14, of a list of the card that surely uses the lines of `sure`; or accepted with k.
+fn read_marks(card: &[u8], sheet: &[u8], k: usize, sure: LineWord) -> Answer
     requires { ⌜ Sound (now card) ⌝ }
     requires { ⌜ sheetFault (now card) (now sheet) ≡ sound ⌝ }
     requires { ⌜ k ≡ stepCount (now sheet) ⌝ }
@@ -55,10 +67,10 @@ fn read_steps(card: &[u8], sheet: &[u8]) -> Answer
 {
     let k = byte(sheet, 3);
     let steps = trace::steps_check(card, &sheet[5..], k);
-    match steps {
-        Followed::Listed(sure) => read_marks(card, sheet, k, sure),
-        Followed::Refused(refusal) => Answer::Refused(refusal),
-    }
+    let Followed::Listed(sure) = steps else {
+        return steps_answered(steps, 0);
+    };
+    read_marks(card, sheet, k, sure)
 }
 
 // 12, and what comes after it.

@@ -12,8 +12,10 @@ use Rattle.calculus.specs.Items.{∅, _∪_, _∖_, only, Empty}
 use Rattle.calculus.specs.Steps.{stands}
 use Rattle.calculus.specs.Job.{Listed, surelyUsed}
 use Rattle.lines.specs.declared.LineSet.{LineSet}
-use Rattle.lines.specs.Inner.Set.{bitAt, member, isEmptyS, emptyS, fullS, addS, takeS, cutS, meetS, joinS, Words}
-use Rattle.lines.specs.Inner.Count.{bit}
+use Rattle.lines.specs.declared.LineWord.{LineWord}
+use Rattle.lines.specs.Inner.Word.{lineIn}
+use Rattle.lines.specs.Set.{member, isEmptyS, emptyS, fullS, addS, takeS, cutS, meetS, joinS, Words}
+use Rattle.lines.specs.Count.{bit}
 use Rattle.lines.proofs.MemberLaws.{member-empty, member-full, member-join, member-meet, member-cut, member-add, member-take}
 use Rattle.lines.proofs.MemberLaws.{empty-none, none-empty}
 use Rattle.card.specs.Format.{ruleCount, lineCount, nodeCount, lineNode, lineByte}
@@ -241,10 +243,10 @@ same-line P i e x q = at (ℕ-discrete x i)
     at (yes p) = eq-eqb x i p ∙ sym (eq-eqb (P + x) e (omega arith))
     at (no d) = ne-eqb x i d ∙ sym (ne-eqb (P + x) e (λ p. d (omega arith)))
 
--- the lines of a word at their entries
-pub word-lines : (bs l : List ℕ) {word : ℕ} → SureLines bs l word → (x : Listed (jobOf bs) l) (i : ℕ) → i < lineCount bs
+-- the lines of a set at their entries
+pub word-lines : (bs l : List ℕ) {word : LineWord} → SureLines bs l word → (x : Listed (jobOf bs) l) (i : ℕ) → i < lineCount bs
     → stands (ruleCount bs + i) l ≡ true → wordItems bs word (ruleCount bs + i) ≡ surelyUsed x (ruleCount bs + i)
 unfolding wordItems
 word-lines bs l {word} s x i h t =
     let e : ruleCount bs + i - ruleCount bs ≡ i = omega arith in
-    ap (bitAt word) e ∙ s .lines x i h t
+    ap (lineIn word) e ∙ s .lines x i h t

@@ -13,7 +13,7 @@ use Rattle.card.specs.Format.{ruleCount, lineCount, nodeCount, listing}
 use Rattle.card.specs.Fault.{clausePart}
 use Rattle.card.specs.Decode.{clauseOf, ruleEntry, lineEntry, scopeOf, jobOf}
 use Rattle.card.proofs.TablesGrow.{length-listing, listing-at}
-use Rattle.scope.specs.Inner.Tables.{scopeIn, Entered, Kept}
+use Rattle.scope.specs.Inner.Tables.{tableScope, TableEntered, Kept}
 
 -- tables that agree before n agree at each place before n
 cell-kept : {A : Type 0} (z : A) (n : ℕ) (l m : List A) → take n l ≡ take n m → (e : ℕ) → e < n → getD l e z ≡ getD m e z
@@ -29,27 +29,27 @@ abbrev cellAt : List ℕ → List ℕ → List Bool → ℕ → Entry
 cellAt bs nodes linear e = record { clause = clauseOf bs (getD nodes e 0); linear = getD linear e false }
 
 module _ (bs nodes : List ℕ) (linear : List Bool) (n : ℕ) where
-  pub scope-size : size (scopeIn bs nodes linear n) ≡ n
-  unfolding scopeIn size
+  pub scope-size : size (tableScope bs nodes linear n) ≡ n
+  unfolding tableScope size
   scope-size = length-listing (cellAt bs nodes linear) n
 
   module _ (e : ℕ) where
-    scope-at : e < n → entryAt (scopeIn bs nodes linear n) e ≡ cellAt bs nodes linear e
-    unfolding scopeIn entryAt
+    scope-at : e < n → entryAt (tableScope bs nodes linear n) e ≡ cellAt bs nodes linear e
+    unfolding tableScope entryAt
     scope-at = listing-at (cellAt bs nodes linear) n e noEntry
 
-    pub scope-clause : e < n → clauseAt (scopeIn bs nodes linear n) e ≡ clauseOf bs (getD nodes e 0)
+    pub scope-clause : e < n → clauseAt (tableScope bs nodes linear n) e ≡ clauseOf bs (getD nodes e 0)
     unfolding clauseAt
     scope-clause h = ap (λ x. x .clause) (scope-at h)
 
-    pub scope-linear : e < n → linearAt (scopeIn bs nodes linear n) e ≡ getD linear e false
+    pub scope-linear : e < n → linearAt (tableScope bs nodes linear n) e ≡ getD linear e false
     unfolding linearAt
     scope-linear h = ap (λ x. x .linear) (scope-at h)
 
 -- the scope depends on the entries in it alone
 pub scope-kept : (bs nodes nodes′ : List ℕ) (linear linear′ : List Bool) (n : ℕ) → Kept n nodes nodes′ → Kept n linear linear′
-    → scopeIn bs nodes′ linear′ n ≡ scopeIn bs nodes linear n
-unfolding scopeIn
+    → tableScope bs nodes′ linear′ n ≡ tableScope bs nodes linear n
+unfolding tableScope
 scope-kept bs nodes nodes′ linear linear′ n p q =
     ap (λ es. record { entries = es; fits = scopeOf bs .fits })
     (listing-same n (cellAt bs nodes′ linear′) (cellAt bs nodes linear)
@@ -58,8 +58,8 @@ scope-kept bs nodes nodes′ linear linear′ n p q =
 
 -- what is put behind the scope joins it
 pub scope-more : (bs nodes : List ℕ) (linear : List Bool) (n c : ℕ) (b : Bool) → n < length nodes → n < length linear
-    → scopeIn bs (set nodes n c) (set linear n b) (suc n) ≡ extend (scopeIn bs nodes linear n) (record { clause = clauseOf bs c; linear = b })
-unfolding scopeIn listing extend
+    → tableScope bs (set nodes n c) (set linear n b) (suc n) ≡ extend (tableScope bs nodes linear n) (record { clause = clauseOf bs c; linear = b })
+unfolding tableScope listing extend
 scope-more bs nodes linear n c b h k =
     ap (λ es. record { entries = es; fits = scopeOf bs .fits })
     (ap₂ (λ es x. es ++ (x ∷ []))
@@ -69,15 +69,15 @@ scope-more bs nodes linear n c b h k =
     (ap₂ (λ d t. record { clause = clauseOf bs d; linear = t }) (getD-set-same nodes n c 0 h) (getD-set-same linear n b false k)))
 
 pub lend-scope : (bs nodes : List ℕ) (linear : List Bool) (n c : ℕ) → n < length nodes → n < length linear
-    → scopeIn bs (set nodes n c) (set linear n true) (suc n) ≡ lend (scopeIn bs nodes linear n) (clauseOf bs c)
+    → tableScope bs (set nodes n c) (set linear n true) (suc n) ≡ lend (tableScope bs nodes linear n) (clauseOf bs c)
 unfolding lend
 lend-scope bs nodes linear n c h k = scope-more bs nodes linear n c true h k
 
 -- the entries of the rules, then those of the lines, are the job's scope
 pub job-scope : (bs nodes : List ℕ) (linear : List Bool) (n : ℕ)
-    → scopeIn bs nodes linear n .entries ≡ listing (ruleCount bs) (ruleEntry bs) ++ listing (lineCount bs) (lineEntry bs)
-    → scopeIn bs nodes linear n ≡ jobOf bs .scope
-unfolding scopeIn jobOf scopeOf
+    → tableScope bs nodes linear n .entries ≡ listing (ruleCount bs) (ruleEntry bs) ++ listing (lineCount bs) (lineEntry bs)
+    → tableScope bs nodes linear n ≡ jobOf bs .scope
+unfolding tableScope jobOf scopeOf
 job-scope bs nodes linear n p = ap (λ es. record { entries = es; fits = scopeOf bs .fits }) p
 
 -- Entries
@@ -103,13 +103,13 @@ set-here z l n c e p h = ap (λ x. getD (set l n c) x z) p ∙ getD-set-same l n
 set-below : {A : Type 0} (z : A) (l : List A) (n : ℕ) (c : A) (e : ℕ) → e < n → getD (set l n c) e z ≡ getD l e z
 set-below z l n c e h = getD-set-other l n e c z (λ p. omega arith)
 
-pub entered-none : {bs nodes : List ℕ} {linear : List Bool} → length nodes ≡ 256 → length linear ≡ 256 → Entered bs nodes linear 0
+pub entered-none : {bs nodes : List ℕ} {linear : List Bool} → length nodes ≡ 256 → length linear ≡ 256 → TableEntered bs nodes linear 0
 entered-none ln lb =
     record { node-room = ln; linear-room = lb; clauses = λ e h. absurd (omega arith); items = λ e h. absurd (omega arith) }
 
 -- an entry more: its node, and whether it is linear
-pub entered-more : {bs nodes : List ℕ} {linear : List Bool} {n : ℕ} (c : ℕ) (b : Bool) → Entered bs nodes linear n → n < 256
-    → clausePart bs (nodeCount bs) c ≡ true → (b ≡ true → ruleCount bs ≤ n) → Entered bs (set nodes n c) (set linear n b) (suc n)
+pub entered-more : {bs nodes : List ℕ} {linear : List Bool} {n : ℕ} (c : ℕ) (b : Bool) → TableEntered bs nodes linear n → n < 256
+    → clausePart bs (nodeCount bs) c ≡ true → (b ≡ true → ruleCount bs ≤ n) → TableEntered bs (set nodes n c) (set linear n b) (suc n)
 entered-more {bs} {nodes} {linear} {n} c b t l p r =
     let in-nodes : n < length nodes = omega (arith, t .node-room) in
     let in-linear : n < length linear = omega (arith, t .linear-room) in
@@ -125,8 +125,8 @@ entered-more {bs} {nodes} {linear} {n} c b t l p r =
           (eq-or-lt-of-le {n = e} {m = n} (omega arith));
     }
 
-pub entered-kept : {bs nodes nodes′ : List ℕ} {linear linear′ : List Bool} {n : ℕ} → Entered bs nodes linear n
-    → Kept n nodes nodes′ → Kept n linear linear′ → Entered bs nodes′ linear′ n
+pub entered-kept : {bs nodes nodes′ : List ℕ} {linear linear′ : List Bool} {n : ℕ} → TableEntered bs nodes linear n
+    → Kept n nodes nodes′ → Kept n linear linear′ → TableEntered bs nodes′ linear′ n
 entered-kept {bs} {nodes} {nodes′} {linear} {linear′} {n} t p q =
     record {
       node-room = p .size ∙ t .node-room;

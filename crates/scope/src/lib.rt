@@ -16,7 +16,7 @@ ghost use Rattle.card.specs.Format.{nodeCount, ruleCount, lineCount, listing};
 ghost use Rattle.card.specs.Fault.{Sound, clausePart};
 ghost use Rattle.card.specs.Decode.{clauseOf, ruleEntry, scopeOf, jobOf};
 ghost use Rattle.scope.specs.Inner.Sets.{strictOf};
-ghost use Rattle.scope.specs.Inner.Tables.{scopeIn, Entered};
+ghost use Rattle.scope.specs.Inner.Tables.{tableScope, TableEntered};
 
 // Entry e: its node, and whether it is linear.
 pub fn put(nodes: &mut [u16; 256], linear: &mut [bool; 256], e: usize, node: usize, gone: bool)
@@ -34,9 +34,9 @@ fn enter_rules(card: &[u8], nodes: &mut [u16; 256], linear: &mut [bool; 256])
     requires { ⌜ Sound (now card) ⌝ }
     requires { ⌜ (length (now nodes) ≡ 256) × (length (now linear) ≡ 256) ⌝ }
     ensures { λ _. ⌜ (let bs = now (card .entry) in
-        Entered bs (now (nodes .exit)) (now (linear .exit)) (ruleCount bs)) ⌝ }
+        TableEntered bs (now (nodes .exit)) (now (linear .exit)) (ruleCount bs)) ⌝ }
     ensures { λ _. ⌜ (let bs = now (card .entry) in
-        scopeIn bs (now (nodes .exit)) (now (linear .exit)) (ruleCount bs) .entries
+        tableScope bs (now (nodes .exit)) (now (linear .exit)) (ruleCount bs) .entries
         ≡ listing (ruleCount bs) (ruleEntry bs)) ⌝ }
 {
     let p = byte(card, 3);
@@ -48,14 +48,14 @@ fn enter_rules(card: &[u8], nodes: &mut [u16; 256], linear: &mut [bool; 256])
 }
 
 // The tables of the card: the rules, then the lines. They stand for the job's scope. Behind them the tables are free: 256 places as
-// before (`Entered`).
+// before (`TableEntered`).
 pub fn enter(card: &[u8], nodes: &mut [u16; 256], linear: &mut [bool; 256])
     requires { ⌜ Sound (now card) ⌝ }
     requires { ⌜ (length (now nodes) ≡ 256) × (length (now linear) ≡ 256) ⌝ }
     ensures { λ _. ⌜ (let bs = now (card .entry) in
-        Entered bs (now (nodes .exit)) (now (linear .exit)) (ruleCount bs + lineCount bs)) ⌝ }
+        TableEntered bs (now (nodes .exit)) (now (linear .exit)) (ruleCount bs + lineCount bs)) ⌝ }
     ensures { λ _. ⌜ (let bs = now (card .entry) in
-        scopeIn bs (now (nodes .exit)) (now (linear .exit)) (ruleCount bs + lineCount bs) ≡ jobOf bs .scope) ⌝ }
+        tableScope bs (now (nodes .exit)) (now (linear .exit)) (ruleCount bs + lineCount bs) ≡ jobOf bs .scope) ⌝ }
 {
     enter_rules(card, nodes, linear);
     let p = byte(card, 3);

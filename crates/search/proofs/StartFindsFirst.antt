@@ -34,7 +34,7 @@ use Rattle.branch.specs.Inner.Values.{Answer, Solved, Stuck, Tired}
 use Rattle.segment.specs.Inner.Tasks.{agendaOf, Laid}
 use Rattle.segment.proofs.TasksAreAgendas.{agenda-one, laid-one}
 use Rattle.choice.specs.Inner.Choice.{givenAt, fromAt}
-use Rattle.engine.specs.Inner.Engine.{placeOf, Ready, Solves, Told, Solving}
+use Rattle.engine.specs.Inner.Engine.{placeAt, Ready, Solves, Told, Solving}
 use Rattle.moves.specs.Inner.Moves.{startB}
 use Rattle.search.specs.Inner.Found.{FirstOn, Ran, Starts}
 use Rattle.entries.proofs.TablesAreScopes.{entered-kept, scope-kept}
@@ -103,8 +103,8 @@ module _ {bs : List ℕ} (s : Sound bs) where
         counted = refl;
       }
 
-      start-place : placeOf (ruleCount bs) noFloor (startB bs) tape ≡ startPlace (jobOf bs)
-      unfolding placeOf startB jobOf givenAt fromAt
+      start-place : placeAt (ruleCount bs) noFloor (startB bs) tape ≡ startPlace (jobOf bs)
+      unfolding placeAt startB jobOf givenAt fromAt
       start-place = λ i. record {
         done = [];
         given = [];
@@ -145,7 +145,7 @@ module _ {bs : List ℕ} (s : Sound bs) where
         unfolding Told
         none-found e =
             let t : None (eligible bs) (jobOf bs .scope) (task (jobOf bs .goal) (jobOf bs .depth) ∷ [])
-            (placeOf (ruleCount bs) noFloor (startB bs) tape)
+            (placeAt (ruleCount bs) noFloor (startB bs) tape)
             = subst (Told bs (jobOf bs .scope) (task (jobOf bs .goal) (jobOf bs .depth) ∷ []) noFloor (startB bs) tape tape′) e told in
             none-eligible bs no-choices (start-none (eligible bs) (jobOf bs) (lines-bounded bs)
             (subst (None (eligible bs) (jobOf bs .scope) (task (jobOf bs .goal) (jobOf bs .depth) ∷ [])) start-place t))

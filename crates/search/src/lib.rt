@@ -7,7 +7,7 @@ ghost use Rattle.card.specs.Fault.{Sound};
 ghost use Rattle.branch.specs.Inner.Values.{answerIn, Awake};
 ghost use Rattle.prune.specs.Inner.Prune.{Tabled, Stocked};
 ghost use Rattle.engine.specs.Inner.Engine.{Weary};
-ghost use Rattle.search.specs.Inner.Found.{Finds, Ran, Says, Starts};
+ghost use Rattle.search.specs.Inner.Found.{Finds, Ran, FoundSays, Starts};
 
 // The first list, as the first steps of the tape, or that there is none.
 pub enum Found {
@@ -135,7 +135,7 @@ fn pruned(
 fn list_of(way: &[u64; 7], r: Outcome) -> Found
     requires { ⌜ length (now way) ≡ 7 ⌝ }
     requires { ⌜ Awake r ⌝ }
-    ensures { λ s. ⌜ Says (now (way .entry)) r s ⌝ }
+    ensures { λ s. ⌜ FoundSays (now (way .entry)) r s ⌝ }
 {
     let Outcome::Solved = r else {
         return Found::Nothing;

@@ -1,4 +1,3 @@
 -- Laws of segments.
-pub mod WeightsFall
 pub mod TasksAreAgendas
 pub mod TurnsTell

@@ -14,8 +14,9 @@ use Rattle.card.specs.Fault.{Sound, goalPart, heightAt}
 use Rattle.card.specs.Decode.{goalAt}
 use Rattle.card.proofs.SoundNodes.{height-pos}
 use Rattle.agenda.specs.Inner.Agenda.{task}
-use Rattle.segment.specs.Inner.Tasks.{nodeOf, nestOf, taskOf, agendaOf, weight, taskWeight, total, Fit, Laid}
-use Rattle.segment.proofs.WeightsFall.{weight-low}
+use Rattle.segment.specs.Inner.Tasks.{nodeOf, nestOf, taskOf, agendaOf, taskWeight, total, Fit, Laid}
+use Rattle.card.specs.Inner.Size.{weight}
+use Rattle.card.proofs.WeightsFall.{weight-low}
 
 -- A task in two bytes
 

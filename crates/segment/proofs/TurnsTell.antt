@@ -24,9 +24,10 @@ use Rattle.agenda.proofs.SearchTells.{alike-none, alike-least, rest-none, rest-
 use Rattle.branch.specs.declared.Branch.{Branch}
 use Rattle.branch.specs.Inner.Values.{Counted, droppedB, longerB, easedB}
 use Rattle.branch.proofs.CountsKept.{counted-freed}
-use Rattle.segment.specs.Inner.Tasks.{nodeOf, nestOf, taskOf, agendaOf, weight, taskWeight, total, Fit, Laid}
+use Rattle.segment.specs.Inner.Tasks.{nodeOf, nestOf, taskOf, agendaOf, taskWeight, total, Fit, Laid}
 use Rattle.segment.specs.Inner.Tasks.{Splitting, halves, Turning, itemsAt, Unwound, Lighter}
-use Rattle.segment.proofs.WeightsFall.{weight-pos, weights-times, both-weight}
+use Rattle.card.specs.Inner.Size.{weight}
+use Rattle.card.proofs.WeightsFall.{weight-pos, weights-times, both-weight}
 use Rattle.segment.proofs.TasksAreAgendas.{nest-low, task-code, weight-code, fit-code, agenda-next, total-next, laid-less}
 use Rattle.segment.proofs.TasksAreAgendas.{agenda-put, total-put, laid-put}
 

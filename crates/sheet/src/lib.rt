@@ -1,5 +1,6 @@
 // The sheet (01, "The sheet"): a step list with the card's marks, as bytes.
 use card::format::byte;
+use lines::LineWord;
 ghost use mathlib.Core.Path.{_≡_};
 ghost use mathlib.Core.List.{_∷_, _++_};
 ghost use Prim.Native.Nat.{_+_, _≤_};
@@ -39,9 +40,9 @@ fn write_steps(steps: &[u8; 255], k: usize, sheet: &mut [u8])
     }
 }
 
-// Writes the sheet of the list that is the first k of steps, where the lines of the word are surely used. Bytes past the sheet keep what they
+// Writes the sheet of the list that is the first k of steps, where the lines of `sure` are surely used. Bytes past the sheet keep what they
 // held.
-pub fn write(card: &[u8], steps: &[u8; 255], k: usize, sure: u64, sheet: &mut [u8])
+pub fn write(card: &[u8], steps: &[u8; 255], k: usize, sure: LineWord, sheet: &mut [u8])
     requires { ⌜ Framed (now card) ⌝ }
     requires { ⌜ length (now steps) ≡ 255 ⌝ }
     requires { ⌜ k ≤ 255 ⌝ }

@@ -6,6 +6,7 @@ use libc::STDOUT_FILENO;
 ghost use mathlib.Core.Path.{_≡_};
 ghost use Prim.Native.Nat.{_+_, _≤_};
 ghost use lib.ListN.{length};
+ghost use Rattle.show.specs.Parts.{lesser, partEnd};
 
 pub fn print_word(text: &[u8]) {
     io::write_all(STDOUT_FILENO, text);
@@ -84,7 +85,7 @@ pub fn print_sheet(sheet: &[u8], k: usize, t: usize) -> usize
 
 // The lesser of two.
 pub fn at_most(n: usize, most: usize) -> usize
-    ensures { λ r. ⌜ (r ≤ n) × (r ≤ most) ⌝ }
+    ensures { λ r. ⌜ (r ≡ lesser n most) × ((r ≤ n) × (r ≤ most)) ⌝ }
 {
     if most < n {
         return most;
@@ -95,7 +96,8 @@ pub fn at_most(n: usize, most: usize) -> usize
 // Where a record's part of n bytes at `from` ends; the input's end where it would run past that.
 pub fn part_end(input: &[u8], from: usize, n: usize) -> usize
     requires { ⌜ from ≤ length (now input) ⌝ }
-    ensures { λ r. ⌜ (from ≤ r) × (r ≤ length (now (input .entry))) ⌝ }
+    ensures { λ r. ⌜ (r ≡ partEnd (now (input .entry)) from n)
+        × ((from ≤ r) × (r ≤ length (now (input .entry)))) ⌝ }
 {
     from + at_most(n, input.len() - from)
 }

@@ -9,14 +9,14 @@ use Rattle.calculus.specs.Items.{Within}
 use Rattle.calculus.specs.Inner.Trace.{Says}
 use Rattle.card.proofs.FrontChecked.{both-left, both-right}
 use Rattle.lines.specs.declared.LineSet.{LineSet}
-use Rattle.lines.specs.Inner.Set.{member, isEmptyS, cutS, joinS}
-use Rattle.lines.specs.Inner.Count.{bit, countS}
+use Rattle.lines.specs.Set.{member, isEmptyS, cutS, joinS}
+use Rattle.lines.specs.Count.{bit, countS}
 use Rattle.lines.proofs.CountLaws.{count-apart, count-meet-empty, count-meet-add, count-meet-take, count-within, count-all}
 use Rattle.scope.specs.Inner.Sets.{items}
 use Rattle.scope.proofs.SetsAreItems.{items-at}
-use Rattle.summary.specs.declared.Branch.{Branch}
+use Rattle.summary.specs.declared.Position.{Position}
 use Rattle.summary.specs.declared.Summary.{Summary}
-use Rattle.summary.specs.Inner.Values.{scanned, Counted, endedW, tensorW, coverW, pickW, withW, withoutW, usingW}
+use Rattle.summary.specs.Inner.Values.{scanned, MetCounted, endedW, tensorW, coverW, pickW, withW, withoutS, usingW}
 
 neither-left : (a b : Bool) → (a || b) ≡ false → a ≡ false
 neither-left true b h = h
@@ -26,12 +26,12 @@ neither-right : (a b : Bool) → (a || b) ≡ false → b ≡ false
 neither-right true b h = absurd (false≢true (sym h))
 neither-right false b h = h
 
-pub ended-counted : (strict : LineSet) (b : Branch) (slack alive : Bool) → Counted strict (b .met) (endedW b slack alive)
+pub ended-counted : (strict : LineSet) (b : Position) (slack alive : Bool) → MetCounted strict (b .met) (endedW b slack alive)
 ended-counted strict b slack alive a n = let c = count-meet-empty strict in omega (arith, c)
 
-module _ (strict : LineSet) (before : ℕ) (w : Summary) (k : Counted strict before w) where
+module _ (strict : LineSet) (before : ℕ) (w : Summary) (k : MetCounted strict before w) where
   -- the right part goes on from the left one's count
-  pub tensor-counted : (v : Summary) → Counted strict (w .met) v → Counted strict before (tensorW w v)
+  pub tensor-counted : (v : Summary) → MetCounted strict (w .met) v → MetCounted strict before (tensorW w v)
   tensor-counted v m a n =
       let alive = both-left (w .alive && v .alive) _ a in
       let x = k (both-left (w .alive) (v .alive) alive) (neither-left (w .slack) (v .slack) n) in
@@ -40,7 +40,7 @@ module _ (strict : LineSet) (before : ℕ) (w : Summary) (k : Counted strict bef
       omega (arith, x, y, z)
 
   -- a side without slack takes what the other takes
-  pub with-counted : (v : Summary) → Counted strict before v → Counted strict before (withW w v)
+  pub with-counted : (v : Summary) → MetCounted strict before v → MetCounted strict before (withW w v)
   unfolding pickW
   with-counted v m a n = by (w .slack) refl
     where
@@ -65,12 +65,12 @@ module _ (strict : LineSet) (before : ℕ) (w : Summary) (k : Counted strict bef
           let z = count-within strict (v .used) (w .used) (taken (w .slack) (v .used) (w .used) e (both-left (coverW w v) _ covers)) in
           rw e (c ∙ ap (λ x. before + x) (sym (z .1)))
 
-  pub without-counted : (item : ℕ) → member strict item ≡ false → Counted strict before (withoutW w item)
+  pub without-counted : (item : ℕ) → member strict item ≡ false → MetCounted strict before (withoutS w item)
   without-counted item f a n =
       k (both-left (w .alive) _ a) n ∙ ap (λ x. before + x) (sym (count-meet-take strict (w .used) item f))
 
   -- a must line is one more: it was free
-  pub using-counted : (item due : ℕ) → due ≡ bit (member strict item) → Counted strict before (usingW w item due)
+  pub using-counted : (item due : ℕ) → due ≡ bit (member strict item) → MetCounted strict before (usingW w item due)
   using-counted item due e a n =
       let c = k (both-left (w .alive) _ a) n in
       let z = count-meet-add strict (w .used) item in
@@ -82,7 +82,7 @@ module _ (strict : LineSet) (before : ℕ) (w : Summary) (k : Counted strict bef
       free false y h = refl
 
 -- as many are used as there are exactly if every one is used
-pub all-met : (strict : LineSet) (w : Summary) → w .alive ≡ true → w .slack ≡ false → Counted strict 0 w → (P : ℕ)
+pub all-met : (strict : LineSet) (w : Summary) → w .alive ≡ true → w .slack ≡ false → MetCounted strict 0 w → (P : ℕ)
     → Says (eqb (w .met) (countS strict)) (Within (items P strict) (items P (w .used)))
 unfolding items
 all-met strict w a n c P = (

@@ -18,17 +18,17 @@ use Rattle.card.specs.Format.{leftAt, rightAt}
 use Rattle.card.specs.Decode.{clauseOf, scopeOf}
 use Rattle.card.proofs.FrontChecked.{both-left, both-right}
 use Rattle.card.specs.Verdict.{whereOf, step}
-use Rattle.scope.specs.Inner.Tables.{scopeIn}
+use Rattle.scope.specs.Inner.Tables.{tableScope}
 use Rattle.scope.proofs.TablesAreScopes.{scope-size, scope-clause}
-use Rattle.summary.specs.declared.Branch.{Branch}
+use Rattle.summary.specs.declared.Position.{Position}
 use Rattle.summary.specs.declared.Step.the-variants.{Taken, Wrong}
 use Rattle.summary.specs.Inner.Values.{wrongF}
-use Rattle.summary.specs.Inner.Walks.{from, Ready, Stepping, Siding}
+use Rattle.summary.specs.Inner.Walks.{from, WalkReady, Stepping, SideTaking}
 use Rattle.summary.proofs.WalksTell.{from-next, from-none, none-left, unfit, too-deep}
 
-module _ {bs steps nodes : List ℕ} {linear : List Bool} {b : Branch} (R : Ready bs steps nodes linear b) (name : ℕ) where
+module _ {bs steps nodes : List ℕ} {linear : List Bool} {b : Position} (R : WalkReady bs steps nodes linear b) (name : ℕ) where
   abbrev es : Scope
-  es = scopeIn bs nodes linear (b .count)
+  es = tableScope bs nodes linear (b .count)
 
   pub step-past : (place : Place) → whereOf place ≡ step (b .at) → b .given ≤ b .at → Stepping bs steps nodes linear b name (Wrong (wrongF 18 place))
   unfolding Stepping
@@ -49,7 +49,7 @@ module _ {bs steps nodes : List ℕ} {linear : List Bool} {b : Branch} (R : Read
       fits-here = sym (eg ∙ ap (λ n. usable (scopeOf bs .fits) name (clauseOf bs n)) en)
 
       in-scope : usable (es .fits) name (clauseAt es e) ≡ good
-      unfolding scopeIn
+      unfolding tableScope
       in-scope = ap (usable (scopeOf bs .fits) name) (scope-clause bs nodes linear (b .count) e inside) ∙ fits-here
 
       pub step-unfit : (place : Place) → whereOf place ≡ step (b .at) → good ≡ false → Stepping bs steps nodes linear b name (Wrong (wrongF 13 place))
@@ -67,10 +67,10 @@ module _ {bs steps nodes : List ℕ} {linear : List Bool} {b : Branch} (R : Read
 
 -- A choice
 
-module _ (bs steps : List ℕ) (b : Branch) (given : b .given ≤ length steps) (node : ℕ) (first second : Bool) where
+module _ (bs steps : List ℕ) (b : Position) (given : b .given ≤ length steps) (node : ℕ) (first second : Bool) where
   pub side-past : (place : Place) → whereOf place ≡ step (b .at) → b .given ≤ b .at
-      → Siding bs steps b node first second (Wrong (wrongF 18 place))
-  unfolding Siding choiceWalk
+      → SideTaking bs steps b node first second (Wrong (wrongF 18 place))
+  unfolding SideTaking choiceWalk
   side-past place here h =
       record { place = here; walk = λ x y. ap (choiceWalk first second x y (b .at)) (from-none steps b h given) }
 
@@ -82,22 +82,22 @@ module _ (bs steps : List ℕ) (b : Branch) (given : b .given ≤ length steps) 
     taken : (d : ℕ) (allowed : Bool) → (eqb c d && allowed) ≡ true → (c ≡ d) × (allowed ≡ true)
     taken d allowed h = (eqb-true c d (both-left (eqb c d) allowed h), both-right (eqb c d) allowed h)
 
-    pub side-left : is-left ≡ true → (m : ℕ) → m ≡ leftAt bs node → Siding bs steps b node first second (Taken m)
-    unfolding Siding
+    pub side-left : is-left ≡ true → (m : ℕ) → m ≡ leftAt bs node → SideTaking bs steps b node first second (Taken m)
+    unfolding SideTaking
     side-left h m em =
         let t = taken leftChoice first (sym el ∙ h) in
         record { choice = c; room = room; next = next-choice; chosen = inl (t .0, (t .1, em)) }
 
     module _ (is-right : Bool) (er : is-right ≡ (eqb c rightChoice && second)) where
-      pub side-right : is-right ≡ true → (m : ℕ) → m ≡ rightAt bs node → Siding bs steps b node first second (Taken m)
-      unfolding Siding
+      pub side-right : is-right ≡ true → (m : ℕ) → m ≡ rightAt bs node → SideTaking bs steps b node first second (Taken m)
+      unfolding SideTaking
       side-right h m em =
           let t = taken rightChoice second (sym er ∙ h) in
           record { choice = c; room = room; next = next-choice; chosen = inr (t .0, (t .1, em)) }
 
       pub side-none : is-left ≡ false → is-right ≡ false → (place : Place) → whereOf place ≡ step (b .at)
-          → Siding bs steps b node first second (Wrong (wrongF 13 place))
-      unfolding Siding choiceWalk
+          → SideTaking bs steps b node first second (Wrong (wrongF 13 place))
+      unfolding SideTaking choiceWalk
       side-none h k place here = record {
         place = here;
         walk = λ x y. rw (next-choice, sym el ∙ h, sym er ∙ k);

@@ -9,13 +9,13 @@ use Rattle.calculus.specs.Derivation.{Scope, size}
 use Rattle.calculus.specs.Inner.Summary.{Joins, spare, Covers}
 use Rattle.calculus.specs.Inner.Trace.{Says, Apart, Ends, Fails, Tensors, Withs, Lends, UsesRule, UsesItem}
 use Rattle.lines.specs.declared.LineSet.{LineSet}
-use Rattle.lines.specs.Inner.Set.{member, isEmptyS, emptyS, cutS, meetS, Words}
+use Rattle.lines.specs.Set.{member, isEmptyS, emptyS, cutS, meetS, Words}
 use Rattle.lines.proofs.MemberLaws.{words-empty, words-meet, words-cut}
 use Rattle.scope.specs.Inner.Sets.{items}
 use Rattle.scope.proofs.SetsAreItems.{items-join, items-meet, items-cut, items-none, items-add, items-take, items-at}
-use Rattle.summary.specs.declared.Branch.{Branch}
+use Rattle.summary.specs.declared.Position.{Position}
 use Rattle.summary.specs.declared.Summary.{Summary}
-use Rattle.summary.specs.Inner.Values.{endedW, tensorW, coverW, withW, withoutW, usingW}
+use Rattle.summary.specs.Inner.Values.{endedW, tensorW, coverW, withW, withoutS, usingW}
 use Rattle.summary.specs.Inner.Walks.{gathered}
 
 -- Tests that say what they test
@@ -91,11 +91,11 @@ unused : (P : ℕ) → Empty (items P emptyS)
 unfolding isEmptyS emptyS
 unused P = items-none P emptyS words-empty .0 refl
 
-pub ended-gathers : (P : ℕ) (b : Branch) (slack : Bool) → Ends (gathered P (endedW b slack true) []) slack
+pub ended-gathers : (P : ℕ) (b : Position) (slack : Bool) → Ends (gathered P (endedW b slack true) []) slack
 unfolding gathered
 ended-gathers P b slack = record { no-list = refl; unused = unused P; slack-is = refl; is-alive = refl }
 
-pub never-gathers : (P : ℕ) (b : Branch) → Fails (gathered P (endedW b false false) [])
+pub never-gathers : (P : ℕ) (b : Position) → Fails (gathered P (endedW b false false) [])
 unfolding gathered
 never-gathers P b = record { no-list = refl; unused = unused P; slack-is = refl; is-dead = refl }
 
@@ -123,7 +123,7 @@ module _ (P : ℕ) (w v : Summary) (l m : List ℕ) (p : Words (w .used)) (q : W
   }
 
 module _ (P e : ℕ) (low : P ≤ e) (w : Summary) (l : List ℕ) where
-  pub lend-gathers : (es : Scope) → size es ≡ e → Lends es (gathered P (withoutW w (e - P)) l) (gathered P w l)
+  pub lend-gathers : (es : Scope) → size es ≡ e → Lends es (gathered P (withoutS w (e - P)) l) (gathered P w l)
   unfolding gathered spare _∖_
   lend-gathers es q = record {
     lists = refl;

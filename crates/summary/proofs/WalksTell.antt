@@ -17,16 +17,16 @@ use Rattle.calculus.specs.Inner.Surely.{Traced}
 use Rattle.calculus.proofs.SurelyByList.{traced-0, traced-⊸, traced-side, traced-rule, traced-item}
 use Rattle.calculus.proofs.WalkExact.{walk-both, walk-lent, walk-side, walk-none, walk-unfit, walk-deep, walk-use, along-walk, trace-along}
 use Rattle.lines.specs.declared.LineSet.{LineSet}
-use Rattle.lines.specs.Inner.Set.{member, Words}
-use Rattle.lines.specs.Inner.Count.{bit}
+use Rattle.lines.specs.Set.{member, Words}
+use Rattle.lines.specs.Count.{bit}
 use Rattle.lines.proofs.CountLaws.{bit-one}
 use Rattle.card.specs.declared.Place.{Place}
 use Rattle.card.specs.declared.Refusal.{Refusal}
 use Rattle.card.specs.Verdict.{whereOf, step}
 use Rattle.scope.specs.Inner.Sets.{LinesOf}
-use Rattle.summary.specs.declared.Branch.{Branch}
+use Rattle.summary.specs.declared.Position.{Position}
 use Rattle.summary.specs.declared.Summary.{Summary}
-use Rattle.summary.specs.Inner.Values.{Counted, onB, lentB, steppedB, endedW, tensorW, pickW, withW, withoutW, usingW, wrongF}
+use Rattle.summary.specs.Inner.Values.{MetCounted, onB, lentP, steppedB, endedW, tensorW, pickW, withW, withoutS, usingW, wrongF}
 use Rattle.summary.specs.Inner.Walks.{from, gathered, EndsWith, StopsWith, CannotChoose}
 use Rattle.summary.proofs.SummariesGather.{ended-gathers, never-gathers, tensor-gathers, with-gathers, lend-gathers, item-gathers}
 use Rattle.summary.proofs.SummariesGather.{rule-gathers}
@@ -36,18 +36,18 @@ use Rattle.summary.proofs.SurelyKept.{none-sure, tensor-sure, with-sure
 -- The given steps
 
 -- the next of the given steps, if there is one
-pub from-next : (steps : List ℕ) (b : Branch) → b .at < b .given → b .given ≤ length steps
+pub from-next : (steps : List ℕ) (b : Position) → b .at < b .given → b .given ≤ length steps
     → from steps b (b .at) ≡ getD steps (b .at) 0 ∷ from steps b (b .at + 1)
 unfolding from
 from-next steps b h k =
     drop-cons (take (b .given) steps) (b .at) 0 (let l = length-take-le (b .given) steps k in omega arith)
     ∙ ap₂ (λ e n. e ∷ drop n (take (b .given) steps)) (getD-take (b .given) steps (b .at) 0 h) (sym (add-one (b .at)))
 
-pub from-none : (steps : List ℕ) (b : Branch) → b .given ≤ b .at → b .given ≤ length steps → from steps b (b .at) ≡ []
+pub from-none : (steps : List ℕ) (b : Position) → b .given ≤ b .at → b .given ≤ length steps → from steps b (b .at) ≡ []
 unfolding from
 from-none steps b h k = drop-of-length-le (take (b .given) steps) {i = b .at} (let l = length-take-le (b .given) steps k in omega arith)
 
-ahead : (steps : List ℕ) (b : Branch) (n : ℕ) → b .given ≤ length steps → length (from steps b n) ≡ b .given - n
+ahead : (steps : List ℕ) (b : Position) (n : ℕ) → b .given ≤ length steps → length (from steps b n) ≡ b .given - n
 unfolding from
 ahead steps b n h = let l = length-take-le (b .given) steps h in omega (arith, length-drop n (take (b .given) steps))
 
@@ -55,7 +55,7 @@ ahead steps b n h = let l = length-take-le (b .given) steps h in omega (arith, l
 nested : {n : ℕ} {es : Scope} {p : Part} {g : Gathered} {U : Items} → 1 ≤ n → Traced (suc (n - 1)) es p g U → Traced n es p g U
 nested {n} {es} {p} {g} {U} h t = subst (λ m. Traced m es p g U) (omega arith) t
 
-module _ {steps : List ℕ} {b : Branch} {es : Scope} where
+module _ {steps : List ℕ} {b : Position} {es : Scope} where
   -- No step is taken
 
   pub ends-here : {strict : LineSet} {p : Part} (slack : Bool) → b .at ≤ b .given → ((w : Gathered) → Ends w slack → Traced (b .depth) es p w ∅)
@@ -128,7 +128,7 @@ module _ {steps : List ℕ} {b : Branch} {es : Scope} where
 
   module _ {strict : LineSet} {p q r : Part} {w v : Summary} {met : ℕ} (k : EndsWith strict steps b es p w)
       (m : EndsWith strict steps (onB b (w .at) met) es q v) where
-    both-end : (u : Summary) {U : Items} → u .at ≡ v .at → Counted strict (b .met) u → u .met + b .at ≤ b .met + u .at
+    both-end : (u : Summary) {U : Items} → u .at ≡ v .at → MetCounted strict (b .met) u → u .met + b .at ≤ b .met + u .at
         → LinesOf (b .rules) (u .sure) U → Traced (b .depth) es r (gathered (b .rules) u (k .list ++ m .list)) U → EndsWith strict steps b es r u
     unfolding from
     both-end u {U} e n s z c = record {
@@ -174,8 +174,8 @@ module _ {steps : List ℕ} {b : Branch} {es : Scope} where
   -- A lend
 
   pub lend-ends : {strict : LineSet} {D : Clause} {G : Goal} {w : Summary} → b .rules ≤ b .count → size es ≡ b .count
-      → member strict (b .count - b .rules) ≡ false → EndsWith strict steps (lentB b) (lend es D) (goal G) w
-      → EndsWith strict steps b es (goal (lolliᴳ D G)) (withoutW w (b .count - b .rules))
+      → member strict (b .count - b .rules) ≡ false → EndsWith strict steps (lentP b) (lend es D) (goal G) w
+      → EndsWith strict steps b es (goal (lolliᴳ D G)) (withoutS w (b .count - b .rules))
   unfolding from
   lend-ends {strict = strict} {w = w} h q n k = record {
     onward = k .onward;
@@ -189,7 +189,7 @@ module _ {steps : List ℕ} {b : Branch} {es : Scope} where
     sure = k .sure;
   }
 
-  pub lend-stops : {D : Clause} {G : Goal} {f : Refusal} → StopsWith steps (lentB b) (lend es D) (goal G) f
+  pub lend-stops : {D : Clause} {G : Goal} {f : Refusal} → StopsWith steps (lentP b) (lend es D) (goal G) f
       → StopsWith steps b es (goal (lolliᴳ D G)) f
   unfolding from
   lend-stops {D} {G} s = record {

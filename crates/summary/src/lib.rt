@@ -8,17 +8,18 @@ use card::format::byte;
 use card::format::left;
 use card::format::right;
 use lines::LineSet;
+use lines::LineWord;
 ghost use mathlib.Core.Path.{_≡_};
 ghost use Prim.Native.Nat.{_+_, _*_, _≤_, _<_};
 ghost use lib.ListN.{length};
-ghost use Rattle.lines.specs.Inner.Set.{Words};
-ghost use Rattle.summary.specs.Inner.Values.{onB, lentB, steppedB, endedW, coverW, pickW, tensorW, withW, withoutW, withLine, usingW, wrongF};
+ghost use Rattle.lines.specs.Set.{Words};
+ghost use Rattle.summary.specs.Inner.Values.{onB, lentP, steppedB, endedW, astrayW, coverW, pickW, tensorW, withW, withoutS, usingW, wrongF};
 ghost use Rattle.summary.specs.declared.Step.the-variants.{Wrong};
-ghost use Rattle.summary.specs.Inner.Walks.{Ready, Stepping, Siding};
+ghost use Rattle.summary.specs.Inner.Walks.{WalkReady, Stepping, SideTaking};
 
 // Where a walk stands: P and how many steps are given; its place in the list, how many entries stand in scope, and the nesting left; and
 // how many must lines were met (used) on the way here.
-pub struct Branch {
+pub struct Position {
     pub rules: usize,
     pub given: usize,
     pub at: usize,
@@ -28,14 +29,15 @@ pub struct Branch {
 }
 
 // What a walk that has ended gathered: the place reached in the list, the outer items taken, whether some ⊤ can take more, whether all
-// items divided, the running count of the must lines met where the walk ended, and the lines surely used, line i as bit i.
+// items divided, the running count of the must lines met where the walk ended, and the lines surely used. Only lines have marks, so lent
+// clauses are left out of these, but for those among the first 64 items, which are of no account.
 pub struct Summary {
     pub at: usize,
     pub used: LineSet,
     pub slack: bool,
     pub alive: bool,
     pub met: usize,
-    pub sure: u64,
+    pub sure: LineWord,
 }
 
 // What a walk answers: what it gathered, or its first wrong step.
@@ -50,12 +52,12 @@ pub enum Step {
     Wrong(Refusal),
 }
 
-impl Branch {
+impl Position {
     // Further on in the list, behind as many must lines.
-    pub fn on(self, at: usize, met: usize) -> Branch
+    pub fn on(self, at: usize, met: usize) -> Position
         ensures { λ r. ⌜ r ≡ onB self at met ⌝ }
     {
-        Branch {
+        Position {
             rules: self.rules,
             given: self.given,
             at,
@@ -66,11 +68,11 @@ impl Branch {
     }
 
     // The goal of a ⊸: one entry more in scope.
-    pub fn lent(self) -> Branch
+    pub fn lent(self) -> Position
         requires { ⌜ self .count < 1000 ⌝ }
-        ensures { λ r. ⌜ r ≡ lentB self ⌝ }
+        ensures { λ r. ⌜ r ≡ lentP self ⌝ }
     {
-        Branch {
+        Position {
             rules: self.rules,
             given: self.given,
             at: self.at,
@@ -81,11 +83,11 @@ impl Branch {
     }
 
     // Behind a step: one further in the list, and nested deeper by 1 where an entry is used, by 0 at a choice.
-    pub fn stepped(self, nested: usize) -> Branch
+    pub fn stepped(self, nested: usize) -> Position
         requires { ⌜ (self .at < 255) × (nested ≤ self .depth) ⌝ }
         ensures { λ r. ⌜ r ≡ steppedB self nested ⌝ }
     {
-        Branch {
+        Position {
             rules: self.rules,
             given: self.given,
             at: self.at + 1,
@@ -105,19 +107,22 @@ impl Branch {
             slack,
             alive,
             met: self.met,
-            sure: 0,
+            sure: LineWord::empty(),
         }
     }
 }
 
-// The lines, and the item if it is one: a card has at most 64. A lent clause among the first 64 items is of no account.
-fn with_line(lines: u64, item: usize) -> u64
-    ensures { λ r. ⌜ r ≡ withLine lines item ⌝ }
+// A step's answer as the walk's: what is wrong there; 13 of a step that is taken, where nothing is wrong.
+pub fn astray(step: Step) -> Walked
+    ensures { λ r. ⌜ r ≡ astrayW step ⌝ }
 {
-    if item < 64 {
-        return lines | (1u64 << item);
+    match step {
+        Step::Taken(_) => Walked::Astray(Refusal {
+            number: 13,
+            place: Place::Steps,
+        }),
+        Step::Wrong(refusal) => Walked::Astray(refusal),
     }
-    lines
 }
 
 impl Summary {
@@ -128,6 +133,7 @@ impl Summary {
         ensures { λ _. ⌜ Words (self .used) × Words (w .used) ⌝ }
     {
         let used = self.used;
+        let sure = self.sure;
         let apart = used.meet(w.used).is_empty();
         Summary {
             at: w.at,
@@ -135,7 +141,7 @@ impl Summary {
             slack: either(self.slack, w.slack),
             alive: both(both(self.alive, w.alive), apart),
             met: w.met,
-            sure: self.sure | w.sure,
+            sure: sure.join(w.sure),
         }
     }
 
@@ -163,6 +169,7 @@ impl Summary {
         ensures { λ _. ⌜ Words (self .used) × Words (w .used) ⌝ }
     {
         let used = self.used;
+        let sure = self.sure;
         let agree = both(self.covers(w), w.covers(self));
         Summary {
             at: w.at,
@@ -170,15 +177,16 @@ impl Summary {
             slack: both(self.slack, w.slack),
             alive: both(both(self.alive, w.alive), agree),
             met: self.pick(w),
-            sure: self.sure & w.sure,
+            sure: sure.meet(w.sure),
         }
     }
 
     // Out of a ⊸: the lent clause was taken, or there is slack; it is no item outside.
     pub fn without(self, item: usize) -> Summary
-        ensures { λ r. ⌜ r ≡ withoutW self item ⌝ }
+        ensures { λ r. ⌜ r ≡ withoutS self item ⌝ }
     {
         let used = self.used;
+        let sure = self.sure;
         let gone = either(self.slack, used.has(item));
         Summary {
             at: self.at,
@@ -186,7 +194,7 @@ impl Summary {
             slack: self.slack,
             alive: both(self.alive, gone),
             met: self.met,
-            sure: self.sure,
+            sure,
         }
     }
 
@@ -196,6 +204,7 @@ impl Summary {
         ensures { λ r. ⌜ r ≡ usingW self item due ⌝ }
     {
         let used = self.used;
+        let sure = self.sure;
         let free = !used.has(item);
         Summary {
             at: self.at,
@@ -203,7 +212,7 @@ impl Summary {
             slack: self.slack,
             alive: both(self.alive, free),
             met: self.met + due,
-            sure: with_line(self.sure, item),
+            sure: sure.add(item),
         }
     }
 }
@@ -222,10 +231,10 @@ pub fn next_step(
     steps: &[u8],
     nodes: &[u16; 256],
     linear: &[bool; 256],
-    b: Branch,
+    b: Position,
     name: usize,
 ) -> Step
-    requires { ⌜ Ready (now card) (now steps) (now nodes) (now linear) b ⌝ }
+    requires { ⌜ WalkReady (now card) (now steps) (now nodes) (now linear) b ⌝ }
     ensures { λ r. ⌜ Stepping (now (card .entry)) (now (steps .entry)) (now (nodes .entry)) (now (linear .entry))
         b name r ⌝ }
 {
@@ -256,14 +265,14 @@ pub fn next_step(
 pub fn next_side(
     card: &[u8],
     steps: &[u8],
-    b: Branch,
+    b: Position,
     node: usize,
     first: bool,
     second: bool,
 ) -> Step
     requires { ⌜ 16 + 5 * node ≤ length (now card) ⌝ }
     requires { ⌜ (b .at ≤ b .given) × ((b .given ≤ length (now steps)) × (b .given ≤ 255)) ⌝ }
-    ensures { λ r. ⌜ Siding (now (card .entry)) (now (steps .entry)) b node first second r ⌝ }
+    ensures { λ r. ⌜ SideTaking (now (card .entry)) (now (steps .entry)) b node first second r ⌝ }
 {
     let at = b.at;
     let here = Place::Step(at as u16);

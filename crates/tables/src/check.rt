@@ -2,34 +2,41 @@
 use bounds::nodes::kind_at;
 use bounds::nodes::left_part;
 use bounds::nodes::line_at;
+use bounds::nodes::name_at;
 use bounds::nodes::node_count;
+use bounds::nodes::right_part;
 use bounds::nodes::rule_at;
 use bounds::table::class;
 use bounds::table::classes;
 use bounds::table::head;
+use bounds::table::high;
 use bounds::table::least;
+use bounds::table::low;
 use bounds::table::of_head;
+use bounds::table::row;
 use card::format::byte;
 use node_bounds::head_step;
 use node_bounds::least_step;
 use node_bounds::node_fits;
+use node_bounds::row_fits;
 use node_bounds::ways_fit;
 use node_bounds::weight;
 ghost use mathlib.Core.Path.{_≡_};
 ghost use mathlib.Core.Bool.{true, false, _&&_};
+ghost use mathlib.Core.Logic.{_↔_};
 ghost use Prim.Native.Nat.{ℕ, _<_, _≤_};
 ghost use lib.ListN.{length};
 ghost use lib.Dec.{ltb};
 ghost use Rattle.card.specs.Format.{nodeCount, ruleCount, lineCount, kindAt, leftAt, ruleNode, lineNode};
-ghost use Rattle.lines.specs.Inner.Set.{bitAt};
+ghost use Rattle.lines.specs.Set.{bitAt};
 ghost use Rattle.card.specs.Fault.{Sound, clausePart};
-ghost use Rattle.bounds.specs.Inner.Table.{NameCells, Held, Node, inClass, classes as classesOf};
-ghost use Rattle.bounds.specs.Inner.Table.{NodeSettled, UseSettled, Masked, Settled};
+ghost use Rattle.bounds.specs.Inner.Table.{NameCells, TableCells, TableHeld, Node, inClass, classes as classesOf};
+ghost use Rattle.bounds.specs.Inner.Table.{NodeSettled, NameSettled, RecipeSettled, UseSettled, Masked, Settled};
 
 fn node_settled(card: &[u8], names: &[u16; 1577], table: &[u8; 66177], i: usize) -> bool
-    requires { ⌜ Held (now card) (now names) (now table) ⌝ }
+    requires { ⌜ TableHeld (now card) (now names) (now table) ⌝ }
     requires { ⌜ Node (now card) i ⌝ }
-    ensures { λ r. ⌜ (r ≡ true → NodeSettled (now (card .entry)) (now (names .entry)) (now (table .entry)) i) ⌝ }
+    ensures { λ r. ⌜ (r ≡ true) ↔ NodeSettled (now (card .entry)) (now (names .entry)) (now (table .entry)) i ⌝ }
 {
     if head(names, i) != head_step(card, names, i) {
         return false;
@@ -49,8 +56,8 @@ fn node_settled(card: &[u8], names: &[u16; 1577], table: &[u8; 66177], i: usize)
 }
 
 fn nodes_settled(card: &[u8], names: &[u16; 1577], table: &[u8; 66177]) -> bool
-    requires { ⌜ Held (now card) (now names) (now table) ⌝ }
-    ensures { λ r. ⌜ (r ≡ true → (i : ℕ) → i < nodeCount (now (card .entry))
+    requires { ⌜ TableHeld (now card) (now names) (now table) ⌝ }
+    ensures { λ r. ⌜ (r ≡ true) ↔ ((i : ℕ) → i < nodeCount (now (card .entry))
         → NodeSettled (now (card .entry)) (now (names .entry)) (now (table .entry)) i) ⌝ }
 {
     let n = node_count(card);
@@ -64,17 +71,63 @@ fn nodes_settled(card: &[u8], names: &[u16; 1577], table: &[u8; 66177]) -> bool
     true
 }
 
-// Each head of the clause at node i, for every class.
-fn use_settled(
+// A bare name at node i, whose bounds stand at row r, for every class.
+fn name_settled(names: &[u16; 1577], table: &[u8; 66177], i: usize, linear: bool, r: usize) -> bool
+    requires { ⌜ NameCells (now names) × TableCells (now table) ⌝ }
+    requires { ⌜ (i < 512) × (r ≤ 512) ⌝ }
+    ensures { λ q. ⌜ (q ≡ true) ↔ NameSettled (now (names .entry)) (now (table .entry)) i linear r ⌝ }
+{
+    let n = classes(names);
+    let mut c = 0;
+    while c < n {
+        let w = weight(names, i, linear, c);
+        if !row_fits(table, r, c, 1, w, w) {
+            return false;
+        }
+        c += 1;
+    }
+    true
+}
+
+// A recipe at node i with the one condition g before a name, whose bounds stand at row r, for every class.
+fn recipe_settled(
+    names: &[u16; 1577],
+    table: &[u8; 66177],
+    i: usize,
+    linear: bool,
+    g: usize,
+    r: usize,
+) -> bool
+    requires { ⌜ NameCells (now names) × TableCells (now table) ⌝ }
+    requires { ⌜ (i < 512) × ((g < 512) × (r ≤ 512)) ⌝ }
+    ensures { λ q. ⌜ (q ≡ true) ↔ RecipeSettled (now (names .entry)) (now (table .entry)) i linear g r ⌝ }
+{
+    let s = 1 + least(table, g);
+    let n = classes(names);
+    let mut c = 0;
+    while c < n {
+        let w = weight(names, i, linear, c);
+        let l = w + low(table, g, c);
+        let h = w + high(table, g, c);
+        if !row_fits(table, r, c, s, l, h) {
+            return false;
+        }
+        c += 1;
+    }
+    true
+}
+
+// Each head of the clause at node i, for every class, by the ways to it.
+fn ways_settled(
     card: &[u8],
     names: &[u16; 1577],
     table: &[u8; 66177],
     i: usize,
     linear: bool,
 ) -> bool
-    requires { ⌜ Held (now card) (now names) (now table) ⌝ }
+    requires { ⌜ TableHeld (now card) (now names) (now table) ⌝ }
     requires { ⌜ clausePart (now card) (nodeCount (now card)) i ≡ true ⌝ }
-    ensures { λ r. ⌜ (r ≡ true → UseSettled (now (card .entry)) (now (names .entry)) (now (table .entry)) i linear) ⌝ }
+    ensures { λ r. ⌜ (r ≡ true) ↔ UseSettled (now (card .entry)) (now (names .entry)) (now (table .entry)) i linear ⌝ }
 {
     let n = classes(names);
     let mut c = 0;
@@ -88,9 +141,54 @@ fn use_settled(
     true
 }
 
+// A recipe at node i: where its condition stands before a name, by these two.
+fn recipe_use_settled(
+    card: &[u8],
+    names: &[u16; 1577],
+    table: &[u8; 66177],
+    i: usize,
+    linear: bool,
+) -> bool
+    requires { ⌜ TableHeld (now card) (now names) (now table) ⌝ }
+    requires { ⌜ (clausePart (now card) (nodeCount (now card)) i ≡ true) × (kindAt (now card) i ≡ 7) ⌝ }
+    ensures { λ r. ⌜ (r ≡ true) ↔ UseSettled (now (card .entry)) (now (names .entry)) (now (table .entry)) i linear ⌝ }
+{
+    let d = right_part(card, i);
+    if kind_at(card, d) == 1 {
+        let g = left_part(card, i);
+        let r = row(names, name_at(card, d));
+        return recipe_settled(names, table, i, linear, g, r);
+    }
+    ways_settled(card, names, table, i, linear)
+}
+
+// Each head of the clause at node i, for every class. A bare name and a recipe of one condition are most of all clauses: for them what does not go by
+// the class is looked up once.
+fn use_settled(
+    card: &[u8],
+    names: &[u16; 1577],
+    table: &[u8; 66177],
+    i: usize,
+    linear: bool,
+) -> bool
+    requires { ⌜ TableHeld (now card) (now names) (now table) ⌝ }
+    requires { ⌜ clausePart (now card) (nodeCount (now card)) i ≡ true ⌝ }
+    ensures { λ r. ⌜ (r ≡ true) ↔ UseSettled (now (card .entry)) (now (names .entry)) (now (table .entry)) i linear ⌝ }
+{
+    let k = kind_at(card, i);
+    if k == 1 {
+        let r = row(names, name_at(card, i));
+        return name_settled(names, table, i, linear, r);
+    }
+    if k == 7 {
+        return recipe_use_settled(card, names, table, i, linear);
+    }
+    ways_settled(card, names, table, i, linear)
+}
+
 fn rules_settled(card: &[u8], names: &[u16; 1577], table: &[u8; 66177]) -> bool
-    requires { ⌜ Held (now card) (now names) (now table) ⌝ }
-    ensures { λ r. ⌜ (r ≡ true → (k : ℕ) → k < ruleCount (now (card .entry))
+    requires { ⌜ TableHeld (now card) (now names) (now table) ⌝ }
+    ensures { λ r. ⌜ (r ≡ true) ↔ ((k : ℕ) → k < ruleCount (now (card .entry))
         → UseSettled (now (card .entry)) (now (names .entry)) (now (table .entry)) (ruleNode
         (now (card .entry)) k) false) ⌝ }
 {
@@ -106,8 +204,8 @@ fn rules_settled(card: &[u8], names: &[u16; 1577], table: &[u8; 66177]) -> bool
 }
 
 fn lines_settled(card: &[u8], names: &[u16; 1577], table: &[u8; 66177]) -> bool
-    requires { ⌜ Held (now card) (now names) (now table) ⌝ }
-    ensures { λ r. ⌜ (r ≡ true → (k : ℕ) → k < lineCount (now (card .entry))
+    requires { ⌜ TableHeld (now card) (now names) (now table) ⌝ }
+    ensures { λ r. ⌜ (r ≡ true) ↔ ((k : ℕ) → k < lineCount (now (card .entry))
         → UseSettled (now (card .entry)) (now (names .entry)) (now (table .entry)) (lineNode
         (now (card .entry)) k) true) ⌝ }
 {
@@ -124,9 +222,9 @@ fn lines_settled(card: &[u8], names: &[u16; 1577], table: &[u8; 66177]) -> bool
 
 // Node i, if it is a lend.
 fn lend_settled(card: &[u8], names: &[u16; 1577], table: &[u8; 66177], i: usize) -> bool
-    requires { ⌜ Held (now card) (now names) (now table) ⌝ }
+    requires { ⌜ TableHeld (now card) (now names) (now table) ⌝ }
     requires { ⌜ Node (now card) i ⌝ }
-    ensures { λ r. ⌜ (r ≡ true → kindAt (now (card .entry)) i ≡ 6
+    ensures { λ r. ⌜ (r ≡ true) ↔ (kindAt (now (card .entry)) i ≡ 6
         → UseSettled (now (card .entry)) (now (names .entry)) (now (table .entry)) (leftAt
         (now (card .entry)) i) true) ⌝ }
 {
@@ -137,8 +235,8 @@ fn lend_settled(card: &[u8], names: &[u16; 1577], table: &[u8; 66177], i: usize)
 }
 
 fn lends_settled(card: &[u8], names: &[u16; 1577], table: &[u8; 66177]) -> bool
-    requires { ⌜ Held (now card) (now names) (now table) ⌝ }
-    ensures { λ r. ⌜ (r ≡ true → (i : ℕ) → i < nodeCount (now (card .entry)) → kindAt (now (card .entry)) i ≡ 6
+    requires { ⌜ TableHeld (now card) (now names) (now table) ⌝ }
+    ensures { λ r. ⌜ (r ≡ true) ↔ ((i : ℕ) → i < nodeCount (now (card .entry)) → kindAt (now (card .entry)) i ≡ 6
         → UseSettled (now (card .entry)) (now (names .entry)) (now (table .entry)) (leftAt
         (now (card .entry)) i) true) ⌝ }
 {
@@ -167,7 +265,7 @@ fn of_class(card: &[u8], names: &[u16; 1577], c: usize, i: usize) -> bool
 }
 
 fn same(a: bool, b: bool) -> bool
-    ensures { λ r. ⌜ (r ≡ true → a ≡ b) ⌝ }
+    ensures { λ r. ⌜ (r ≡ true) ↔ (a ≡ b) ⌝ }
 {
     if a { b } else { !b }
 }
@@ -184,7 +282,7 @@ fn lit(word: u64, i: usize) -> bool
 fn masked(card: &[u8], names: &[u16; 1577], masks: &[u64; 64], c: usize) -> bool
     requires { ⌜ Sound (now card) ⌝ }
     requires { ⌜ (c < 64) × (NameCells (now names) × (length (now masks) ≡ 64)) ⌝ }
-    ensures { λ r. ⌜ (r ≡ true → Masked (now (card .entry)) (now (names .entry)) (now (masks .entry)) c) ⌝ }
+    ensures { λ r. ⌜ (r ≡ true) ↔ Masked (now (card .entry)) (now (names .entry)) (now (masks .entry)) c ⌝ }
 {
     let mask = masks[c];
     let mut i: usize = 0;
@@ -200,7 +298,7 @@ fn masked(card: &[u8], names: &[u16; 1577], masks: &[u64; 64], c: usize) -> bool
 fn masks_settled(card: &[u8], names: &[u16; 1577], masks: &[u64; 64]) -> bool
     requires { ⌜ Sound (now card) ⌝ }
     requires { ⌜ NameCells (now names) × (length (now masks) ≡ 64) ⌝ }
-    ensures { λ r. ⌜ (r ≡ true → (c : ℕ) → c < classesOf (now (names .entry))
+    ensures { λ r. ⌜ (r ≡ true) ↔ ((c : ℕ) → c < classesOf (now (names .entry))
         → Masked (now (card .entry)) (now (names .entry)) (now (masks .entry)) c) ⌝ }
 {
     let n = classes(names);
@@ -215,10 +313,10 @@ fn masks_settled(card: &[u8], names: &[u16; 1577], masks: &[u64; 64]) -> bool
 }
 
 pub fn settled(card: &[u8], names: &[u16; 1577], table: &[u8; 66177], masks: &[u64; 64]) -> bool
-    requires { ⌜ Held (now card) (now names) (now table) ⌝ }
+    requires { ⌜ TableHeld (now card) (now names) (now table) ⌝ }
     requires { ⌜ length (now masks) ≡ 64 ⌝ }
-    ensures { λ r. ⌜ (r ≡ true → Settled (now (card .entry)) (now (names .entry)) (now (table .entry))
-        (now (masks .entry))) ⌝ }
+    ensures { λ r. ⌜ (r ≡ true) ↔ Settled (now (card .entry)) (now (names .entry)) (now (table .entry))
+        (now (masks .entry)) ⌝ }
 {
     if classes(names) == 0 {
         return false;

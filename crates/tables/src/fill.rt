@@ -23,8 +23,9 @@ use node_bounds::weight;
 ghost use mathlib.Core.Path.{_≡_};
 ghost use Prim.Native.Nat.{_<_, _≤_};
 ghost use lib.ListN.{length};
+ghost use Rattle.card.specs.Format.{kindAt};
 ghost use Rattle.card.specs.Fault.{Sound};
-ghost use Rattle.bounds.specs.Inner.Table.{NameCells, TableCells, Held, Node, OnWay};
+ghost use Rattle.bounds.specs.Inner.Table.{NameCells, TableCells, TableHeld, Node, OnWay};
 
 // A number as a byte.
 fn capped(v: usize) -> u8
@@ -213,7 +214,7 @@ fn put_row(table: &mut [u8; 66177], i: usize, n: usize, lowest: usize, highest: 
 
 // Least numbers fall from the top, greatest ones rise from 0. Of a name of no node nothing is known.
 fn start(card: &[u8], names: &[u16; 1577], table: &mut [u8; 66177])
-    requires { ⌜ Held (now card) (now names) (now table) ⌝ }
+    requires { ⌜ TableHeld (now card) (now names) (now table) ⌝ }
     ensures { λ _. ⌜ TableCells (now (table .exit)) ⌝ }
 {
     let n = node_count(card);
@@ -228,7 +229,7 @@ fn start(card: &[u8], names: &[u16; 1577], table: &mut [u8; 66177])
 
 // Class c at node i, from its parts.
 fn fill_class(card: &[u8], names: &[u16; 1577], table: &mut [u8; 66177], i: usize, c: usize)
-    requires { ⌜ Held (now card) (now names) (now table) ⌝ }
+    requires { ⌜ TableHeld (now card) (now names) (now table) ⌝ }
     requires { ⌜ Node (now card) i × (c < 64) ⌝ }
     ensures { λ _. ⌜ TableCells (now (table .exit)) ⌝ }
 {
@@ -251,7 +252,7 @@ fn own_row(card: &[u8], names: &[u16; 1577], i: usize) -> bool
 
 // The least steps at node i, and every class, unless it is the row of a name.
 fn fill_node(card: &[u8], names: &[u16; 1577], table: &mut [u8; 66177], i: usize)
-    requires { ⌜ Held (now card) (now names) (now table) ⌝ }
+    requires { ⌜ TableHeld (now card) (now names) (now table) ⌝ }
     requires { ⌜ Node (now card) i ⌝ }
     ensures { λ _. ⌜ TableCells (now (table .exit)) ⌝ }
 {
@@ -269,7 +270,7 @@ fn fill_node(card: &[u8], names: &[u16; 1577], table: &mut [u8; 66177], i: usize
 }
 
 fn fill_nodes(card: &[u8], names: &[u16; 1577], table: &mut [u8; 66177])
-    requires { ⌜ Held (now card) (now names) (now table) ⌝ }
+    requires { ⌜ TableHeld (now card) (now names) (now table) ⌝ }
     ensures { λ _. ⌜ TableCells (now (table .exit)) ⌝ }
 {
     let n = node_count(card);
@@ -347,7 +348,7 @@ fn widen_ways(
     highest: usize,
     wide: bool,
 ) -> bool
-    requires { ⌜ Held (now card) (now names) (now table) ⌝ }
+    requires { ⌜ TableHeld (now card) (now names) (now table) ⌝ }
     requires { ⌜ Node (now card) i × (c < 64) ⌝ }
     requires { ⌜ OnWay i steps lowest highest ⌝ }
     ensures { λ _. ⌜ TableCells (now (table .exit)) ⌝ }
@@ -382,8 +383,85 @@ fn widen_ways(
     false
 }
 
-// The bounds of the heads of the clause at node i take in its use, for every class; whether they changed.
-fn widen(
+// The bounds at row r take in so many items of class c; whether they changed.
+fn widen_row(
+    table: &mut [u8; 66177],
+    r: usize,
+    c: usize,
+    lowest: usize,
+    highest: usize,
+    wide: bool,
+) -> bool
+    requires { ⌜ (r ≤ 512) × ((c < 64) × TableCells (now table)) ⌝ }
+    ensures { λ _. ⌜ TableCells (now (table .exit)) ⌝ }
+{
+    let l = low(table, r, c);
+    let fell = fall(table, r * 64 + c, l, lowest, wide);
+    let h = high(table, r, c);
+    let rose = rise(table, 32832 + (r * 64 + c), h, highest, wide);
+    if fell { true } else { rose }
+}
+
+// The bounds at row r take in the use of the bare name at node i, for every class; whether they changed.
+fn widen_name(
+    names: &[u16; 1577],
+    table: &mut [u8; 66177],
+    i: usize,
+    linear: bool,
+    r: usize,
+    wide: bool,
+) -> bool
+    requires { ⌜ NameCells (now names) × TableCells (now table) ⌝ }
+    requires { ⌜ (i < 512) × (r ≤ 512) ⌝ }
+    ensures { λ _. ⌜ TableCells (now (table .exit)) ⌝ }
+{
+    let s = least(table, r);
+    let mut changed = fall(table, 65664 + r, s, 1, wide);
+    let n = classes(names);
+    let mut c = 0;
+    while c < n {
+        let w = weight(names, i, linear, c);
+        if widen_row(table, r, c, w, w, wide) {
+            changed = true;
+        }
+        c += 1;
+    }
+    changed
+}
+
+// The same of a recipe with the one condition g before the name.
+fn widen_recipe(
+    names: &[u16; 1577],
+    table: &mut [u8; 66177],
+    i: usize,
+    linear: bool,
+    g: usize,
+    r: usize,
+    wide: bool,
+) -> bool
+    requires { ⌜ NameCells (now names) × TableCells (now table) ⌝ }
+    requires { ⌜ (i < 512) × ((g < 512) × (r ≤ 512)) ⌝ }
+    ensures { λ _. ⌜ TableCells (now (table .exit)) ⌝ }
+{
+    let s = least(table, r);
+    let steps = 1 + least(table, g);
+    let mut changed = fall(table, 65664 + r, s, steps, wide);
+    let n = classes(names);
+    let mut c = 0;
+    while c < n {
+        let w = weight(names, i, linear, c);
+        let l = w + low(table, g, c);
+        let h = w + high(table, g, c);
+        if widen_row(table, r, c, l, h, wide) {
+            changed = true;
+        }
+        c += 1;
+    }
+    changed
+}
+
+// The bounds of the heads of the clause at node i take in its use, for every class, by the ways to them; whether they changed.
+fn widen_by_ways(
     card: &[u8],
     names: &[u16; 1577],
     table: &mut [u8; 66177],
@@ -391,7 +469,7 @@ fn widen(
     linear: bool,
     wide: bool,
 ) -> bool
-    requires { ⌜ Held (now card) (now names) (now table) ⌝ }
+    requires { ⌜ TableHeld (now card) (now names) (now table) ⌝ }
     requires { ⌜ Node (now card) i ⌝ }
     ensures { λ _. ⌜ TableCells (now (table .exit)) ⌝ }
 {
@@ -408,8 +486,54 @@ fn widen(
     changed
 }
 
+// The same of the recipe at node i: where its condition stands before a name, by these two.
+fn widen_recipe_use(
+    card: &[u8],
+    names: &[u16; 1577],
+    table: &mut [u8; 66177],
+    i: usize,
+    linear: bool,
+    wide: bool,
+) -> bool
+    requires { ⌜ TableHeld (now card) (now names) (now table) ⌝ }
+    requires { ⌜ Node (now card) i × (kindAt (now card) i ≡ 7) ⌝ }
+    ensures { λ _. ⌜ TableCells (now (table .exit)) ⌝ }
+{
+    let d = right_part(card, i);
+    if kind_at(card, d) == 1 {
+        let g = left_part(card, i);
+        let r = row(names, name_at(card, d));
+        return widen_recipe(names, table, i, linear, g, r, wide);
+    }
+    widen_by_ways(card, names, table, i, linear, wide)
+}
+
+// The bounds of the heads of the clause at node i take in its use, for every class; whether they changed.
+fn widen(
+    card: &[u8],
+    names: &[u16; 1577],
+    table: &mut [u8; 66177],
+    i: usize,
+    linear: bool,
+    wide: bool,
+) -> bool
+    requires { ⌜ TableHeld (now card) (now names) (now table) ⌝ }
+    requires { ⌜ Node (now card) i ⌝ }
+    ensures { λ _. ⌜ TableCells (now (table .exit)) ⌝ }
+{
+    let k = kind_at(card, i);
+    if k == 1 {
+        let r = row(names, name_at(card, i));
+        return widen_name(names, table, i, linear, r, wide);
+    }
+    if k == 7 {
+        return widen_recipe_use(card, names, table, i, linear, wide);
+    }
+    widen_by_ways(card, names, table, i, linear, wide)
+}
+
 fn widen_rules(card: &[u8], names: &[u16; 1577], table: &mut [u8; 66177], wide: bool) -> bool
-    requires { ⌜ Held (now card) (now names) (now table) ⌝ }
+    requires { ⌜ TableHeld (now card) (now names) (now table) ⌝ }
     ensures { λ _. ⌜ TableCells (now (table .exit)) ⌝ }
 {
     let n = byte(card, 3);
@@ -425,7 +549,7 @@ fn widen_rules(card: &[u8], names: &[u16; 1577], table: &mut [u8; 66177], wide: 
 }
 
 fn widen_lines(card: &[u8], names: &[u16; 1577], table: &mut [u8; 66177], wide: bool) -> bool
-    requires { ⌜ Held (now card) (now names) (now table) ⌝ }
+    requires { ⌜ TableHeld (now card) (now names) (now table) ⌝ }
     ensures { λ _. ⌜ TableCells (now (table .exit)) ⌝ }
 {
     let n = byte(card, 4);
@@ -448,7 +572,7 @@ fn widen_lend(
     i: usize,
     wide: bool,
 ) -> bool
-    requires { ⌜ Held (now card) (now names) (now table) ⌝ }
+    requires { ⌜ TableHeld (now card) (now names) (now table) ⌝ }
     requires { ⌜ Node (now card) i ⌝ }
     ensures { λ _. ⌜ TableCells (now (table .exit)) ⌝ }
 {
@@ -459,7 +583,7 @@ fn widen_lend(
 }
 
 fn widen_lends(card: &[u8], names: &[u16; 1577], table: &mut [u8; 66177], wide: bool) -> bool
-    requires { ⌜ Held (now card) (now names) (now table) ⌝ }
+    requires { ⌜ TableHeld (now card) (now names) (now table) ⌝ }
     ensures { λ _. ⌜ TableCells (now (table .exit)) ⌝ }
 {
     let n = node_count(card);
@@ -476,7 +600,7 @@ fn widen_lends(card: &[u8], names: &[u16; 1577], table: &mut [u8; 66177], wide: 
 
 // The bounds of every name take in the uses for it, those of lines first: they need no conditions. Whether any changed.
 fn widen_names(card: &[u8], names: &[u16; 1577], table: &mut [u8; 66177], wide: bool) -> bool
-    requires { ⌜ Held (now card) (now names) (now table) ⌝ }
+    requires { ⌜ TableHeld (now card) (now names) (now table) ⌝ }
     ensures { λ _. ⌜ TableCells (now (table .exit)) ⌝ }
 {
     let lines = widen_lines(card, names, table, wide);
@@ -502,7 +626,7 @@ fn at_rest(changed: bool, turn: usize) -> bool {
 // The names from their uses and the nodes from their parts, by turns, until nothing changes. What has not come to rest after 40 turns goes
 // all the way.
 fn rounds(card: &[u8], names: &[u16; 1577], table: &mut [u8; 66177])
-    requires { ⌜ Held (now card) (now names) (now table) ⌝ }
+    requires { ⌜ TableHeld (now card) (now names) (now table) ⌝ }
     ensures { λ _. ⌜ TableCells (now (table .exit)) ⌝ }
 {
     let mut i: usize = 0;
@@ -518,7 +642,7 @@ fn rounds(card: &[u8], names: &[u16; 1577], table: &mut [u8; 66177])
 
 // The whole table.
 pub fn build(card: &[u8], names: &mut [u16; 1577], table: &mut [u8; 66177], masks: &mut [u64; 64])
-    requires { ⌜ Held (now card) (now names) (now table) ⌝ }
+    requires { ⌜ TableHeld (now card) (now names) (now table) ⌝ }
     requires { ⌜ length (now masks) ≡ 64 ⌝ }
     ensures { λ _. ⌜ NameCells (now (names .exit)) ⌝ }
     ensures { λ _. ⌜ TableCells (now (table .exit)) ⌝ }

@@ -19,8 +19,8 @@ use Rattle.calculus.proofs.TraceExact.{trace-unique, listed-accounts}
 use Rattle.calculus.proofs.SurelyByList.{surely-walked}
 use Rattle.calculus.proofs.WalkExact.{job-walk, divides-accounts}
 use Rattle.lines.specs.declared.LineSet.{LineSet}
-use Rattle.lines.specs.Inner.Set.{isEmptyS, fullS, cutS, Words}
-use Rattle.lines.specs.Inner.Count.{countS}
+use Rattle.lines.specs.Set.{isEmptyS, fullS, cutS, Words}
+use Rattle.lines.specs.Count.{countS}
 use Rattle.card.specs.Format.{nodeCount, ruleCount, lineCount, goalNode, stepLimit}
 use Rattle.card.specs.declared.Refusal.{Refusal}
 use Rattle.card.specs.declared.Checked.{Checked}
@@ -33,18 +33,19 @@ use Rattle.card.proofs.FaultsInOrder.{not-applied}
 use Rattle.card.proofs.NodesDecoded.{lines-bounded}
 use Rattle.card.proofs.SoundNodes.{goal-lower, height-low, sound-root}
 use Rattle.scope.specs.Inner.Sets.{items, strictOf, SureLines}
-use Rattle.scope.specs.Inner.Tables.{scopeIn, Entered}
+use Rattle.scope.specs.Inner.Tables.{tableScope, TableEntered}
 use Rattle.scope.proofs.SetsAreItems.{strict-items, all-items}
-use Rattle.summary.specs.declared.Branch.{Branch}
+use Rattle.summary.specs.declared.Position.{Position}
 use Rattle.summary.specs.declared.Summary.{Summary}
 use Rattle.summary.specs.declared.Walked.{Walked}
 use Rattle.summary.specs.declared.Walked.the-variants.{Ended, Astray}
-use Rattle.summary.specs.Inner.Values.{Counted, startB, onB}
-use Rattle.summary.specs.Inner.Walks.{from, gathered, EndsWith, StopsWith, Tells, Ready, GoalReady, GoalWalks}
+use Rattle.summary.specs.Inner.Values.{MetCounted, startP, onB}
+use Rattle.summary.specs.Inner.Walks.{from, gathered, EndsWith, StopsWith, Tells, WalkReady, GoalWalkReady, GoalWalks}
 use Rattle.trace.specs.declared.Followed.{Followed}
 use Rattle.trace.specs.declared.Followed.the-variants.{Listed, Refused}
 use Rattle.trace.specs.Steps.{walkFault, stepsFault}
-use Rattle.trace.specs.Inner.Listing.{Covered, Ending, early, bare, whole, toldFollowed, HasLines, Following, SurelyFollows, strays, divides-not, follows}
+use Rattle.trace.specs.Inner.Listing.{Covered, Ending, early, bare, whole, toldFollowed, HasLines, followedOf, Following, SurelyFollows}
+use Rattle.trace.specs.Inner.Listing.{strays, divides-not, follows}
 use Rattle.summary.proofs.SummariesGather.{within-says}
 use Rattle.summary.proofs.CountsKept.{all-met}
 use Rattle.summary.proofs.WalksTell.{from-next, ends-walk}
@@ -82,7 +83,7 @@ module _ {bs : List ℕ} (s : Sound bs) (w : Summary) where
       pub slack-covers : w .slack ≡ true → Says true (Covered bs w)
       slack-covers v = (λ h. record { alive = alive; within = lies; all-strict = inl v }, λ c. refl)
 
-      pub strict-covers : w .slack ≡ false → Counted (strictOf bs) 0 w → (all : ℕ) → all ≡ countS (strictOf bs)
+      pub strict-covers : w .slack ≡ false → MetCounted (strictOf bs) 0 w → (all : ℕ) → all ≡ countS (strictOf bs)
           → Says (eqb (w .met) all) (Covered bs w)
       unfolding jobOf
       strict-covers v n all ea = (
@@ -132,11 +133,11 @@ module _ {bs : List ℕ} (w : Summary) (k : ℕ) {x : Checked} (tx : told x ≡ 
 -- The call
 
 module _ {bs steps nodes : List ℕ} {linear : List Bool} {k : ℕ} (s : Sound bs) (long : k ≤ length steps) (few : k ≤ stepLimit bs)
-    (short : k ≤ 255) (entered : Entered bs nodes linear (ruleCount bs + lineCount bs))
-    (scope : scopeIn bs nodes linear (ruleCount bs + lineCount bs) ≡ jobOf bs .scope) where
-  pub start-call : (b : Branch) → b ≡ startB bs k → (node : ℕ) → node ≡ goalNode bs
-      → Ready bs steps nodes linear b × GoalReady bs b node
-  unfolding startB
+    (short : k ≤ 255) (entered : TableEntered bs nodes linear (ruleCount bs + lineCount bs))
+    (scope : tableScope bs nodes linear (ruleCount bs + lineCount bs) ≡ jobOf bs .scope) where
+  pub start-call : (b : Position) → b ≡ startP bs k → (node : ℕ) → node ≡ goalNode bs
+      → WalkReady bs steps nodes linear b × GoalWalkReady bs b node
+  unfolding startP
   start-call b eb node en = rw (eb, en) (
       let f = sound-front bs s in (
         record {
@@ -159,71 +160,77 @@ module _ {bs steps nodes : List ℕ} {linear : List Bool} {k : ℕ} (s : Sound b
       )
       )
 
-  module _ (b : Branch) (eb : b ≡ startB bs k) (node : ℕ) (en : node ≡ goalNode bs) {nodes′ : List ℕ} {linear′ : List Bool} {r : Walked}
+  module _ (b : Position) (eb : b ≡ startP bs k) (node : ℕ) (en : node ≡ goalNode bs) {nodes′ : List ℕ} {linear′ : List Bool} {r : Walked}
       (W : GoalWalks bs steps nodes nodes′ linear linear′ b node r) where
     -- what the walk tells, at the job's goal in its scope
-    walk-told : Tells (strictOf bs) steps (startB bs k) (jobOf bs .scope) (goal (jobOf bs .goal)) r
-    unfolding jobOf startB
+    walk-told : Tells (strictOf bs) steps (startP bs k) (jobOf bs .scope) (goal (jobOf bs .goal)) r
+    unfolding jobOf startP
     walk-told =
-        let F : GoalWalks bs steps nodes nodes′ linear linear′ (startB bs k) (goalNode bs) r = rw (eb, en) at W in
-        subst (λ es. Tells (strictOf bs) steps (startB bs k) es (goal (goalAt bs (goalNode bs))) r) scope (F .tells)
+        let F : GoalWalks bs steps nodes nodes′ linear linear′ (startP bs k) (goalNode bs) r = rw (eb, en) at W in
+        subst (λ es. Tells (strictOf bs) steps (startP bs k) es (goal (goalAt bs (goalNode bs))) r) scope (F .tells)
 
     -- where the walk of the given steps has come to
     walk-is : partWalk (jobOf bs .depth) (goal (jobOf bs .goal)) (jobOf bs .scope) 0 (take k steps) ≡ jobWalk (jobOf bs) (take k steps)
     walk-is = sym (job-walk (jobOf bs) (take k steps))
 
-    pub stray-found : {f : Refusal} → r ≡ Astray f → Following bs (take k steps) (fault (f .number) (whereOf (f .place)))
-    unfolding Tells startB jobOf from stepsFault walkFault
-    stray-found {f} e =
-        let s : StopsWith steps (startB bs k) (jobOf bs .scope) (goal (jobOf bs .goal)) f = rw e at walk-told in
+    strays-at : {f : Refusal} → r ≡ Astray f → Following bs (take k steps) (fault (f .number) (whereOf (f .place)))
+    unfolding Tells startP jobOf from stepsFault walkFault
+    strays-at {f} e =
+        let s : StopsWith steps (startP bs k) (jobOf bs .scope) (goal (jobOf bs .goal)) f = rw e at walk-told in
         strays (ap walkFault (sym walk-is ∙ s .walk) ∙ ap (fault (f .number)) (sym (s .place)))
 
+    -- a walk that strays, told as what is found of the steps
+    pub stray-found : {f : Refusal} → r ≡ Astray f → (x : Followed) → x ≡ followedOf r
+        → Following bs (take k steps) (toldFollowed x) × SurelyFollows bs (take k steps) x
+    unfolding followedOf toldFollowed SurelyFollows
+    stray-found {f} e x q = let t : x ≡ Refused f = q ∙ ap followedOf e in rw t (strays-at e, tt)
+
     module _ (w : Summary) (e : r ≡ Ended w) where
-      ended : EndsWith (strictOf bs) steps (startB bs k) (jobOf bs .scope) (goal (jobOf bs .goal)) w
+      ended : EndsWith (strictOf bs) steps (startP bs k) (jobOf bs .scope) (goal (jobOf bs .goal)) w
       unfolding Tells
       ended = rw e at walk-told
 
       -- the steps are walked up to where it ended
-      walked : jobWalk (jobOf bs) (take k steps) ≡ goes (w .at) (from steps (startB bs k) (w .at))
-      unfolding startB jobOf from
+      walked : jobWalk (jobOf bs) (take k steps) ≡ goes (w .at) (from steps (startP bs k) (w .at))
+      unfolding startP jobOf from
       walked = sym walk-is ∙ ends-walk long ended
 
       pub end-short : w .at ≤ 255
-      unfolding startB
+      unfolding startP
       end-short = let u = ended .bounded in omega arith
 
-      pub end-counted : Counted (strictOf bs) 0 w
-      unfolding startB
+      pub end-counted : MetCounted (strictOf bs) 0 w
+      unfolding startP
       end-counted = ended .counted
 
       -- some walk of the list, at whatever nesting, is this one
       same-walk : {n : ℕ} (g : Gathered) → Trace n (jobOf bs .scope) (goal (jobOf bs .goal)) g → g .list ≡ take k steps
-          → Agreed g (gathered (ruleCount bs) w (ended .list)) [] (from steps (startB bs k) (w .at))
-      unfolding from startB gathered
+          → Agreed g (gathered (ruleCount bs) w (ended .list)) [] (from steps (startP bs k) (w .at))
+      unfolding from startP gathered
       same-walk g t q =
-          trace-unique [] (from steps (startB bs k) (w .at)) t (ended .traced .trace) (append-nil (g .list) ∙ q ∙ sym (ended .along))
+          trace-unique [] (from steps (startP bs k) (w .at)) t (ended .traced .trace) (append-nil (g .list) ∙ q ∙ sym (ended .along))
 
       early-found : (w .at ≡ k → ⊥) → Following bs (take k steps) (fault 18 (step (w .at)))
-      unfolding startB stepsFault walkFault from
+      unfolding startP stepsFault walkFault from
       early-found n = strays (ap walkFault (walked ∙ ap (goes (w .at)) next))
         where
           under : w .at ≤ k → w .at < k
           under h = omega arith
 
-          next : from steps (startB bs k) (w .at) ≡ getD steps (w .at) 0 ∷ from steps (startB bs k) (w .at + 1)
-          next = from-next steps (onB (startB bs k) (w .at) 0) (under (ended .bounded)) long
+          next : from steps (startP bs k) (w .at) ≡ getD steps (w .at) 0 ∷ from steps (startP bs k) (w .at + 1)
+          next = from-next steps (onB (startP bs k) (w .at) 0) (under (ended .bounded)) long
 
       module _ (at : w .at ≡ k) where
-        none-left : from steps (startB bs k) (w .at) ≡ []
-        unfolding from startB
+        none-left : from steps (startP bs k) (w .at) ≡ []
+        unfolding from startP
         none-left = drop-of-length-le (take k steps) {i = w .at} (let l = length-take-le k steps long in omega arith)
 
         list-is : ended .list ≡ take k steps
-        unfolding from startB
+        unfolding from startP
         list-is = sym (append-nil (ended .list)) ∙ ap (λ t. ended .list ++ t) (sym none-left) ∙ ended .along
 
         covered-found : Covered bs w → Following bs (take k steps) sound
-        unfolding startB gathered jobOf
+        unfolding startP gathered jobOf
         covered-found c = follows (listed-accounts (jobOf bs) (take k steps) (lines-bounded bs) .1 (record {
           gathered = gathered (ruleCount bs) w (ended .list);
           trace = depth-is;
@@ -270,7 +277,7 @@ module _ {bs steps nodes : List ℕ} {linear : List Bool} {k : ℕ} (s : Sound b
 
       -- a list's walk is this one, and surely uses what its derivations do
       sure-lines : w .at ≡ k → SureLines bs (take k steps) (w .sure)
-      unfolding startB gathered jobOf
+      unfolding startP gathered jobOf
       sure-lines at = record {
         lines = λ x i h t.
             ended .sure .line i (let f = sound-front bs s .lines in omega arith)

@@ -8,7 +8,8 @@ use card::format::kind;
 use card::format::word;
 use card::refuse;
 use lines::LineSet;
-use summary::Branch;
+use lines::LineWord;
+use summary::Position;
 use summary::Summary;
 use summary::Walked;
 ghost use mathlib.Core.Bool.{false, not};
@@ -25,21 +26,21 @@ ghost use Rattle.card.specs.Verdict.{told, refuse, whereOf};
 ghost use Rattle.card.specs.Fault.{Sound};
 ghost use Rattle.card.specs.Inner.Checks.{NoKind};
 ghost use Rattle.card.specs.Decode.{jobOf};
-ghost use Rattle.lines.specs.Inner.Set.{isEmptyS, cutS, Words};
-ghost use Rattle.lines.specs.Inner.Count.{countS};
+ghost use Rattle.lines.specs.Set.{isEmptyS, cutS, Words};
+ghost use Rattle.lines.specs.Count.{countS};
 ghost use Rattle.scope.specs.Inner.Sets.{strictOf, SureLines};
-ghost use Rattle.summary.specs.Inner.Values.{startB, Counted};
-ghost use Rattle.trace.specs.Inner.Listing.{Covered, Ending, toldFollowed, HasLines, Following, SurelyFollows};
+ghost use Rattle.summary.specs.Inner.Values.{startP, MetCounted};
+ghost use Rattle.trace.specs.Inner.Listing.{Covered, Ending, toldFollowed, HasLines, followedOf, Following, SurelyFollows};
 
 // Where the walk of the card's goal begins.
-fn start(card: &[u8], k: usize) -> Branch
+fn start(card: &[u8], k: usize) -> Position
     requires { ⌜ Sound (now card) ⌝ }
-    ensures { λ r. ⌜ r ≡ startB (now (card .entry)) k ⌝ }
+    ensures { λ r. ⌜ r ≡ startP (now (card .entry)) k ⌝ }
 {
     let p = byte(card, 3);
     let t = byte(card, 4);
     let depth = byte(card, 9);
-    Branch {
+    Position {
         rules: p,
         given: k,
         at: 0,
@@ -60,7 +61,7 @@ fn within(s: LineSet, t: LineSet) -> bool
 // The items divided, they lie within the lines, and there is slack or every must line is among them: all of them are met.
 fn covers(card: &[u8], w: Summary, all: usize) -> bool
     requires { ⌜ Sound (now card) ⌝ }
-    requires { ⌜ Counted (strictOf (now card)) 0 w ⌝ }
+    requires { ⌜ MetCounted (strictOf (now card)) 0 w ⌝ }
     requires { ⌜ all ≡ countS (strictOf (now card)) ⌝ }
     ensures { λ r. ⌜ Says r (Covered (now (card .entry)) w) ⌝ }
 {
@@ -81,6 +82,7 @@ fn covers(card: &[u8], w: Summary, all: usize) -> bool
 // 18 where the walk ended before the last of the k steps: the first that it did not want.
 fn length_check(w: Summary, k: usize) -> Checked
     requires { ⌜ w .at ≤ 255 ⌝ }
+    requires { ⌜ k ≤ 255 ⌝ }
     ensures { λ r. ⌜ told r ≡ refuse (not (eqb (w .at) k)) 18 (whereOf (Step (w .at))) ⌝ }
 {
     let at = w.at;
@@ -91,7 +93,8 @@ fn length_check(w: Summary, k: usize) -> Checked
 fn end_check(card: &[u8], w: Summary, k: usize, all: usize) -> Checked
     requires { ⌜ Sound (now card) ⌝ }
     requires { ⌜ w .at ≤ 255 ⌝ }
-    requires { ⌜ Counted (strictOf (now card)) 0 w ⌝ }
+    requires { ⌜ k ≤ 255 ⌝ }
+    requires { ⌜ MetCounted (strictOf (now card)) 0 w ⌝ }
     requires { ⌜ all ≡ countS (strictOf (now card)) ⌝ }
     ensures { λ r. ⌜ Ending (now (card .entry)) w k (told r) ⌝ }
 {
@@ -102,14 +105,14 @@ fn end_check(card: &[u8], w: Summary, k: usize, all: usize) -> Checked
     refuse(!covers(card, w, all), 19, Place::Steps)
 }
 
-// What is found of the steps: they are a list of the card, and the lines that it surely uses, line i as bit i; or what is wrong.
+// What is found of the steps: they are a list of the card, and the lines that it surely uses; or what is wrong.
 pub enum Followed {
-    Listed(u64),
+    Listed(LineWord),
     Refused(Refusal),
 }
 
 // A check's answer with the lines that the walk surely used.
-fn with_lines(found: Checked, sure: u64) -> Followed
+fn with_lines(found: Checked, sure: LineWord) -> Followed
     ensures { λ r. ⌜ toldFollowed r ≡ told found ⌝ }
     ensures { λ r. ⌜ HasLines sure r ⌝ }
 {
@@ -123,13 +126,27 @@ fn with_lines(found: Checked, sure: u64) -> Followed
 fn ended(card: &[u8], w: Summary, k: usize) -> Followed
     requires { ⌜ Sound (now card) ⌝ }
     requires { ⌜ w .at ≤ 255 ⌝ }
-    requires { ⌜ Counted (strictOf (now card)) 0 w ⌝ }
+    requires { ⌜ k ≤ 255 ⌝ }
+    requires { ⌜ MetCounted (strictOf (now card)) 0 w ⌝ }
     ensures { λ r. ⌜ Ending (now (card .entry)) w k (toldFollowed r) ⌝ }
     ensures { λ r. ⌜ HasLines (w .sure) r ⌝ }
 {
     let strict = scope::strict_lines(card);
     let end = end_check(card, w, k, strict.count());
     with_lines(end, w.sure)
+}
+
+// A walk's answer as what is found of the steps: its refusal; of a walk that has ended, the lines that it gathered.
+fn strayed(walked: Walked) -> Followed
+    ensures { λ r. ⌜ r ≡ followedOf walked ⌝ }
+{
+    match walked {
+        Walked::Ended(w) => {
+            let sure = w.sure;
+            Followed::Listed(sure)
+        }
+        Walked::Astray(refusal) => Followed::Refused(refusal),
+    }
 }
 
 // 13, 17, 18 and 19, of the first k of the steps, where they stand; or the lines that they surely use.
@@ -146,10 +163,10 @@ pub fn steps_check(card: &[u8], steps: &[u8], k: usize) -> Followed
     let b = start(card, k);
     let goal = word(card, 7);
     let walked = walk::walk(card, steps, &mut nodes, &mut linear, b, goal);
-    match walked {
-        Walked::Ended(w) => ended(card, w, k),
-        Walked::Astray(refusal) => Followed::Refused(refusal),
-    }
+    let Walked::Ended(w) = walked else {
+        return strayed(walked);
+    };
+    ended(card, w, k)
 }
 
 // Whether some node of the card is of kind k.
@@ -181,18 +198,18 @@ fn may_differ(card: &[u8]) -> bool
 
 // The lines that a list of the card, the first k of the steps, surely uses. Where no line can be used one way only these are all that stand
 // in it, and it is not walked.
-pub fn sure_lines(card: &[u8], steps: &[u8], k: usize) -> u64
+pub fn sure_lines(card: &[u8], steps: &[u8], k: usize) -> LineWord
     requires { ⌜ Sound (now card) ⌝ }
     requires { ⌜ k ≤ length (now steps) ⌝ }
     requires { ⌜ Listed (jobOf (now card)) (take k (now steps)) ⌝ }
     ensures { λ r. ⌜ SureLines (now (card .entry)) (take k (now (steps .entry))) r ⌝ }
 {
     if !may_differ(card) {
-        return 0xffff_ffff_ffff_ffff;
+        return LineSet::full(byte(card, 4)).lines();
     }
     let found = steps_check(card, steps, k);
-    match found {
-        Followed::Listed(sure) => sure,
-        Followed::Refused(_) => 0,
-    }
+    let Followed::Listed(sure) = found else {
+        return LineWord::empty();
+    };
+    sure
 }

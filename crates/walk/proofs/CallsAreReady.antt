@@ -14,33 +14,35 @@ use Rattle.calculus.specs.Items.{Items, ∅, _∪_, _∩_}
 use Rattle.calculus.specs.Inner.Trace.{Gathered, Ends, Tensors, Withs}
 use Rattle.calculus.specs.Inner.Surely.{Traced}
 use Rattle.calculus.proofs.SurelyByList.{traced-⊗, traced-&, traced-head, traced-recipe}
-use Rattle.lines.specs.Inner.Set.{member, Words}
-use Rattle.lines.specs.Inner.Count.{bit}
+use Rattle.lines.specs.Set.{member, Words}
+use Rattle.lines.specs.Count.{bit}
 use Rattle.lines.proofs.CountLaws.{bit-one}
 use Rattle.card.specs.Format.{nodeCount, ruleCount, kindAt, leftAt, rightAt}
 use Rattle.card.specs.Fault.{goalPart, clausePart, heightAt}
 use Rattle.card.specs.Decode.{goalAt, clauseOf, scopeOf}
+use Rattle.card.specs.Inner.Size.{weight, clauseWeight}
 use Rattle.card.proofs.CardChecked.{sound-front}
 use Rattle.card.proofs.NodesDecoded.{reads-name, reads-never, line-within}
 use Rattle.card.proofs.SoundNodes.{goal-lower, goal-kind, goal-above, clause-lower, clause-above, clause-kind, node-here, height-low}
-use Rattle.card.proofs.SoundNodes.{height-pos, height-parts, parts-below, both-parts, either-parts, lend-parts, recipe-parts}
+use Rattle.card.proofs.SoundNodes.{height-pos, height-parts, both-parts, either-parts, lend-parts, recipe-parts}
 use Rattle.card.proofs.SoundNodes.{one-of-parts, menu-parts, sound-both, sound-either, sound-lend, sound-recipe, sound-one-of}
 use Rattle.card.proofs.SoundNodes.{sound-menu, usable-name, usable-rest, usable-recipe}
+use Rattle.card.proofs.WeightsFall.{both-weight, either-weight, lend-weight, one-of-weight, recipe-weight, menu-weight, clause-low}
 use Rattle.scope.specs.Inner.Sets.{strictOf}
-use Rattle.scope.specs.Inner.Tables.{scopeIn, Kept}
+use Rattle.scope.specs.Inner.Tables.{tableScope, Kept}
 use Rattle.scope.proofs.SetsAreItems.{items-at, strict-items}
 use Rattle.scope.proofs.TablesAreScopes.{scope-size, scope-clause, scope-linear, scope-kept, lend-scope, entered-kept, entered-more}
 use Rattle.scope.proofs.TablesAreScopes.{kept-self, kept-trans, kept-again, kept-set}
 use Rattle.card.specs.declared.Refusal.{Refusal}
-use Rattle.summary.specs.declared.Branch.{Branch}
+use Rattle.summary.specs.declared.Position.{Position}
 use Rattle.summary.specs.declared.Summary.{Summary}
 use Rattle.summary.specs.declared.Walked.{Walked}
 use Rattle.summary.specs.declared.Walked.the-variants.{Ended, Astray}
 use Rattle.summary.specs.declared.Step.{Step}
 use Rattle.summary.specs.declared.Step.the-variants.{Taken, Wrong}
-use Rattle.summary.specs.Inner.Values.{onB, lentB, steppedB, endedW, tensorW, withW, withoutW, usingW}
-use Rattle.summary.specs.Inner.Walks.{EndsWith, StopsWith, Tells, Ready, GoalReady, ClauseReady, CanUse, Stepping, PartWalks}
-use Rattle.summary.specs.Inner.Walks.{Chosen, CanChoose, Siding}
+use Rattle.summary.specs.Inner.Values.{onB, lentP, steppedB, endedW, astrayW, tensorW, withW, withoutS, usingW}
+use Rattle.summary.specs.Inner.Walks.{EndsWith, StopsWith, Tells, WalkReady, GoalWalkReady, ClauseReady, StepUsable, Stepping, PartWalks}
+use Rattle.summary.specs.Inner.Walks.{SideChosen, CanChoose, SideTaking}
 use Rattle.summary.proofs.WalksTell.{ends-here, fails-here, first-stops, second-stops, tensor-ends, with-ends, lend-ends, lend-stops}
 use Rattle.summary.proofs.WalksTell.{side-ends, side-stops, one-of-stops, menu-stops, rule-ends, item-ends, use-stops}
 
@@ -51,18 +53,24 @@ none-high k h n₄ n₅ n₆ = omega arith
 none-low : (k : ℕ) → 1 ≤ k → k ≤ 3 → (k ≡ 1 → ⊥) → (k ≡ 2 → ⊥) → (k ≡ 3 → ⊥) → ⊥
 none-low k g h n₁ n₂ n₃ = omega arith
 
--- the falling number of a call, without its node: nesting and steps left
-abbrev pub weight : Branch → ℕ
-weight b = (b .depth + (b .given - b .at)) * 4096
+-- The falling number of a call: nesting and steps left, then the size of its formula, a goal or a clause in use.
+abbrev pub ahead : Position → ℕ
+ahead b = (b .depth + (b .given - b .at)) * 1024
+
+abbrev pub goalNumber : List ℕ → Position → ℕ → ℕ
+goalNumber bs b node = ahead b + 4 * weight (goalAt bs node)
+
+abbrev pub clauseNumber : List ℕ → Position → ℕ → ℕ
+clauseNumber bs b node = ahead b + 4 * clauseWeight (clauseOf bs node)
 
 -- which parts of a menu have a head that is the name
 pub record Fitting (bs : List ℕ) (name node : ℕ) (first second : Bool) : Type 0 where
   pub left-fits : first ≡ usable (scopeOf bs .fits) name (clauseOf bs (leftAt bs node))
   pub right-fits : second ≡ usable (scopeOf bs .fits) name (clauseOf bs (rightAt bs node))
 
-module _ {bs steps nodes : List ℕ} {linear : List Bool} {b : Branch} (R : Ready bs steps nodes linear b) where
+module _ {bs steps nodes : List ℕ} {linear : List Bool} {b : Position} (R : WalkReady bs steps nodes linear b) where
   abbrev es : Scope
-  es = scopeIn bs nodes linear (b .count)
+  es = tableScope bs nodes linear (b .count)
 
   pub rules-below : b .rules ≤ b .count
   rules-below = let s = R .scoped in let r = R .rules in omega arith
@@ -83,6 +91,11 @@ module _ {bs steps nodes : List ℕ} {linear : List Bool} {b : Branch} (R : Read
   at-once : {p : Part} {r : Walked} → Tells (strictOf bs) steps b es p r → PartWalks bs steps nodes nodes linear linear b p r
   at-once t = record { tells = t; node-kept = kept-self (b .count) nodes; linear-kept = kept-self (b .count) linear }
 
+  -- a step that is wrong, as the walk's answer
+  stray : {y : Step} {f : Refusal} → y ≡ Wrong f → (x : Walked) → x ≡ astrayW y → x ≡ Astray f
+  unfolding astrayW
+  stray e x q = q ∙ ap astrayW e
+
   -- Behind a first part
 
   module _ {nodes₁ : List ℕ} {linear₁ : List Bool} {p : Part} where
@@ -100,7 +113,7 @@ module _ {bs steps nodes : List ℕ} {linear : List Bool} {b : Branch} (R : Read
       unfolding Tells
       ends = W .tells
 
-      same-scope : scopeIn bs nodes₁ linear₁ (b .count) ≡ es
+      same-scope : tableScope bs nodes₁ linear₁ (b .count) ≡ es
       same-scope = scope-kept bs nodes nodes₁ linear linear₁ (b .count) (W .node-kept) (W .linear-kept)
 
       -- no more must lines are met there than steps, counted from where the walk ended or from where it began
@@ -109,7 +122,7 @@ module _ {bs steps nodes : List ℕ} {linear : List Bool} {b : Branch} (R : Read
           ⊎-elim (λ e. let s = ends .pace in let m = R .met in omega (arith, e, s, m))
           (λ e. let o = ends .onward in let m = R .met in omega (arith, e, o, m))
 
-      pub ready-on : (met : ℕ) → met ≤ w .at → Ready bs steps nodes₁ linear₁ (onB b (w .at) met)
+      pub ready-on : (met : ℕ) → met ≤ w .at → WalkReady bs steps nodes₁ linear₁ (onB b (w .at) met)
       ready-on met low = record {
         sound = R .sound;
         rules = R .rules;
@@ -122,7 +135,7 @@ module _ {bs steps nodes : List ℕ} {linear : List Bool} {b : Branch} (R : Read
         met = low;
       }
 
-      pub lighter : (met : ℕ) → weight (onB b (w .at) met) ≤ weight b
+      pub lighter : (met : ℕ) → ahead (onB b (w .at) met) ≤ ahead b
       lighter met = let o = ends .onward in omega arith
 
       module _ {met : ℕ} {q : Part} {nodes₂ : List ℕ} {linear₂ : List Bool} where
@@ -164,7 +177,7 @@ module _ {bs steps nodes : List ℕ} {linear : List Bool} {b : Branch} (R : Read
 
   -- the same, of the values of a run: what it was given, what it answered, and what was made of both
   module _ {nodes₁ nodes₂ : List ℕ} {linear₁ linear₂ : List Bool} {p q : Part} (w : Summary) {x : Walked} (ex : x ≡ Ended w)
-      (W : PartWalks bs steps nodes nodes₁ linear linear₁ b p x) (met : ℕ) (b₂ : Branch) (eb : b₂ ≡ onB b (w .at) met) {y : Walked}
+      (W : PartWalks bs steps nodes nodes₁ linear linear₁ b p x) (met : ℕ) (b₂ : Position) (eb : b₂ ≡ onB b (w .at) met) {y : Walked}
       (X : PartWalks bs steps nodes₁ nodes₂ linear₁ linear₂ b₂ q y) where
     first-run : PartWalks bs steps nodes nodes₁ linear linear₁ b p (Ended w)
     first-run = rw ex at W
@@ -195,14 +208,14 @@ module _ {bs steps nodes : List ℕ} {linear : List Bool} {b : Branch} (R : Read
     pub stepped-room : (b .at < 255) × (0 ≤ b .depth)
     stepped-room = let r = U .room in let s = R .short in (omega arith, omega arith)
 
-    module _ (b₁ : Branch) (eb : b₁ ≡ steppedB b 0) where
+    module _ (b₁ : Position) (eb : b₁ ≡ steppedB b 0) where
       -- a choice adds no nesting
       as-on : b₁ ≡ onB b (b .at + 1) (b .met)
       as-on =
           let z : b .depth - 0 ≡ b .depth = omega arith in
           eb ∙ ap (λ d. record { rules = b .rules; given = b .given; at = b .at + 1; count = b .count; depth = d; met = b .met }) z
 
-      ready-stepped : Ready bs steps nodes linear b₁
+      ready-stepped : WalkReady bs steps nodes linear b₁
       ready-stepped = rw as-on (record {
         sound = R .sound;
         rules = R .rules;
@@ -215,7 +228,7 @@ module _ {bs steps nodes : List ℕ} {linear : List Bool} {b : Branch} (R : Read
         met = let m = R .met in omega arith;
       })
 
-      lighter-stepped : weight b₁ ≤ weight b
+      lighter-stepped : ahead b₁ ≤ ahead b
       lighter-stepped = rw as-on (omega arith)
 
       side-done : {p q : Part} {nodes₂ : List ℕ} {linear₂ : List Bool} (x : Walked) → Side es p (U .choice) q
@@ -231,7 +244,7 @@ module _ {bs steps nodes : List ℕ} {linear : List Bool} {b : Branch} (R : Read
 
   -- At a goal
 
-  module _ (node : ℕ) (Q : GoalReady bs b node) where
+  module _ (node : ℕ) (Q : GoalWalkReady bs b node) where
     below : node < nodeCount bs
     below = goal-lower bs (nodeCount bs) node (Q .goal-node)
 
@@ -252,37 +265,35 @@ module _ {bs steps nodes : List ℕ} {linear : List Bool} {b : Branch} (R : Read
     never-ends k w q = rw (q, reads-never bs node k) (at-once {r = Ended (endedW b false false)} (fails-here (R .at)))
 
     -- a part that is a goal, in a branch with the same entries and nesting
-    part-ready : (part : ℕ) (b′ : Branch) → goalPart bs node part ≡ true → heightAt bs part < heightAt bs node → b′ .count ≡ b .count
-        → b′ .depth ≡ b .depth → b′ .rules ≡ b .rules → GoalReady bs b′ part
+    part-ready : (part : ℕ) (b′ : Position) → goalPart bs node part ≡ true → heightAt bs part < heightAt bs node → b′ .count ≡ b .count
+        → b′ .depth ≡ b .depth → b′ .rules ≡ b .rules → GoalWalkReady bs b′ part
     part-ready part b′ p h ec ed er = record {
       goal-node = goal-above bs node part (nodeCount bs) (let l = below in omega arith) p;
       deep = let q = Q .deep in omega arith;
     }
 
     module _ (big : 3 < kindAt bs node) (not-nine : kindAt bs node ≡ 9 → ⊥) where
-      lower : (leftAt bs node < node) × (rightAt bs node < node)
-      lower = parts-below (R .sound) node below big not-nine
-
       heights : (heightAt bs (leftAt bs node) < heightAt bs node) × (heightAt bs (rightAt bs node) < heightAt bs node)
       heights = height-parts (R .sound) node below big not-nine
 
       -- two parts that are goals
-      module _ (first : goalPart bs node (leftAt bs node) ≡ true) (second : goalPart bs node (rightAt bs node) ≡ true) where
-        pub left-call : (t : ℕ) → weight b + 4 * node + 2 ≡ t → (l : ℕ) → l ≡ leftAt bs node
-            → (weight b + 4 * l + 3 < t) × (Ready bs steps nodes linear b × GoalReady bs b l)
+      module _ (first : goalPart bs node (leftAt bs node) ≡ true) (second : goalPart bs node (rightAt bs node) ≡ true)
+          (light : weight (goalAt bs (leftAt bs node)) + weight (goalAt bs (rightAt bs node)) < weight (goalAt bs node)) where
+        pub left-call : (t : ℕ) → goalNumber bs b node + 2 ≡ t → (l : ℕ) → l ≡ leftAt bs node
+            → (goalNumber bs b l + 3 < t) × (WalkReady bs steps nodes linear b × GoalWalkReady bs b l)
         left-call t m l e = rw e (
-          let low = lower in omega arith,
+          omega arith,
           (R, part-ready (leftAt bs node) b first (heights .0) refl refl refl),
         )
 
         pub right-call : {nodes₁ : List ℕ} {linear₁ : List Bool} {p : Part} (w : Summary) {x : Walked} → x ≡ Ended w
             → PartWalks bs steps nodes nodes₁ linear linear₁ b p x
-            → (t : ℕ) → weight b + 4 * node + 2 ≡ t → (r : ℕ) → r ≡ rightAt bs node → (met : ℕ) → (met ≡ w .met) ⊎ (met ≡ b .met)
-            → (b₂ : Branch) → b₂ ≡ onB b (w .at) met
-            → (weight b₂ + 4 * r + 3 < t) × (Ready bs steps nodes₁ linear₁ b₂ × GoalReady bs b₂ r)
+            → (t : ℕ) → goalNumber bs b node + 2 ≡ t → (r : ℕ) → r ≡ rightAt bs node → (met : ℕ) → (met ≡ w .met) ⊎ (met ≡ b .met)
+            → (b₂ : Position) → b₂ ≡ onB b (w .at) met
+            → (goalNumber bs b₂ r + 3 < t) × (WalkReady bs steps nodes₁ linear₁ b₂ × GoalWalkReady bs b₂ r)
         right-call {nodes₁} {linear₁} {p} w e W t m r er met em b₂ eb = rw (er, eb) (
             let F : PartWalks bs steps nodes nodes₁ linear linear₁ b p (Ended w) = rw e at W in (
-              let low = lower in let k = lighter F met in omega arith,
+              let k = lighter F met in omega arith,
               (ready-on F met (met-low F met em), part-ready (rightAt bs node) (onB b (w .at) met) second (heights .1) refl refl refl),
             )
             )
@@ -295,11 +306,17 @@ module _ {bs steps nodes : List ℕ} {linear : List Bool} {b : Branch} (R : Read
 
     pub tensor-parts : kindAt bs node ≡ 4 → (3 < kindAt bs node) × (kindAt bs node ≡ 9 → ⊥)
         × (goalPart bs node (leftAt bs node) ≡ true) × (goalPart bs node (rightAt bs node) ≡ true)
-    tensor-parts k = let p = both-parts (R .sound) node below k in (omega arith, λ e. omega (arith, e, k), p .0, p .1)
+        × (weight (goalAt bs (leftAt bs node)) + weight (goalAt bs (rightAt bs node)) < weight (goalAt bs node))
+    tensor-parts k =
+        let p = both-parts (R .sound) node below k in
+        (omega arith, λ e. omega (arith, e, k), p .0, p .1, both-weight (R .sound) node below k)
 
     pub with-parts : kindAt bs node ≡ 5 → (3 < kindAt bs node) × (kindAt bs node ≡ 9 → ⊥)
         × (goalPart bs node (leftAt bs node) ≡ true) × (goalPart bs node (rightAt bs node) ≡ true)
-    with-parts k = let p = either-parts (R .sound) node below k in (omega arith, λ e. omega (arith, e, k), p .0, p .1)
+        × (weight (goalAt bs (leftAt bs node)) + weight (goalAt bs (rightAt bs node)) < weight (goalAt bs node))
+    with-parts k =
+        let p = either-parts (R .sound) node below k in
+        (omega arith, λ e. omega (arith, e, k), p .0, p .1, either-weight (R .sound) node below k)
 
     -- what a node of each kind reads as is walked as
     module _ (l : ℕ) (el : l ≡ leftAt bs node) (m : ℕ) (em : m ≡ rightAt bs node) where
@@ -321,9 +338,6 @@ module _ {bs steps nodes : List ℕ} {linear : List Bool} {b : Branch} (R : Read
 
     -- D ⊸ G
     module _ (kind : kindAt bs node ≡ 6) where
-      lower-6 : (leftAt bs node < node) × (rightAt bs node < node)
-      lower-6 = lower (omega arith) (λ e. omega (arith, e, kind))
-
       heights-6 : (heightAt bs (leftAt bs node) < heightAt bs node) × (heightAt bs (rightAt bs node) < heightAt bs node)
       heights-6 = heights (omega arith) (λ e. omega (arith, e, kind))
 
@@ -340,8 +354,8 @@ module _ {bs steps nodes : List ℕ} {linear : List Bool} {b : Branch} (R : Read
           (omega arith, (R .entered .node-room, R .entered .linear-room))
 
       module _ (c : ℕ) (ec : c ≡ leftAt bs node) {nodes₁ : List ℕ} {linear₁ : List Bool} (en : nodes₁ ≡ set nodes (b .count) c)
-          (el : linear₁ ≡ set linear (b .count) true) (b₁ : Branch) (eb : b₁ ≡ lentB b) where
-        ready-lent : Ready bs steps (set nodes (b .count) c) (set linear (b .count) true) (lentB b)
+          (el : linear₁ ≡ set linear (b .count) true) (b₁ : Position) (eb : b₁ ≡ lentP b) where
+        ready-lent : WalkReady bs steps (set nodes (b .count) c) (set linear (b .count) true) (lentP b)
         ready-lent = record {
           sound = R .sound;
           rules = R .rules;
@@ -356,15 +370,15 @@ module _ {bs steps nodes : List ℕ} {linear : List Bool} {b : Branch} (R : Read
           met = R .met;
         }
 
-        lent-scope : scopeIn bs (set nodes (b .count) c) (set linear (b .count) true) (b .count + 1) ≡ lend es (clauseOf bs c)
+        lent-scope : tableScope bs (set nodes (b .count) c) (set linear (b .count) true) (b .count + 1) ≡ lend es (clauseOf bs c)
         lent-scope =
             let q = put-room in
             rw (add-one (b .count)) (lend-scope bs nodes linear (b .count) c (omega (arith, q .1 .0)) (omega (arith, q .1 .1)))
 
-        pub lend-call : (t : ℕ) → weight b + 4 * node + 2 ≡ t → (r : ℕ) → r ≡ rightAt bs node
-            → (weight b₁ + 4 * r + 3 < t) × (Ready bs steps nodes₁ linear₁ b₁ × GoalReady bs b₁ r)
+        pub lend-call : (t : ℕ) → goalNumber bs b node + 2 ≡ t → (r : ℕ) → r ≡ rightAt bs node
+            → (goalNumber bs b₁ r + 3 < t) × (WalkReady bs steps nodes₁ linear₁ b₁ × GoalWalkReady bs b₁ r)
         lend-call t m r er = rw (eb, er, en, el) (
-          let low = lower-6 in omega arith,
+          let light = lend-weight (R .sound) node below kind in omega arith,
           (
             ready-lent,
             record {
@@ -378,7 +392,7 @@ module _ {bs steps nodes : List ℕ} {linear : List Bool} {b : Branch} (R : Read
 
         module _ (r : ℕ) (er : r ≡ rightAt bs node) {nodes₂ : List ℕ} {linear₂ : List Bool} {x : Walked}
             (X : PartWalks bs steps nodes₁ nodes₂ linear₁ linear₂ b₁ (goal (goalAt bs r)) x) where
-          inner : PartWalks bs steps (set nodes (b .count) c) nodes₂ (set linear (b .count) true) linear₂ (lentB b)
+          inner : PartWalks bs steps (set nodes (b .count) c) nodes₂ (set linear (b .count) true) linear₂ (lentP b)
               (goal (goalAt bs (rightAt bs node))) x
           inner = rw (eb, er, en, el) at X
 
@@ -395,18 +409,18 @@ module _ {bs steps nodes : List ℕ} {linear : List Bool} {b : Branch} (R : Read
           pub lend-lost : {f : Refusal} → x ≡ Astray f → PartWalks bs steps nodes nodes₂ linear linear₂ b (goal (goalAt bs node)) x
           unfolding Tells
           lend-lost {f} e = rw (e, as-lend) (record {
-            tells = lend-stops (subst (λ s. StopsWith steps (lentB b) s (goal (goalAt bs (rightAt bs node))) f) lent-scope
+            tells = lend-stops (subst (λ s. StopsWith steps (lentP b) s (goal (goalAt bs (rightAt bs node))) f) lent-scope
                 (let t = inner .tells in rw e at t));
             node-kept = node-back;
             linear-kept = linear-back;
           })
 
-          pub lend-done : (w u : Summary) → x ≡ Ended w → u ≡ withoutW w (b .count - b .rules)
+          pub lend-done : (w u : Summary) → x ≡ Ended w → u ≡ withoutS w (b .count - b .rules)
               → PartWalks bs steps nodes nodes₂ linear linear₂ b (goal (goalAt bs node)) (Ended u)
           unfolding Tells
           lend-done w u e q = rw (q, as-lend) (record {
             tells = lend-ends rules-below (scope-size bs nodes linear (b .count)) lent-lax
-                (subst (λ s. EndsWith (strictOf bs) steps (lentB b) s (goal (goalAt bs (rightAt bs node))) w) lent-scope
+                (subst (λ s. EndsWith (strictOf bs) steps (lentP b) s (goal (goalAt bs (rightAt bs node))) w) lent-scope
                 (let t = inner .tells in rw e at t));
             node-kept = node-back;
             linear-kept = linear-back;
@@ -417,34 +431,35 @@ module _ {bs steps nodes : List ℕ} {linear : List Bool} {b : Branch} (R : Read
       as-one-of : goalAt bs node ≡ oplus (goalAt bs (leftAt bs node)) (goalAt bs (rightAt bs node))
       as-one-of = sound-one-of (R .sound) node below kind
 
-      module _ {c m : ℕ} (s : Chosen bs node true true c m) where
-        -- the part taken is a goal below the node, less high
-        one-of-part : (goalPart bs node m ≡ true) × ((m < node) × (heightAt bs m < heightAt bs node))
+      module _ {c m : ℕ} (s : SideChosen bs node true true c m) where
+        -- the part taken is a goal, smaller and less high
+        one-of-part : (goalPart bs node m ≡ true) × ((weight (goalAt bs m) < weight (goalAt bs node)) × (heightAt bs m < heightAt bs node))
         one-of-part =
-            let l = lower (omega arith) (λ e. omega (arith, e, kind)) in
+            let l = one-of-weight (R .sound) node below kind in
             let h = heights (omega arith) (λ e. omega (arith, e, kind)) in
             let p = one-of-parts (R .sound) node below kind in
-            ⊎-elim (λ s. rw (s .1 .1) (p .0, (l .0, h .0))) (λ s. rw (s .1 .1) (p .1, (l .1, h .1))) s
+            ⊎-elim (λ s. rw (s .1 .1) (p .0, (omega arith, h .0))) (λ s. rw (s .1 .1) (p .1, (omega arith, h .1))) s
 
         one-of-side : Side es (goal (goalAt bs node)) c (goal (goalAt bs m))
         one-of-side = ⊎-elim (λ s. rw (as-one-of, s .1 .1) (side-⊕₁ (s .0))) (λ s. rw (as-one-of, s .1 .1) (side-⊕₂ (s .0))) s
 
-      module _ {y : Step} (S : Siding bs steps b node true true y) where
-        pub one-of-lost : {f : Refusal} → y ≡ Wrong f → PartWalks bs steps nodes nodes linear linear b (goal (goalAt bs node)) (Astray f)
-        unfolding Siding Tells
-        one-of-lost {f} e = rw as-one-of (at-once {r = Astray f} (one-of-stops (rw e at S)))
+      module _ {y : Step} (S : SideTaking bs steps b node true true y) where
+        pub one-of-lost : {f : Refusal} → y ≡ Wrong f → (x : Walked) → x ≡ astrayW y
+            → PartWalks bs steps nodes nodes linear linear b (goal (goalAt bs node)) x
+        unfolding SideTaking Tells
+        one-of-lost {f} e x q = rw (stray e x q, as-one-of) (at-once {r = Astray f} (one-of-stops (rw e at S)))
 
         module _ (m : ℕ) (q : y ≡ Taken m) where
           one-of-takes : CanChoose bs steps b node true true m
-          unfolding Siding
+          unfolding SideTaking
           one-of-takes = rw q at S
 
           pub one-of-room : (b .at < 255) × (0 ≤ b .depth)
           one-of-room = stepped-room one-of-takes
 
-          module _ (b₁ : Branch) (eb : b₁ ≡ steppedB b 0) where
-            pub one-of-call : (t : ℕ) → weight b + 4 * node + 2 ≡ t
-                → (weight b₁ + 4 * m + 3 < t) × (Ready bs steps nodes linear b₁ × GoalReady bs b₁ m)
+          module _ (b₁ : Position) (eb : b₁ ≡ steppedB b 0) where
+            pub one-of-call : (t : ℕ) → goalNumber bs b node + 2 ≡ t
+                → (goalNumber bs b₁ m + 3 < t) × (WalkReady bs steps nodes linear b₁ × GoalWalkReady bs b₁ m)
             one-of-call t e =
                 let p = one-of-part (one-of-takes .chosen) in (
                   let w = lighter-stepped one-of-takes b₁ eb in omega (arith, p .1 .0, w),
@@ -465,16 +480,17 @@ module _ {bs steps nodes : List ℕ} {linear : List Bool} {b : Branch} (R : Read
       as-atom = reads-name bs node kind .0 ∙ ap atomᴳ (sym en)
 
       module _ {y : Step} (S : Stepping bs steps nodes linear b name y) where
-        pub atom-lost : {f : Refusal} → y ≡ Wrong f → PartWalks bs steps nodes nodes linear linear b (goal (goalAt bs node)) (Astray f)
+        pub atom-lost : {f : Refusal} → y ≡ Wrong f → (x : Walked) → x ≡ astrayW y
+            → PartWalks bs steps nodes nodes linear linear b (goal (goalAt bs node)) x
         unfolding Stepping Tells
-        atom-lost {f} e = rw as-atom (at-once {r = Astray f} (rw e at S))
+        atom-lost {f} e x q = rw (stray e x q, as-atom) (at-once {r = Astray f} (rw e at S))
 
-        pub atom-call : (e : ℕ) → y ≡ Taken e → (t : ℕ) → weight b + 4 * node + 2 ≡ t
-            → (weight b < t) × (Ready bs steps nodes linear b × (CanUse bs steps nodes b name e
+        pub atom-call : (e : ℕ) → y ≡ Taken e → (t : ℕ) → goalNumber bs b node + 2 ≡ t
+            → (ahead b < t) × (WalkReady bs steps nodes linear b × (StepUsable bs steps nodes b name e
             × (b .count + 1 + 6 * b .depth ≤ b .rules + 168)))
         unfolding Stepping
         atom-call e q t m =
-            let u : CanUse bs steps nodes b name e = rw q at S in
+            let u : StepUsable bs steps nodes b name e = rw q at S in
             (omega arith, (R, (u, (let d = Q .deep in let h = height-pos bs node in omega arith))))
 
       pub atom-done : {nodes₂ : List ℕ} {linear₂ : List Bool} {x : Walked}
@@ -494,7 +510,7 @@ module _ {bs steps nodes : List ℕ} {linear : List Bool} {b : Branch} (R : Read
     -- a name that is met
     pub head-ends : kindAt bs node ≡ 1 → (w : Summary) → w ≡ endedW b false true
         → PartWalks bs steps nodes nodes linear linear b (meet name (clauseOf bs node)) (Ended w)
-    unfolding Tells scopeIn
+    unfolding Tells tableScope
     head-ends k w q = rw (q, reads-name bs node k .1)
         (at-once {r = Ended (endedW b false true)} (ends-here false (R .at)
         (λ g e. traced-head (sym (usable-name bs node k (scopeOf bs .fits) name) ∙ Q .fitting) e)))
@@ -508,8 +524,8 @@ module _ {bs steps nodes : List ℕ} {linear : List Bool} {b : Branch} (R : Read
 
     -- G ⊸ D
     module _ (kind : kindAt bs node ≡ 7) where
-      lower-7 : (leftAt bs node < node) × (rightAt bs node < node)
-      lower-7 = parts-below (R .sound) node clause-below (omega arith) (λ e. omega (arith, e, kind))
+      light-7 : weight (goalAt bs (leftAt bs node)) + clauseWeight (clauseOf bs (rightAt bs node)) < clauseWeight (clauseOf bs node)
+      light-7 = recipe-weight (R .sound) node clause-below kind
 
       module _ (m : ℕ) (em : m ≡ rightAt bs node) (l : ℕ) (el : l ≡ leftAt bs node) where
         pub recipe-both : Both (meet name (clauseOf bs node)) (meet name (clauseOf bs m)) (goal (goalAt bs l))
@@ -519,10 +535,10 @@ module _ {bs steps nodes : List ℕ} {linear : List Bool} {b : Branch} (R : Read
             → Traced (b .depth) es (goal (goalAt bs l)) g W → Traced (b .depth) es (meet name (clauseOf bs node)) h (U ∪ W)
         recipe-joins f g h U W s c d = rw (sound-recipe (R .sound) node clause-below kind) (traced-recipe s (rw em at c) (rw el at d))
 
-      pub recipe-call : (t : ℕ) → weight b + 4 * node + 2 ≡ t → (r : ℕ) → r ≡ rightAt bs node
-          → (weight b + 4 * r + 2 < t) × (Ready bs steps nodes linear b × ClauseReady bs b name r)
+      pub recipe-call : (t : ℕ) → clauseNumber bs b node + 2 ≡ t → (r : ℕ) → r ≡ rightAt bs node
+          → (clauseNumber bs b r + 2 < t) × (WalkReady bs steps nodes linear b × ClauseReady bs b name r)
       recipe-call t m r e = rw e (
-        let low = lower-7 in omega arith,
+        let light = light-7 in omega arith,
         (
           R,
           record {
@@ -537,11 +553,11 @@ module _ {bs steps nodes : List ℕ} {linear : List Bool} {b : Branch} (R : Read
 
       pub condition-call : {nodes₁ : List ℕ} {linear₁ : List Bool} {p : Part} (w : Summary) {x : Walked} → x ≡ Ended w
           → PartWalks bs steps nodes nodes₁ linear linear₁ b p x
-          → (t : ℕ) → weight b + 4 * node + 2 ≡ t → (l : ℕ) → l ≡ leftAt bs node → (b₂ : Branch) → b₂ ≡ onB b (w .at) (w .met)
-          → (weight b₂ + 4 * l + 3 < t) × (Ready bs steps nodes₁ linear₁ b₂ × GoalReady bs b₂ l)
+          → (t : ℕ) → clauseNumber bs b node + 2 ≡ t → (l : ℕ) → l ≡ leftAt bs node → (b₂ : Position) → b₂ ≡ onB b (w .at) (w .met)
+          → (goalNumber bs b₂ l + 3 < t) × (WalkReady bs steps nodes₁ linear₁ b₂ × GoalWalkReady bs b₂ l)
       condition-call {nodes₁} {linear₁} {p} w e W t m l el b₂ eb = rw (el, eb) (
           let F : PartWalks bs steps nodes nodes₁ linear linear₁ b p (Ended w) = rw e at W in (
-            let low = lower-7 in let k = lighter F (w .met) in omega arith,
+            let light = light-7 in let k = lighter F (w .met) in omega arith,
             (
               ready-on F (w .met) (met-low F (w .met) (inl refl)),
               record {
@@ -568,38 +584,40 @@ module _ {bs steps nodes : List ℕ} {linear : List Bool} {b : Branch} (R : Read
       as-menu = sound-menu (R .sound) node clause-below kind
 
       module _ {first second : Bool} (F : Fitting bs name node first second) where
-        module _ {c m : ℕ} (s : Chosen bs node first second c m) where
-          -- the part taken is a clause below the node that can be used for the name
-          menu-part : (clausePart bs (nodeCount bs) m ≡ true) × ((m < node) × (usable (scopeOf bs .fits) name (clauseOf bs m) ≡ true))
+        module _ {c m : ℕ} (s : SideChosen bs node first second c m) where
+          -- the part taken is a smaller clause that can be used for the name
+          menu-part : (clausePart bs (nodeCount bs) m ≡ true)
+              × ((clauseWeight (clauseOf bs m) < clauseWeight (clauseOf bs node)) × (usable (scopeOf bs .fits) name (clauseOf bs m) ≡ true))
           menu-part =
               let p = menu-clauses in
-              let l = parts-below (R .sound) node clause-below (omega arith) (λ e. omega (arith, e, kind)) in
-              ⊎-elim (λ s. rw (s .1 .1) (p .0, (l .0, sym (F .left-fits) ∙ s .1 .0)))
-              (λ s. rw (s .1 .1) (p .1, (l .1, sym (F .right-fits) ∙ s .1 .0))) s
+              let l = menu-weight (R .sound) node clause-below kind in
+              ⊎-elim (λ s. rw (s .1 .1) (p .0, (omega arith, sym (F .left-fits) ∙ s .1 .0)))
+              (λ s. rw (s .1 .1) (p .1, (omega arith, sym (F .right-fits) ∙ s .1 .0))) s
 
           menu-side : Side es (meet name (clauseOf bs node)) c (meet name (clauseOf bs m))
-          unfolding scopeIn
+          unfolding tableScope
           menu-side =
               ⊎-elim (λ s. rw (as-menu, s .1 .1) (side-&₁ (s .0) (sym (F .left-fits) ∙ s .1 .0)))
               (λ s. rw (as-menu, s .1 .1) (side-&₂ (s .0) (sym (F .right-fits) ∙ s .1 .0))) s
 
-        module _ {y : Step} (S : Siding bs steps b node first second y) where
-          pub menu-lost : {f : Refusal} → y ≡ Wrong f
-              → PartWalks bs steps nodes nodes linear linear b (meet name (clauseOf bs node)) (Astray f)
-          unfolding Siding Tells scopeIn
-          menu-lost {f} e = rw as-menu (at-once {r = Astray f} (menu-stops (rw (e, F .left-fits, F .right-fits) at S)))
+        module _ {y : Step} (S : SideTaking bs steps b node first second y) where
+          pub menu-lost : {f : Refusal} → y ≡ Wrong f → (x : Walked) → x ≡ astrayW y
+              → PartWalks bs steps nodes nodes linear linear b (meet name (clauseOf bs node)) x
+          unfolding SideTaking Tells tableScope
+          menu-lost {f} e x q =
+              rw (stray e x q, as-menu) (at-once {r = Astray f} (menu-stops (rw (e, F .left-fits, F .right-fits) at S)))
 
           module _ (m : ℕ) (q : y ≡ Taken m) where
             menu-takes : CanChoose bs steps b node first second m
-            unfolding Siding
+            unfolding SideTaking
             menu-takes = rw q at S
 
             pub menu-room : (b .at < 255) × (0 ≤ b .depth)
             menu-room = stepped-room menu-takes
 
-            module _ (b₁ : Branch) (eb : b₁ ≡ steppedB b 0) where
-              pub menu-call : (t : ℕ) → weight b + 4 * node + 1 ≡ t
-                  → (weight b₁ + 4 * m + 2 < t) × (Ready bs steps nodes linear b₁ × ClauseReady bs b₁ name m)
+            module _ (b₁ : Position) (eb : b₁ ≡ steppedB b 0) where
+              pub menu-call : (t : ℕ) → clauseNumber bs b node + 1 ≡ t
+                  → (clauseNumber bs b₁ m + 2 < t) × (WalkReady bs steps nodes linear b₁ × ClauseReady bs b₁ name m)
               menu-call t e =
                   let p = menu-part (menu-takes .chosen) in (
                     let w = lighter-stepped menu-takes b₁ eb in omega (arith, p .1 .0, w),
@@ -616,17 +634,16 @@ module _ {bs steps nodes : List ℕ} {linear : List Bool} {b : Branch} (R : Read
 
   -- The use of an entry
 
-  module _ (name e : ℕ) (U : CanUse bs steps nodes b name e) where
+  module _ (name e : ℕ) (U : StepUsable bs steps nodes b name e) where
     entry-clause : clausePart bs (nodeCount bs) (getD nodes e 0) ≡ true
     entry-clause = R .entered .clauses e (U .inside)
 
-    pub use-call : b .count + 1 + 6 * b .depth ≤ b .rules + 168 → (t : ℕ) → weight b ≡ t → (node : ℕ) → node ≡ getD nodes e 0
-        → (b₁ : Branch) → b₁ ≡ steppedB b 1
-        → (weight b₁ + 4 * node + 2 < t) × (Ready bs steps nodes linear b₁ × ClauseReady bs b₁ name node)
+    pub use-call : b .count + 1 + 6 * b .depth ≤ b .rules + 168 → (t : ℕ) → ahead b ≡ t → (node : ℕ) → node ≡ getD nodes e 0
+        → (b₁ : Position) → b₁ ≡ steppedB b 1
+        → (clauseNumber bs b₁ node + 2 < t) × (WalkReady bs steps nodes linear b₁ × ClauseReady bs b₁ name node)
     use-call room t m node en b₁ eb = rw (eb, en) (
       (
-          let l = clause-lower bs (nodeCount bs) (getD nodes e 0) entry-clause in
-          let f = sound-front bs (R .sound) .few in
+          let l = clause-low (R .sound) (getD nodes e 0) entry-clause in
           let d = U .deep in let r = U .room in omega arith
           ),
       (
@@ -648,13 +665,13 @@ module _ {bs steps nodes : List ℕ} {linear : List Bool} {b : Branch} (R : Read
     pub item-low : getD linear e false ≡ true → b .rules ≤ e
     item-low gone = let l = R .entered .items e (U .inside) gone in let r = R .rules in omega arith
 
-    module _ (node : ℕ) (en : node ≡ getD nodes e 0) (b₁ : Branch) (eb : b₁ ≡ steppedB b 1) {nodes₂ : List ℕ} {linear₂ : List Bool}
+    module _ (node : ℕ) (en : node ≡ getD nodes e 0) (b₁ : Position) (eb : b₁ ≡ steppedB b 1) {nodes₂ : List ℕ} {linear₂ : List Bool}
         {x : Walked} (X : PartWalks bs steps nodes nodes₂ linear linear₂ b₁ (meet name (clauseOf bs node)) x) where
       conditions : PartWalks bs steps nodes nodes₂ linear linear₂ (steppedB b 1) (meet name (clauseAt es e)) x
       conditions = rw (scope-clause bs nodes linear (b .count) e (U .inside), ← en, ← eb) X
 
       pub use-lost : {f : Refusal} → x ≡ Astray f → PartWalks bs steps nodes nodes₂ linear linear₂ b (goal (atomᴳ name)) x
-      unfolding Tells scopeIn
+      unfolding Tells tableScope
       use-lost q = rw q (record {
         tells = use-stops (U .deep) (U .next) fits (let t = conditions .tells in rw q at t);
         node-kept = conditions .node-kept;

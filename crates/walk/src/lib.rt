@@ -5,19 +5,20 @@ use card::format::kind;
 use card::format::left;
 use card::format::line_byte;
 use card::format::right;
-use summary::Branch;
+use summary::Position;
 use summary::Step;
 use summary::Walked;
+use summary::astray;
 use summary::next_side;
 use summary::next_step;
 ghost use mathlib.Core.Path.{_≡_};
 ghost use Prim.Native.Nat.{_+_, _*_, _≤_};
 ghost use Rattle.card.specs.Format.{kindAt};
 ghost use Rattle.card.specs.Fault.{Sound};
-ghost use Rattle.lines.specs.Inner.Set.{member};
-ghost use Rattle.lines.specs.Inner.Count.{bit};
+ghost use Rattle.lines.specs.Set.{member};
+ghost use Rattle.lines.specs.Count.{bit};
 ghost use Rattle.scope.specs.Inner.Sets.{strictOf};
-ghost use Rattle.summary.specs.Inner.Walks.{Ready, GoalReady, ClauseReady, CanUse, GoalWalks, ClauseWalks, UseWalks};
+ghost use Rattle.summary.specs.Inner.Walks.{WalkReady, GoalWalkReady, ClauseReady, StepUsable, GoalWalks, ClauseWalks, UseWalks};
 
 // A goal.
 pub fn walk(
@@ -25,11 +26,11 @@ pub fn walk(
     steps: &[u8],
     nodes: &mut [u16; 256],
     linear: &mut [bool; 256],
-    b: Branch,
+    b: Position,
     node: usize,
 ) -> Walked
-    requires { ⌜ Ready (now card) (now steps) (now nodes) (now linear) b ⌝ }
-    requires { ⌜ GoalReady (now card) b node ⌝ }
+    requires { ⌜ WalkReady (now card) (now steps) (now nodes) (now linear) b ⌝ }
+    requires { ⌜ GoalWalkReady (now card) b node ⌝ }
     ensures { λ r. ⌜ GoalWalks (now (card .entry)) (now (steps .entry)) (now (nodes .entry)) (now (nodes .exit))
         (now (linear .entry)) (now (linear .exit)) b node r ⌝ }
 {
@@ -52,11 +53,11 @@ fn walk_tensor(
     steps: &[u8],
     nodes: &mut [u16; 256],
     linear: &mut [bool; 256],
-    b: Branch,
+    b: Position,
     node: usize,
 ) -> Walked
-    requires { ⌜ Ready (now card) (now steps) (now nodes) (now linear) b ⌝ }
-    requires { ⌜ GoalReady (now card) b node ⌝ }
+    requires { ⌜ WalkReady (now card) (now steps) (now nodes) (now linear) b ⌝ }
+    requires { ⌜ GoalWalkReady (now card) b node ⌝ }
     requires { ⌜ kindAt (now card) node ≡ 4 ⌝ }
     ensures { λ r. ⌜ GoalWalks (now (card .entry)) (now (steps .entry)) (now (nodes .entry)) (now (nodes .exit))
         (now (linear .entry)) (now (linear .exit)) b node r ⌝ }
@@ -80,11 +81,11 @@ fn walk_with(
     steps: &[u8],
     nodes: &mut [u16; 256],
     linear: &mut [bool; 256],
-    b: Branch,
+    b: Position,
     node: usize,
 ) -> Walked
-    requires { ⌜ Ready (now card) (now steps) (now nodes) (now linear) b ⌝ }
-    requires { ⌜ GoalReady (now card) b node ⌝ }
+    requires { ⌜ WalkReady (now card) (now steps) (now nodes) (now linear) b ⌝ }
+    requires { ⌜ GoalWalkReady (now card) b node ⌝ }
     requires { ⌜ kindAt (now card) node ≡ 5 ⌝ }
     ensures { λ r. ⌜ GoalWalks (now (card .entry)) (now (steps .entry)) (now (nodes .entry)) (now (nodes .exit))
         (now (linear .entry)) (now (linear .exit)) b node r ⌝ }
@@ -108,11 +109,11 @@ fn walk_lend(
     steps: &[u8],
     nodes: &mut [u16; 256],
     linear: &mut [bool; 256],
-    b: Branch,
+    b: Position,
     node: usize,
 ) -> Walked
-    requires { ⌜ Ready (now card) (now steps) (now nodes) (now linear) b ⌝ }
-    requires { ⌜ GoalReady (now card) b node ⌝ }
+    requires { ⌜ WalkReady (now card) (now steps) (now nodes) (now linear) b ⌝ }
+    requires { ⌜ GoalWalkReady (now card) b node ⌝ }
     requires { ⌜ kindAt (now card) node ≡ 6 ⌝ }
     ensures { λ r. ⌜ GoalWalks (now (card .entry)) (now (steps .entry)) (now (nodes .entry)) (now (nodes .exit))
         (now (linear .entry)) (now (linear .exit)) b node r ⌝ }
@@ -134,20 +135,20 @@ fn walk_one_of(
     steps: &[u8],
     nodes: &mut [u16; 256],
     linear: &mut [bool; 256],
-    b: Branch,
+    b: Position,
     node: usize,
 ) -> Walked
-    requires { ⌜ Ready (now card) (now steps) (now nodes) (now linear) b ⌝ }
-    requires { ⌜ GoalReady (now card) b node ⌝ }
+    requires { ⌜ WalkReady (now card) (now steps) (now nodes) (now linear) b ⌝ }
+    requires { ⌜ GoalWalkReady (now card) b node ⌝ }
     requires { ⌜ kindAt (now card) node ≡ 8 ⌝ }
     ensures { λ r. ⌜ GoalWalks (now (card .entry)) (now (steps .entry)) (now (nodes .entry)) (now (nodes .exit))
         (now (linear .entry)) (now (linear .exit)) b node r ⌝ }
 {
     let next = next_side(card, steps, b, node, true, true);
-    match next {
-        Step::Taken(side) => walk(card, steps, nodes, linear, b.stepped(0), side),
-        Step::Wrong(refusal) => Walked::Astray(refusal),
-    }
+    let Step::Taken(side) = next else {
+        return astray(next);
+    };
+    walk(card, steps, nodes, linear, b.stepped(0), side)
 }
 
 // A name.
@@ -156,21 +157,21 @@ fn walk_atom(
     steps: &[u8],
     nodes: &mut [u16; 256],
     linear: &mut [bool; 256],
-    b: Branch,
+    b: Position,
     node: usize,
 ) -> Walked
-    requires { ⌜ Ready (now card) (now steps) (now nodes) (now linear) b ⌝ }
-    requires { ⌜ GoalReady (now card) b node ⌝ }
+    requires { ⌜ WalkReady (now card) (now steps) (now nodes) (now linear) b ⌝ }
+    requires { ⌜ GoalWalkReady (now card) b node ⌝ }
     requires { ⌜ kindAt (now card) node ≡ 1 ⌝ }
     ensures { λ r. ⌜ GoalWalks (now (card .entry)) (now (steps .entry)) (now (nodes .entry)) (now (nodes .exit))
         (now (linear .entry)) (now (linear .exit)) b node r ⌝ }
 {
     let name = left(card, node);
     let next = next_step(card, steps, nodes, linear, b, name);
-    match next {
-        Step::Taken(e) => use_clause(card, steps, nodes, linear, b, name, e),
-        Step::Wrong(refusal) => Walked::Astray(refusal),
-    }
+    let Step::Taken(e) = next else {
+        return astray(next);
+    };
+    use_clause(card, steps, nodes, linear, b, name, e)
 }
 
 // 1 where the item is a must line, else 0.
@@ -190,12 +191,12 @@ fn use_clause(
     steps: &[u8],
     nodes: &mut [u16; 256],
     linear: &mut [bool; 256],
-    b: Branch,
+    b: Position,
     name: usize,
     e: usize,
 ) -> Walked
-    requires { ⌜ Ready (now card) (now steps) (now nodes) (now linear) b ⌝ }
-    requires { ⌜ CanUse (now card) (now steps) (now nodes) b name e ⌝ }
+    requires { ⌜ WalkReady (now card) (now steps) (now nodes) (now linear) b ⌝ }
+    requires { ⌜ StepUsable (now card) (now steps) (now nodes) b name e ⌝ }
     requires { ⌜ b .count + 1 + 6 * b .depth ≤ b .rules + 168 ⌝ }
     ensures { λ r. ⌜ UseWalks (now (card .entry)) (now (steps .entry)) (now (nodes .entry)) (now (nodes .exit))
         (now (linear .entry)) (now (linear .exit)) b name r ⌝ }
@@ -219,11 +220,11 @@ fn conditions(
     steps: &[u8],
     nodes: &mut [u16; 256],
     linear: &mut [bool; 256],
-    b: Branch,
+    b: Position,
     name: usize,
     node: usize,
 ) -> Walked
-    requires { ⌜ Ready (now card) (now steps) (now nodes) (now linear) b ⌝ }
+    requires { ⌜ WalkReady (now card) (now steps) (now nodes) (now linear) b ⌝ }
     requires { ⌜ ClauseReady (now card) b name node ⌝ }
     ensures { λ r. ⌜ ClauseWalks (now (card .entry)) (now (steps .entry)) (now (nodes .entry)) (now (nodes .exit))
         (now (linear .entry)) (now (linear .exit)) b name node r ⌝ }
@@ -254,11 +255,11 @@ fn menu(
     steps: &[u8],
     nodes: &mut [u16; 256],
     linear: &mut [bool; 256],
-    b: Branch,
+    b: Position,
     name: usize,
     node: usize,
 ) -> Walked
-    requires { ⌜ Ready (now card) (now steps) (now nodes) (now linear) b ⌝ }
+    requires { ⌜ WalkReady (now card) (now steps) (now nodes) (now linear) b ⌝ }
     requires { ⌜ ClauseReady (now card) b name node ⌝ }
     requires { ⌜ kindAt (now card) node ≡ 10 ⌝ }
     ensures { λ r. ⌜ ClauseWalks (now (card .entry)) (now (steps .entry)) (now (nodes .entry)) (now (nodes .exit))
@@ -267,8 +268,8 @@ fn menu(
     let first = scope::usable(card, left(card, node), name);
     let second = scope::usable(card, right(card, node), name);
     let next = next_side(card, steps, b, node, first, second);
-    match next {
-        Step::Taken(side) => conditions(card, steps, nodes, linear, b.stepped(0), name, side),
-        Step::Wrong(refusal) => Walked::Astray(refusal),
-    }
+    let Step::Taken(side) = next else {
+        return astray(next);
+    };
+    conditions(card, steps, nodes, linear, b.stepped(0), name, side)
 }

@@ -10,7 +10,7 @@ use Rattle.calculus.specs.Formula.{Fits, Goal, Clause, atomᴳ, topᴳ, oneᴳ,
 use Rattle.calculus.specs.Items.{Items, _∪_}
 use Rattle.calculus.specs.Derivation.{Scope, size, clauseAt, linearAt}
 use Rattle.agenda.specs.Inner.Agenda.{Agenda}
-use Rattle.lines.specs.Inner.Count.{bit}
+use Rattle.lines.specs.Count.{bit}
 use Rattle.bounds.specs.Inner.Count.{Class, count}
 
 -- the bounds of each name

@@ -6,11 +6,11 @@ use mathlib.Core.Bool.{Bool, true, false, _&&_}
 use mathlib.Core.List.{List}
 use lib.ListN.{length, getD}
 use Rattle.lines.specs.declared.LineSet.{LineSet}
-use Rattle.lines.specs.Inner.Set.{bitAt, member, joinS}
+use Rattle.lines.specs.Set.{bitAt, member, joinS}
 use Rattle.card.specs.Format.{ruleCount, lineCount, nodeCount, lineNode}
 use Rattle.card.specs.Fault.{goalPart}
 use Rattle.card.specs.Decode.{clauseOf}
-use Rattle.lines.specs.Inner.Count.{number}
+use Rattle.lines.specs.Count.{number}
 use Rattle.bounds.specs.Inner.Table.{NameCells, TableCells, OfCard, inClass, classes, lowAt, highAt, leastAt}
 
 -- the first n tasks are goals of the card

@@ -11,11 +11,11 @@ use mathlib.Core.List.{List, [], _∷_}
 use lib.ListN.{length, getD}
 use lib.Dec.{eqb, ltb}
 use Rattle.calculus.specs.Formula.{Clause, atomᴰ, topᴰ, lolliᴰ, withᴰ}
-use Rattle.lines.specs.Inner.Set.{bitAt}
+use Rattle.lines.specs.Set.{bitAt}
 use Rattle.card.specs.Format.{ruleCount, lineCount, nodeCount, kindAt, leftAt, rightAt, ruleNode, lineNode}
 use Rattle.card.specs.Fault.{Sound, clausePart}
 use Rattle.card.specs.Decode.{clauseOf, scopeOf}
-use Rattle.lines.specs.Inner.Count.{bit}
+use Rattle.lines.specs.Count.{bit}
 use Rattle.bounds.specs.Inner.Count.{Class}
 use Rattle.bounds.specs.Inner.Bound.{Names, off}
 
@@ -29,7 +29,7 @@ pub record TableCells (t : List ℕ) : Type 0 where
   pub byte : (i : ℕ) → getD t i 0 < 256
 
 -- what the functions over the table are handed
-pub record Held (bs names t : List ℕ) : Type 0 where
+pub record TableHeld (bs names t : List ℕ) : Type 0 where
   pub sound : Sound bs
   pub names-held : NameCells names
   pub table-held : TableCells t
@@ -102,11 +102,14 @@ pub record OnWay (i s l h : ℕ) : Type 0 where
   pub low : l + 256 * i ≤ 200000
   pub high : h + 256 * i ≤ 200000
 
--- the bounds of the name a take in s steps and l to h items of class c
-pub record HeadFits (names t : List ℕ) (a c s l h : ℕ) : Type 0 where
-  pub least : leastAt t (rowOf names a) ≤ s
-  pub low : lowAt t (rowOf names a) c ≤ l
-  pub high : highAt t (rowOf names a) c < 255 → h ≤ highAt t (rowOf names a) c
+-- the bounds at row r take in s steps and l to h items of class c; so do those of the name a, at its row
+pub record RowFits (t : List ℕ) (r c s l h : ℕ) : Type 0 where
+  pub least : leastAt t r ≤ s
+  pub low : lowAt t r c ≤ l
+  pub high : highAt t r c < 255 → h ≤ highAt t r c
+
+abbrev pub HeadFits : List ℕ → List ℕ → ℕ → ℕ → ℕ → ℕ → ℕ → Type 0
+HeadFits names t a c s l h = RowFits t (rowOf names a) c s l h
 
 module _ (bs names t : List ℕ) where
   unfoldable pub leastStep : ℕ → ℕ
@@ -154,6 +157,14 @@ module _ (bs names t : List ℕ) where
   pub record UseSettled (i : ℕ) (b : Bool) : Type 0 where
     pub class : (c : ℕ) → c < classes names
         → WaysFit (clauseOf bs i) i c 1 (bit (b && inClass names i c)) (bit (b && inClass names i c))
+
+-- the same of a bare name at node i, and of a recipe with the one condition g before a name, the name's bounds standing at row r
+pub record NameSettled (names t : List ℕ) (i : ℕ) (b : Bool) (r : ℕ) : Type 0 where
+  pub class : (c : ℕ) → c < classes names → RowFits t r c 1 (bit (b && inClass names i c)) (bit (b && inClass names i c))
+
+pub record RecipeSettled (names t : List ℕ) (i : ℕ) (b : Bool) (g r : ℕ) : Type 0 where
+  pub class : (c : ℕ) → c < classes names
+      → RowFits t r c (1 + leastAt t g) (bit (b && inClass names i c) + lowAt t g c) (bit (b && inClass names i c) + highAt t g c)
 
 -- The clauses that may come into scope, by node, and whether they are linear: those of rules, of lines, and of lends.
 pub data Origin (bs : List ℕ) : ℕ → Bool → Type 0 where

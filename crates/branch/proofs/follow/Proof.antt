@@ -29,7 +29,7 @@ unfolding wayIn
 departed ws h = λ i. record {
   at = other 0 (omega arith) i;
   used = record { low = other 1 (omega arith) i; mid = other 2 (omega arith) i; high = other 3 (omega arith) i };
-  seen = other 4 (omega arith) i;
+  seen = record { bits = other 4 (omega arith) i };
   slack = eqb (other 5 (omega arith) i) 1;
   kept = (ap (λ m. eqb m 1) (getD-set-same ws 6 0 0 (omega arith)) ∙ and-never (eqb (getD ws 6 0) 1)) i;
 }

@@ -22,7 +22,7 @@ flag-requires-2 c κs = search needs
 returns : tie.Need-returns
 unfolding wayIn
 returns c =
-    let start = c .before .before .before in
+    let start = c .before .before .before .before in
     let w = start .args .w in (
       λ i. record {
         at = w .at;

@@ -1,13 +1,13 @@
 -- What each change of a branch, of a way and of a floor is.
-use Prim.Native.Nat.{ℕ, _+_, _-_, _%_, _^_}
+use Prim.Native.Nat.{ℕ, _+_, _-_}
 use mathlib.Core.Path.{_≡_}
 use mathlib.Core.Bool.{Bool, true, false, cond, _&&_, _||_}
 use mathlib.Core.List.{List}
 use lib.ListN.{getD}
 use lib.Dec.{ltb, eqb}
-use lib.Bits.{bitOr}
-use Rattle.lines.specs.Inner.Count.{countS}
-use Rattle.lines.specs.Inner.Set.{member, isEmptyS, emptyS, addS, takeS, cutS, joinS}
+use Rattle.lines.specs.Count.{countS}
+use Rattle.lines.specs.Set.{member, isEmptyS, emptyS, addS, takeS, cutS, joinS}
+use Rattle.lines.specs.Inner.Word.{addL}
 use Rattle.branch.specs.declared.Branch.{Branch}
 use Rattle.branch.specs.declared.Way.{Way}
 use Rattle.branch.specs.declared.Floor.{Floor}
@@ -33,7 +33,7 @@ unfoldable pub wayIn : List ℕ → Way
 wayIn words = record {
   at = getD words 0 0;
   used = record { low = getD words 1 0; mid = getD words 2 0; high = getD words 3 0 };
-  seen = getD words 4 0;
+  seen = record { bits = getD words 4 0 };
   slack = eqb (getD words 5 0) 1;
   kept = eqb (getD words 6 0) 1;
 }
@@ -232,7 +232,7 @@ usingB b P T e len = record {
   strict = cond (ltb e P) (b .strict) (takeS (b .strict) (e - P));
   lax = cond (ltb e P) (b .lax) (takeS (b .lax) (e - P));
   used = cond (ltb e P) (b .used) (addS (b .used) (e - P));
-  seen = cond (ltb e P) (b .seen) (cond (ltb (e - P) T) (bitOr (b .seen) (2 ^ ((e - P) % 64))) (b .seen));
+  seen = cond (ltb e P) (b .seen) (cond (ltb (e - P) T) (addL (b .seen) (e - P)) (b .seen));
   slack = b .slack;
 }
 

@@ -59,9 +59,9 @@ sided es x y =
 unfoldable pub lent : Scope → Taking → List Taking
 lent es x = kept (x .slack || x .used (size es)) (taking (x .list) (x .used ∖ only (size es)) (x .slack))
 
-unfoldable pub spent : Bool → ℕ → Taking → List Taking
-spent false e x = taking (e ∷ x .list) (x .used) (x .slack) ∷ []
-spent true e x = kept (not (x .used e)) (taking (e ∷ x .list) (x .used ∪ only e) (x .slack))
+unfoldable pub takingUse : Bool → ℕ → Taking → List Taking
+takingUse false e x = taking (e ∷ x .list) (x .used) (x .slack) ∷ []
+takingUse true e x = kept (not (x .used e)) (taking (e ∷ x .list) (x .used ∪ only e) (x .slack))
 
 -- the same behind a choice
 unfoldable pub sideTaken : ℕ → Taking → Taking
@@ -82,7 +82,7 @@ takings names (lolliᴳ D G) es = flatMap (lent es) (takings names G (lend es D)
 unfoldable pub named : ℕ → ℕ → Scope → List Taking
 named zero a es = []
 named (suc n) a es =
-    flatMap (λ e. flatMap (spent (linearAt es e) e) (takings (named n) (residualAt es a e) es)) (below (size es))
+    flatMap (λ e. flatMap (takingUse (linearAt es e) e) (takings (named n) (residualAt es a e) es)) (below (size es))
 
 -- it takes no items but the job's, all strict ones unless there is slack, and no more steps than the limit
 unfoldable pub fitting : Job → Taking → Bool

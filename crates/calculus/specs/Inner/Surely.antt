@@ -22,8 +22,8 @@ abbrev pub sure : Items → List ℕ → Sure
 sure U l = record { used = U; rest = l }
 
 -- two parts one after the other
-unfoldable pub inTurn : (Items → Items → Items) → Sure → (List ℕ → Sure) → Sure
-inTurn op x f = sure (op (x .used) (f (x .rest) .used)) (f (x .rest) .rest)
+unfoldable pub surelyInTurn : (Items → Items → Items) → Sure → (List ℕ → Sure) → Sure
+surelyInTurn op x f = sure (op (x .used) (f (x .rest) .used)) (f (x .rest) .rest)
 
 -- the side that the next step takes
 unfoldable pub taken : (List ℕ → Sure) → (List ℕ → Sure) → List ℕ → Sure
@@ -40,8 +40,8 @@ goalSurely name (atomᴳ a) es l = name es a l
 goalSurely name topᴳ es l = sure ∅ l
 goalSurely name oneᴳ es l = sure ∅ l
 goalSurely name zeroᴳ es l = sure ∅ l
-goalSurely name (tensor G H) es l = inTurn _∪_ (goalSurely name G es l) (goalSurely name H es)
-goalSurely name (with G H) es l = inTurn _∩_ (goalSurely name G es l) (goalSurely name H es)
+goalSurely name (tensor G H) es l = surelyInTurn _∪_ (goalSurely name G es l) (goalSurely name H es)
+goalSurely name (with G H) es l = surelyInTurn _∩_ (goalSurely name G es l) (goalSurely name H es)
 goalSurely name (oplus G H) es l = taken (goalSurely name G es) (goalSurely name H es) l
 goalSurely name (lolliᴳ D G) es l = goalSurely name G (lend es D) l
 

@@ -1,10 +1,13 @@
--- What is left of the word of lines at hand.
-use Prim.Native.Nat.{_+_, _-_, _<_}
+-- What is left of the lines at hand.
+use Prim.Native.Nat.{_+_, _<_}
 use native.Mathlib.Omega.{arith}
-use lib.Bits.{and-le-r}
-use lib.Count.{trailingZeros, trailing-le}
+use mathlib.Core.Path.{_≡_, sym, _∙_}
+use mathlib.Core.Bool.{false}
+use lib.Count.{trailing-le}
 use borrow.Author.Tests.{not-true, not-false}
 use Rattle.card.proofs.CardChecked.{sound-front}
+use Rattle.lines.specs.Inner.Word.{isEmptyL}
+use Rattle.lines.proofs.LineLaws.{rest-less}
 use Rattle.choice.proofs.LinesAtHand.{Left, left-all, left-passed, left-none, lines-end, line-reached, line-passed}
 use Rattle.choice.proofs.skip_lines.Statement.{statement}
 use Rattle.choice.proofs.skip_lines.Tie as tie
@@ -13,7 +16,7 @@ abbrev Inv-loop : tie.InvT-loop
 Inv-loop card waits heads b name from rules end hand₀ hand = Left card waits heads b name from hand
 
 abbrev μ-loop : tie.MeasureT-loop
-μ-loop card waits heads b name from rules end hand₀ hand = hand
+μ-loop card waits heads b name from rules end hand₀ hand = hand .bits
 
 byte-requires : tie.Need-byte-requires Inv-loop μ-loop
 byte-requires c κs =
@@ -62,15 +65,26 @@ loop-holds c =
     let few = sound-front (start .args .card .now) (start .pre .0 .sound) .lines in
     left-all _ _ _ _ _ (start .pre .1) few (rw (at-byte .byte .ensures .0) at (c .hand-from .ensures))
 
-cast-e : tie.Need-cast-e Inv-loop μ-loop
-cast-e c = omega (arith, trailing-le 64 (c .before .loop .hand))
+is-empty-requires : tie.Need-is-empty-requires Inv-loop μ-loop
+is-empty-requires c κs = tt
+
+-- in a turn there is a line left
+some : (c : tie.Then2 Inv-loop μ-loop) → isEmptyL (c .before .before .loop .hand) ≡ false
+some c = sym (c .before .is-empty .ensures) ∙ not-true _ (c .if2 .taken)
+
+lowest-requires : tie.Need-lowest-requires Inv-loop μ-loop
+lowest-requires c κs = some c
 
 add-e : tie.Need-add-e Inv-loop μ-loop
-add-e c = omega (arith, trailing-le 64 (c .before .loop .hand), c .before .before .before .before .before .byte .ensures .1)
+add-e c =
+    let at-loop = c .before .before .before in
+    let at-byte = at-loop .before .before .before .before in
+    omega (arith, c .lowest .ensures, trailing-le 64 (at-loop .loop .hand .bits), at-byte .byte .ensures .1)
 
 returns-2 : tie.Need-returns-2 Inv-loop μ-loop
 returns-2 c =
-    let at-loop = c .before .before in
+    let at-lowest = c .before in
+    let at-loop = at-lowest .before .before .before in
     let at-if1 = at-loop .before .before in
     let at-byte2 = at-if1 .before in
     let at-byte = at-byte2 .before in
@@ -78,21 +92,23 @@ returns-2 c =
     let p = at-byte .byte .ensures .0 in
     let t = at-byte2 .byte2 .ensures .0 in
     lines-end _ _ _ _ _ (at-loop .loop .inv) (start .pre .1) _ (omega (arith, p, t)) (omega (arith, at-if1 .if1 .left))
-    (left-passed _ _ _ _ _ (at-loop .loop .inv) (start .pre .1) _ (omega (arith, c .if2 .taken, p)) (omega (arith, p, t)))
+    (left-passed _ _ _ _ _ (at-loop .loop .inv) (start .pre .1) _ (omega (arith, c .if3 .taken, at-lowest .lowest .ensures, p)) (omega (arith, p, t)))
 
 mul-code : tie.Need-mul-code Inv-loop μ-loop
 mul-code c =
-    let at-byte = c .before .before .before .before .before .before in
-    omega (arith, trailing-le 64 (c .before .before .loop .hand), at-byte .byte .ensures .1)
+    let at-lowest = c .before in
+    let at-loop = at-lowest .before .before .before in
+    let at-byte = at-loop .before .before .before .before in
+    omega (arith, at-lowest .lowest .ensures, trailing-le 64 (at-loop .loop .hand .bits), at-byte .byte .ensures .1)
 
 element-copy-out-code : tie.Need-element-copy-out-code Inv-loop μ-loop
 element-copy-out-code c =
-    let at-byte2 = c .before .before .before .before .before in
+    let at-byte2 = c .before .before .before .before .before .before .before in
     let at-byte = at-byte2 .before in
     let start = at-byte .before .before in
     omega (
       arith,
-      c .if2 .left,
+      c .if3 .left,
       at-byte .byte .ensures .0,
       at-byte2 .byte2 .ensures .0,
       start .pre .0 .scoped,
@@ -101,15 +117,15 @@ element-copy-out-code c =
 
 cast-code : tie.Need-cast-code Inv-loop μ-loop
 cast-code c =
-    let at-if2 = c .before in
-    let at-loop = at-if2 .before .before in
-    let at-byte2 = at-loop .before .before .before in
+    let at-if3 = c .before in
+    let at-lowest = at-if3 .before in
+    let at-byte2 = at-lowest .before .before .before .before .before .before in
     let at-byte = at-byte2 .before in
     let start = at-byte .before .before in
-    let e = at-byte .byte .result + trailingZeros 64 (at-loop .loop .hand) in
+    let e = at-byte .byte .result + at-lowest .lowest .result in
     let inside : e < start .args .b .count = omega (
       arith,
-      at-if2 .if2 .left,
+      at-if3 .if3 .left,
       at-byte .byte .ensures .0,
       at-byte2 .byte2 .ensures .0,
       start .pre .0 .scoped,
@@ -118,60 +134,67 @@ cast-code c =
     omega arith
 
 passes-line-requires : tie.Need-passes-line-requires Inv-loop μ-loop
-passes-line-requires c κs = let start = c .before .before .before .before .before .before .before .before .before in (start .pre .0 .sound, start .pre .0 .wait-room)
+passes-line-requires c κs =
+    let start = c .before .before .before .before .before .before .before .before .before .before .before in
+    (start .pre .0 .sound, start .pre .0 .wait-room)
 
 returns-3 : tie.Need-returns-3 Inv-loop μ-loop
 returns-3 c =
     let at-passes = c .before in
-    let at-if2 = at-passes .before .before in
-    let turn = at-if2 .before in
-    let at-loop = turn .before in
+    let at-if3 = at-passes .before .before in
+    let at-lowest = at-if3 .before in
+    let turn = at-lowest .before in
+    let at-loop = turn .before .before in
     let at-byte2 = at-loop .before .before .before in
     let at-byte = at-byte2 .before in
     let start = at-byte .before .before in
     let p = at-byte .byte .ensures .0 in
     let t = at-byte2 .byte2 .ensures .0 in
     let few = sound-front (start .args .card .now) (start .pre .0 .sound) .lines in
-    line-reached _ _ _ _ _ (at-loop .loop .inv) (start .pre .1) (turn .loop-test .taken) _ (omega (arith, p))
-    (omega (arith, at-if2 .if2 .left, p, t)) few (start .pre .0 .scoped)
-    (at-passes .passes-line .ensures .usable (not-true _ (c .if3 .taken)))
+    line-reached _ _ _ _ _ (at-loop .loop .inv) (start .pre .1) (some turn) _ (omega (arith, at-lowest .lowest .ensures, p))
+    (omega (arith, at-if3 .if3 .left, p, t)) few (start .pre .0 .scoped)
+    (at-passes .passes-line .ensures .usable (not-true _ (c .if4 .taken)))
 
-sub-hand : tie.Need-sub-hand Inv-loop μ-loop
-sub-hand c = let n = c .before .before .before .before .loop-test .taken in omega arith
+without-lowest-requires : tie.Need-without-lowest-requires Inv-loop μ-loop
+without-lowest-requires c κs = some (c .before .before .before .before .before)
 
 loop-less : tie.Need-loop-less Inv-loop μ-loop
 loop-less c =
-    let at-loop = c .before .before .before .before .before in
-    let n = c .before .before .before .before .loop-test .taken in
-    omega (arith, and-le-r (at-loop .loop .hand) (at-loop .loop .hand - 1))
+    let turn = c .before .before .before .before .before .before in
+    let at-loop = turn .before .before in
+    rw (c .without-lowest .ensures) (rest-less (at-loop .loop .hand) (at-loop .loop .inv .fits) (some turn))
 
 loop-again : tie.Need-loop-again Inv-loop μ-loop
 loop-again c =
-    let at-passes = c .before in
-    let at-if2 = at-passes .before .before in
-    let turn = at-if2 .before in
-    let at-loop = turn .before in
+    let at-if4 = c .before in
+    let at-passes = at-if4 .before in
+    let at-if3 = at-passes .before .before in
+    let at-lowest = at-if3 .before in
+    let turn = at-lowest .before in
+    let at-loop = turn .before .before in
     let at-byte2 = at-loop .before .before .before in
     let at-byte = at-byte2 .before in
     let start = at-byte .before .before in
     let p = at-byte .byte .ensures .0 in
     let t = at-byte2 .byte2 .ensures .0 in
     let few = sound-front (start .args .card .now) (start .pre .0 .sound) .lines in
-    line-passed _ _ _ _ _ (at-loop .loop .inv) (start .pre .1) (turn .loop-test .taken) _ (omega (arith, p))
-    (omega (arith, at-if2 .if2 .left, p, t)) few (start .pre .0 .scoped)
-    (at-passes .passes-line .ensures .unusable (not-false _ (c .if3 .left)))
+    rw (c .without-lowest .ensures)
+    (line-passed _ _ _ _ _ (at-loop .loop .inv) (start .pre .1) (some turn) _ (omega (arith, at-lowest .lowest .ensures, p))
+    (omega (arith, at-if3 .if3 .left, p, t)) few (start .pre .0 .scoped)
+    (at-passes .passes-line .ensures .unusable (not-false _ (at-if4 .if4 .left))))
 
 returns-4 : tie.Need-returns-4 Inv-loop μ-loop
 returns-4 c =
-    let at-loop = c .before in
+    let at-loop = c .before .before in
     let at-if1 = at-loop .before .before in
     let at-byte2 = at-if1 .before in
     let at-byte = at-byte2 .before in
     let start = at-byte .before .before in
     let p = at-byte .byte .ensures .0 in
     let t = at-byte2 .byte2 .ensures .0 in
+    let none = sym (c .before .is-empty .ensures) ∙ not-false _ (c .if2 .left) in
     lines-end _ _ _ _ _ (at-loop .loop .inv) (start .pre .1) _ (omega (arith, p, t)) (omega (arith, at-if1 .if1 .left))
-    (λ x h k. left-none _ _ _ _ _ (at-loop .loop .inv) (start .pre .1) (c .loop-test .left) x h (omega (arith, k, p, t)))
+    (λ x h k. left-none _ _ _ _ _ (at-loop .loop .inv) (start .pre .1) none x h (omega (arith, k, p, t)))
 
 pub skip-lines-spec : {M : Type 1} → statement M
 skip-lines-spec =
@@ -186,7 +209,8 @@ skip-lines-spec =
     sub-hand-from
     hand-from-requires
     loop-holds
-    cast-e
+    is-empty-requires
+    lowest-requires
     add-e
     returns-2
     mul-code
@@ -194,7 +218,7 @@ skip-lines-spec =
     cast-code
     passes-line-requires
     returns-3
-    sub-hand
+    without-lowest-requires
     loop-less
     loop-again
     returns-4)

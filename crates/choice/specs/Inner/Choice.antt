@@ -8,7 +8,8 @@ use lib.Dec.{leb, ltb, eqb}
 use Rattle.calculus.specs.Items.{_∪_}
 use Rattle.card.specs.Format.{ruleCount, lineCount, nodeCount, byteAt}
 use Rattle.card.specs.Fault.{Sound, clausePart}
-use Rattle.lines.specs.Inner.Set.{bitAt}
+use Rattle.lines.specs.declared.LineWord.{LineWord}
+use Rattle.lines.specs.Inner.Word.{lineIn, linesOf}
 use Rattle.scope.specs.Inner.Sets.{items}
 use Rattle.entries.specs.Inner.Entries.{codeFits}
 use Rattle.entries.specs.Inner.Masks.{readyBy}
@@ -62,10 +63,14 @@ pub record RulesMissed (bs heads : List ℕ) (name from e : ℕ) : Type 0 where
   pub passed : (x : ℕ) → from ≤ x → x < e → missesBy (getD heads x 0) name ≡ true
   pub stops : e < ruleCount bs → missesBy (getD heads e 0) name ≡ false
 
--- The word of the lines at hand from line i on.
-pub record HandFrom (b : Branch) (i word : ℕ) : Type 0 where
-  pub fits : word < 2 ^ 64
-  pub bits : (x : ℕ) → bitAt word x ≡ ((bitAt (b .strict .low) x || bitAt (b .lax .low) x) && not (ltb x i))
+-- line x is at hand
+abbrev pub lineAtHand : Branch → ℕ → Bool
+lineAtHand b x = lineIn (linesOf (b .strict)) x || lineIn (linesOf (b .lax)) x
+
+-- The lines at hand from line i on, as a word of the machine.
+pub record HandFrom (b : Branch) (i : ℕ) (hand : LineWord) : Type 0 where
+  pub fits : hand .bits < 2 ^ 64
+  pub line : (x : ℕ) → lineIn hand x ≡ (lineAtHand b x && not (ltb x i))
 
 -- What the entries from the given one up to e are, which cannot be used, and e itself, if it is below the end and has no menu.
 pub record Skips (bs waits heads : List ℕ) (b : Branch) (name end from e : ℕ) : Type 0 where

@@ -1,11 +1,16 @@
--- The row is told of the agenda.
+-- The row of the key is told.
+use native.Mathlib.Omega.{arith}
+use mathlib.Core.Path.{refl}
 use borrow.Author.Needs.{needs}
-use Rattle.dead.proofs.DeadStaysDead.{row-told}
 use Rattle.dead.proofs.remember.Statement.{statement}
 use Rattle.dead.proofs.remember.Tie as tie
 
 returns : tie.Need-returns
-returns c = search needs
+returns c = record {
+  tasks = λ h. absurd (omega (arith, h, c .if1 .taken));
+  key = λ h. absurd (omega (arith, h, c .if1 .taken));
+  long = λ h. (refl, refl);
+}
 
 row-of-requires : tie.Need-row-of-requires
 row-of-requires c κs = search needs
@@ -38,9 +43,12 @@ returns-2 c =
     let at-words-of = at-put-codes .before .before in
     let at-row-of = at-words-of .before in
     let at-if1 = at-row-of .before in
-    let start = at-if1 .before .before .before .before in
-    row-told (at-row-of .row-of .result) (start .args .b) (at-if1 .if1 .left) (at-put-codes .put-codes .ensures)
-    (rw (at-words-of .words-of .ensures) at (at-put-words .put-words .ensures)) (start .pre .code-room) (start .pre .word-room)
+    let e = at-row-of .row-of .ensures .0 in
+    record {
+      tasks = λ h. rw e at (at-put-codes .put-codes .ensures);
+      key = λ h. rw e at (rw (at-words-of .words-of .ensures) at (at-put-words .put-words .ensures));
+      long = λ h. absurd (omega (arith, h, at-if1 .if1 .left));
+    }
 
 pub remember-spec : {M : Type 1} → statement M
 remember-spec =

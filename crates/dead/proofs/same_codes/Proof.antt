@@ -1,16 +1,16 @@
 -- The first i are the same.
 use Prim.Native.Nat.{_-_, _≤_}
-use mathlib.Core.Path.{_≡_}
+use mathlib.Core.Path.{_≡_, refl}
 use mathlib.Core.Bool.{false≢true}
 use native.Mathlib.Omega.{arith}
 use borrow.Author.Needs.{needs}
-use Rattle.dead.specs.Inner.Rows.{Same}
+use Rattle.dead.specs.Inner.Rows.{SameRow}
 use Rattle.dead.proofs.RowsKept.{same-none, same-more}
 use Rattle.dead.proofs.same_codes.Statement.{statement}
 use Rattle.dead.proofs.same_codes.Tie as tie
 
 abbrev Inv-loop : tie.InvT-loop
-Inv-loop codes at agenda n i₀ i = (i ≤ n) × Same codes at agenda i
+Inv-loop codes at agenda n i₀ i = (i ≤ n) × SameRow codes at agenda i
 
 abbrev μ-loop : tie.MeasureT-loop
 μ-loop codes at agenda n i₀ i = n - i
@@ -34,7 +34,9 @@ element-copy-out-y : tie.Need-element-copy-out-y Inv-loop μ-loop
 element-copy-out-y c = search needs
 
 returns : tie.Need-returns Inv-loop μ-loop
-returns c = λ p. absurd (false≢true p)
+returns c =
+    let turn = c .before .before .before .before .loop in
+    (λ p. absurd (false≢true p), λ s. absurd (c .if1 .taken (s .same (turn .i) (omega arith))))
 
 add-i : tie.Need-add-i Inv-loop μ-loop
 add-i c = search needs
@@ -50,7 +52,7 @@ returns-2 c =
     let start = c .before .before in
     let turn = c .before .loop in
     let e : turn .i ≡ start .args .n = omega arith in
-    λ p. rw e at (turn .inv .1)
+    (λ p. rw e at (turn .inv .1), λ s. refl)
 
 pub same-codes-spec : {M : Type 1} → statement M
 same-codes-spec =

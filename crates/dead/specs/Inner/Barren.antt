@@ -6,6 +6,7 @@ use lib.ListN.{length}
 use Rattle.calculus.specs.Items.{Items}
 use Rattle.calculus.specs.Derivation.{Scope}
 use Rattle.card.specs.Format.{ruleCount}
+use Rattle.lines.specs.declared.LineWord.{LineWord}
 use Rattle.scope.specs.Inner.Sets.{items}
 use Rattle.agenda.specs.Inner.Agenda.{Agenda}
 use Rattle.agenda.specs.Inner.Sought.{Place, None}
@@ -20,7 +21,7 @@ abbrev pub openPlace : List ℕ → Items → Items → ℕ → Place
 openPlace done S L r = record { done = done; given = []; from = 0; strict = S; lax = L; room = r }
 
 -- Nothing is readable for the agenda with these items within r steps, after any steps in which just these lines stand.
-pub record Barren (bs : List ℕ) (es : Scope) (A : Agenda) (S L : Items) (seen r : ℕ) : Type 0 where
+pub record Barren (bs : List ℕ) (es : Scope) (A : Agenda) (S L : Items) (seen : LineWord) (r : ℕ) : Type 0 where
   pub barren : (done : List ℕ) → Seen bs seen done → None (eligible bs) es A (openPlace done S L r)
 
 -- so it is for the agenda in an array, in the branch
@@ -49,13 +50,3 @@ pub record Asking (codes words agenda : List ℕ) (b : Branch) : Type 0 where
   pub task-room : length agenda ≡ 104
   pub some : 1 ≤ b .len
   pub onward : b .at ≤ b .limit
-
--- by what the memory says nothing is readable
-pub record Dead (codes words agenda : List ℕ) (b : Branch) : Type 0 where
-  pub dead : (bs : List ℕ) (es : Scope) → Honest bs es codes words → BarrenIn bs es agenda b
-
--- What was honest stays so with what is remembered, if that is so.
-pub record Remembers (codes words codes′ words′ agenda : List ℕ) (b : Branch) : Type 0 where
-  pub code-room : length codes′ ≡ codeCells
-  pub word-room : length words′ ≡ wordCells
-  pub honest : (bs : List ℕ) (es : Scope) → Honest bs es codes words → BarrenIn bs es agenda b → Honest bs es codes′ words′

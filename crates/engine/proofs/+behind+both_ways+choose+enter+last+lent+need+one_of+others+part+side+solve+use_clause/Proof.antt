@@ -16,9 +16,10 @@ use Rattle.segment.specs.Inner.Tasks.{agendaOf}
 use Rattle.choice.specs.Inner.Choice.{givenAt, fromAt}
 use Rattle.branch.specs.declared.Floor.{Floor}
 use mathlib.Core.List.{List}
-use Rattle.inside.specs.Inner.Inside.{Opened, lends}
+use Rattle.inside.specs.Inner.Inside.{InsideOpened, lends}
 use Rattle.engine.specs.Inner.Engine.{Equipped, Ready, GoalReady, Fresh}
 use Rattle.engine.proofs.NumbersFall.{number, alone}
+use Rattle.engine.proofs.CountIsScan.{count-is-scan}
 use Rattle.engine.proofs.AgendasUnwind.{top-within, top-here, name-next, part-next, unwound-number, unwound-ready}
 use Rattle.engine.proofs.AgendasUnwind.{unwound-searched, closed-searched}
 use Rattle.engine.proofs.WaysSaid.{solved-said, stuck-said, unsolved, equipped-on, equipped-at, equipped-lent}
@@ -652,8 +653,11 @@ behind-solve-requires t c κs =
         asked .1 .0,
         (
           asked .1 .1,
-          equipped-at (tensor-count _ _ _ (at-past-tensor .past-tensor .ensures .0)) (equipped-on kit kept (rd .scoped)
-              (at-part .part .ensures .1)),
+          (
+            equipped-at (tensor-count _ _ _ (at-past-tensor .past-tensor .ensures .0)) (equipped-on kit kept (rd .scoped)
+                (at-part .part .ensures .1)),
+            count-is-scan (asked .1 .0),
+          ),
         ),
       ),
     )
@@ -934,7 +938,7 @@ both-ways-solve-requires t c κs =
     let fb = start .pre .1 .1 .0 .0 .1 in
     let kd = start .pre .1 .1 .0 .1 in
     let asked = left-asks (rd .sound) gr (replicate 104 0) refl kd fb refl (at-left .left-alone .ensures) in
-    (omega (arith, asked .0, number-is), (turn .ready, (asked .1, kit)))
+    (omega (arith, asked .0, number-is), (turn .ready, (asked .1, (kit, count-is-scan (turn .ready)))))
 
 both-ways-enum-told : (t : ℕ) → both-ways-lts.Need-enum-told (both-ways-claims t) (both-ways-at t) both-ways.Post
     both-ways-Inv-loop both-ways-μ-loop
@@ -1036,8 +1040,11 @@ both-ways-solve-requires-2 t c κs =
         asked .1 .0,
         (
           asked .1 .1,
-          equipped-at (with-count _ _ _ (at-past-with .past-with .ensures .0)) (equipped-on kit kept (rd .scoped) (at-solve
-              .solve .ensures .1)),
+          (
+            equipped-at (with-count _ _ _ (at-past-with .past-with .ensures .0)) (equipped-on kit kept (rd .scoped) (at-solve
+                .solve .ensures .1)),
+            count-is-scan (asked .1 .0),
+          ),
         ),
       ),
     )
@@ -1521,7 +1528,7 @@ enter-solve-requires t c κs =
     let q = rw (at-if1 .if1 .taken) at (at-start .pre .1 .1 .0) in
     let asked = head-call rd q (at-push .push .ensures) (λ k. at-if2 .if2 .left (at-kind .kind .ensures .0 ∙ k)) _ (at-sized .sized .ensures .0) t
     (at-start .pre .0) in
-    (asked .0, (asked .1 .0, (asked .1 .1, equipped-at (ap (λ (x : Branch). x .count) (at-sized .sized .ensures .0)) (at-start .pre .1 .1 .1))))
+    (asked .0, (asked .1 .0, (asked .1 .1, (equipped-at (ap (λ (x : Branch). x .count) (at-sized .sized .ensures .0)) (at-start .pre .1 .1 .1), count-is-scan (asked .1 .0)))))
 
 enter-same-length-3 : (t : ℕ) → enter-lts.Need-same-length-3 (enter-claims t) (enter-at t) enter.Post
 enter-same-length-3 t c =
@@ -1574,7 +1581,7 @@ enter-solve-requires-2 t c κs =
     let rd = at-start .pre .1 .0 in
     let q = rw (at-if1 .if1 .left) at (at-start .pre .1 .1 .0) in
     let asked = goal-call rd q _ (at-put .put .ensures) _ (at-longer .longer .ensures .0) t (at-start .pre .0) in
-    (asked .0, (asked .1 .0, (asked .1 .1, equipped-at (ap (λ (x : Branch). x .count) (at-longer .longer .ensures .0)) (at-start .pre .1 .1 .1))))
+    (asked .0, (asked .1 .0, (asked .1 .1, (equipped-at (ap (λ (x : Branch). x .count) (at-longer .longer .ensures .0)) (at-start .pre .1 .1 .1), count-is-scan (asked .1 .0)))))
 
 enter-same-length-5 : (t : ℕ) → enter-lts.Need-same-length-5 (enter-claims t) (enter-at t) enter.Post
 enter-same-length-5 t c =
@@ -1680,7 +1687,7 @@ last-returns-2 t c =
 -- the prunings stay stocked past the entering
 opened-equipped : {bs waits tape nodes heads nodes′ heads′ agenda agenda′ names table masks codes words way : List ℕ} {f : Floor} {goal n : ℕ}
     {b d : Branch} → Ready bs waits tape nodes heads f b → GoalReady bs goal n b → Fresh b → kindAt bs goal ≡ 6
-    → Equipped bs names table masks codes words way nodes (b .count) → Opened bs nodes nodes′ heads heads′ agenda agenda′ goal n b d
+    → Equipped bs names table masks codes words way nodes (b .count) → InsideOpened bs nodes nodes′ heads heads′ agenda agenda′ goal n b d
     → Equipped bs names table masks codes words way nodes′ (d .count)
 opened-equipped rd gr fb kd eq (lends k en hd ea ec) =
     equipped-at (ap (λ (x : Branch). x .count) ec)
@@ -1707,7 +1714,7 @@ lent-solve-requires t c κs =
     let number-is = start .pre .0 in
     let o = at-open .«open» .ensures in
     let asked = opened-asks rd gr fb kd (replicate 104 0) refl o in
-    (omega (arith, asked .0, number-is), (asked .1 .0, (asked .1 .1, opened-equipped rd gr fb kd eq o)))
+    (omega (arith, asked .0, number-is), (asked .1 .0, (asked .1 .1, (opened-equipped rd gr fb kd eq o, count-is-scan (asked .1 .0)))))
 
 lent-enum-told : (t : ℕ) → lent-lts.Need-enum-told (lent-claims t) (lent-at t) lent.Post
 lent-enum-told t c = c .match .keys1
@@ -2467,7 +2474,7 @@ solve-closed-requires : (t : ℕ) → solve-lts.Need-closed-requires (solve-clai
 solve-closed-requires t c κs =
     let start = c .before .before .before .before .before .before .before .before .before .before .before in
     let at-unwind = c .before .before .before in
-    ((start .pre .1 .1 .1) .way-room, at-unwind .unwind .ensures .0 .counted)
+    ((start .pre .1 .1 .1 .0) .way-room, at-unwind .unwind .ensures .0 .counted)
 
 solve-returns : (t : ℕ) → solve-lts.Need-returns (solve-claims t) (solve-at t) solve.Post
 solve-returns t c =
@@ -2476,7 +2483,7 @@ solve-returns t c =
     let at-unwind = at-if1 .before .before in
     let start = at-unwind .before .before .before .before .before .before .before .before in
     let rd = start .pre .1 .0 in
-    let eq = start .pre .1 .1 .1 in
+    let eq = start .pre .1 .1 .1 .0 in
     let u = at-unwind .unwind .ensures .0 in (
       unwound-searched u
           (closed-searched (unwound-ready u rd) (at-closed .closed .ensures .1 .0) _ (at-if1 .if1 .taken) (at-closed .closed .ensures
@@ -2520,7 +2527,7 @@ solve-need-requires t c κs =
     let at-unwind = at-if1 .before .before in
     let start = at-unwind .before .before .before .before .before .before .before .before in
     let rd = start .pre .1 .0 in
-    let eq = start .pre .1 .1 .1 in
+    let eq = start .pre .1 .1 .1 .0 in
     let number-is = start .pre .0 in
     let u = at-unwind .unwind .ensures .0 in
     let some = at-if1 .if1 .left in
@@ -2563,7 +2570,7 @@ solve-one-of-requires t c κs =
     let at-kind = c .before .before .before .before .before .before .before .before .before in
     let at-if3 = c .before .before .before .before .before .before .before in
     let rd = at-start .pre .1 .0 in
-    let eq = at-start .pre .1 .1 .1 in
+    let eq = at-start .pre .1 .1 .1 .0 in
     let number-is = at-start .pre .0 in
     let u = at-unwind .unwind .ensures .0 in
     let some = at-if1 .if1 .left in
@@ -2606,7 +2613,7 @@ solve-behind-requires t c κs =
     let at-if2 = c .before .before .before .before .before .before .before .before in
     let at-if3 = c .before .before .before .before .before .before .before in
     let rd = at-start .pre .1 .0 in
-    let eq = at-start .pre .1 .1 .1 in
+    let eq = at-start .pre .1 .1 .1 .0 in
     let number-is = at-start .pre .0 in
     let u = at-unwind .unwind .ensures .0 in
     let some = at-if1 .if1 .left in
@@ -2787,7 +2794,7 @@ use-clause-solve-requires t c κs =
     let asked = use-head-call rd (can .step .next) can _ _ _ _ _ _ refl (at-inner .inner .ensures) (at-start .pre .1 .1 .0 .1) refl
     (at-byte .byte .ensures .0) (at-byte2 .byte2 .ensures .0) (at-push .push .ensures) _ (at-using .«using» .ensures .0)
     (λ k. at-if1 .if1 .left (at-kind .kind .ensures .0 ∙ k)) t (at-start .pre .0) in
-    (asked .0, (asked .1 .0, (asked .1 .1, equipped-at (using-count _ _ _ _ _ _ (at-using .«using» .ensures .0)) (at-start .pre .1 .1 .1))))
+    (asked .0, (asked .1 .0, (asked .1 .1, (equipped-at (using-count _ _ _ _ _ _ (at-using .«using» .ensures .0)) (at-start .pre .1 .1 .1), count-is-scan (asked .1 .0)))))
 
 use-clause-same-length-3 : (t : ℕ) → use-clause-lts.Need-same-length-3 (use-clause-claims t) (use-clause-at t) use-clause.Post
 use-clause-same-length-3 t c =

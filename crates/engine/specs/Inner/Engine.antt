@@ -14,7 +14,7 @@ use Rattle.calculus.specs.Inner.Summary.{Bounded}
 use Rattle.card.specs.Format.{ruleCount, lineCount, nodeCount, kindAt, leftAt}
 use Rattle.card.specs.Fault.{Sound, goalPart, clausePart, heightAt}
 use Rattle.card.specs.Decode.{goalAt, clauseOf, scopeOf}
-use Rattle.lines.specs.Inner.Set.{emptyS}
+use Rattle.lines.specs.Set.{emptyS}
 use Rattle.scope.specs.Inner.Sets.{items}
 use Rattle.scope.specs.Inner.Tables.{Kept}
 use Rattle.entries.specs.Inner.Entries.{scopeIn, Entered}
@@ -35,8 +35,8 @@ use Rattle.choice.specs.Inner.Choice.{takableBy, givenAt, fromAt, keepsBy}
 use Rattle.moves.specs.Inner.Moves.{sideAt}
 
 -- Where a branch stands.
-unfoldable pub placeOf : ℕ → Floor → Branch → List ℕ → Place
-placeOf P f b tape =
+unfoldable pub placeAt : ℕ → Floor → Branch → List ℕ → Place
+placeAt P f b tape =
     record {
       done = take (b .at) tape;
       given = givenAt f (b .at) tape;
@@ -127,7 +127,7 @@ pub record Solves (bs : List ℕ) (es : Scope) (A : Agenda) (f : Floor) (b : Bra
   pub bounded : w .at ≤ b .limit
   pub items-used : Items
   pub slack-left : Bool
-  pub least : Least (eligible bs) es A (placeOf (ruleCount bs) f b tape) (found b w tape′) items-used slack-left
+  pub least : Least (eligible bs) es A (placeAt (ruleCount bs) f b tape) (found b w tape′) items-used slack-left
   pub used : items (ruleCount bs) (w .used) ≡ items (ruleCount bs) (b .used) ∪ items-used
   pub slack : w .slack ≡ (b .slack || slack-left)
   pub seen : Seen bs (w .seen) (take (w .at) tape′)
@@ -137,7 +137,7 @@ pub record Solves (bs : List ℕ) (es : Scope) (A : Agenda) (f : Floor) (b : Bra
 -- What each answer says.
 unfoldable pub Told : List ℕ → Scope → Agenda → Floor → Branch → List ℕ → List ℕ → Answer → Type 0
 Told bs es A f b tape tape′ (Solved w) = Solves bs es A f b tape tape′ w
-Told bs es A f b tape tape′ Stuck = None (eligible bs) es A (placeOf (ruleCount bs) f b tape)
+Told bs es A f b tape tape′ Stuck = None (eligible bs) es A (placeAt (ruleCount bs) f b tape)
 Told bs es A f b tape tape′ Tired = Unit {0}
 
 -- What every function of the engine promises: what it tells of an agenda; the steps before the branch and the entries in scope are kept.
@@ -203,7 +203,7 @@ pub record ChoiceReady (bs codes : List ℕ) (meets : Bool) (node name n : ℕ) 
   pub kind : kindAt bs node ≡ choiceKind meets
 
 -- a choice, and a step may be taken for it
-pub record Choosing (c : ℕ) (b : Branch) : Type 0 where
+pub record ChoiceStep (c : ℕ) (b : Branch) : Type 0 where
   pub choice : (c ≡ leftChoice) ⊎ (c ≡ rightChoice)
   pub room : b .at < b .limit
 

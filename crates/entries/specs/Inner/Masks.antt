@@ -5,16 +5,12 @@ use mathlib.Core.Bool.{Bool, true, false, _&&_}
 use mathlib.Core.List.{List}
 use lib.ListN.{length, getD}
 use lib.Dec.{leb, ltb, eqb}
-use lib.Bits.{bitAnd, bitOr}
+use lib.Bits.{bitOr}
 use Rattle.calculus.specs.Steps.{stands}
 use Rattle.card.specs.Format.{ruleCount, lineCount, lineNode, lineByte}
-use Rattle.lines.specs.declared.LineSet.{LineSet}
-use Rattle.lines.specs.Inner.Set.{bitAt, member}
+use Rattle.lines.specs.declared.LineWord.{LineWord}
+use Rattle.lines.specs.Inner.Word.{lineIn, holdsL}
 use Rattle.entries.specs.Inner.Twins.{waits}
-
--- the line set of a mask
-unfoldable pub maskSet : ℕ → LineSet
-maskSet w = record { low = w; mid = 0; high = 0 }
 
 -- the mask with line i, where the test holds
 unfoldable pub withLine : Bool → ℕ → ℕ → ℕ
@@ -39,22 +35,22 @@ unfoldable pub wider : Bool → ℕ → ℕ → ℕ
 wider true musts all = musts
 wider false musts all = all
 
+-- the lines of mask i
+abbrev pub maskAt : List ℕ → ℕ → LineWord
+maskAt masks i = record { bits = getD masks i 0 }
+
 -- The masks of the lines that each line of the card waits for.
 pub record Waiting (bs masks : List ℕ) : Type 0 where
   pub room : length masks ≡ 64
   pub words : (i : ℕ) → i < lineCount bs → getD masks i 0 < 2 ^ 64
-  pub bits : (i : ℕ) → i < lineCount bs → (x : ℕ) → member (maskSet (getD masks i 0)) x ≡ waits bs i x
-
--- every line of the mask is one of those seen
-unfoldable pub within : ℕ → ℕ → Bool
-within mask seen = eqb (bitAnd mask seen) mask
+  pub bits : (i : ℕ) → i < lineCount bs → (x : ℕ) → lineIn (maskAt masks i) x ≡ waits bs i x
 
 -- Every line that the entry e waits for, by its mask, is seen; an entry that is no line waits for none.
-unfoldable pub readyBy : ℕ → ℕ → List ℕ → ℕ → ℕ → Bool
+unfoldable pub readyBy : ℕ → ℕ → List ℕ → LineWord → ℕ → Bool
 readyBy rules lines masks seen e =
-    elim (leb rules e && ltb e (rules + lines)) [ true ↦ within (getD masks (e - rules) 0) seen | false ↦ true ]
+    elim (leb rules e && ltb e (rules + lines)) [ true ↦ holdsL seen (maskAt masks (e - rules)) | false ↦ true ]
 
--- Of the card's lines, which have their places in a word, exactly those in the mask stand among the steps so far.
-pub record Seen (bs : List ℕ) (seen : ℕ) (done : List ℕ) : Type 0 where
+-- Of the card's lines, which have their places in a word, exactly those seen stand among the steps so far.
+pub record Seen (bs : List ℕ) (seen : LineWord) (done : List ℕ) : Type 0 where
   pub few : lineCount bs ≤ 64
-  pub line : (x : ℕ) → x < lineCount bs → bitAt seen x ≡ stands (ruleCount bs + x) done
+  pub line : (x : ℕ) → x < lineCount bs → lineIn seen x ≡ stands (ruleCount bs + x) done

@@ -2,7 +2,7 @@
 use borrow.Author.Needs.{needs}
 use native.Mathlib.Omega.{arith}
 use mathlib.Core.Path.{_≡_, refl, sym, _∙_, ap, ap₂}
-use Rattle.inside.specs.Inner.Inside.{Opened, lends}
+use Rattle.inside.specs.Inner.Inside.{InsideOpened, lends}
 use Rattle.card.proofs.SoundNodes.{node-here}
 use Rattle.inside.proofs.open.Statement.{statement}
 use Rattle.inside.proofs.open.Tie as tie

@@ -4,7 +4,7 @@ use mathlib.Core.Path.{_≡_}
 use mathlib.Core.Bool.{true, false}
 use mathlib.Core.List.{List}
 use lib.ListN.{length, set}
-use Rattle.lines.specs.Inner.Set.{member}
+use Rattle.lines.specs.Set.{member}
 use Rattle.card.specs.Format.{ruleCount, nodeCount, kindAt, leftAt, rightAt}
 use Rattle.card.specs.Fault.{Sound, clausePart}
 use Rattle.entries.specs.Inner.Entries.{Headed}
@@ -32,10 +32,10 @@ pub record Opening (bs nodes heads : List ℕ) (goal n : ℕ) (b : Branch) : Typ
   pub counted : Counted b
 
 -- The goal inside alone on an agenda, and the branch in which it is met, by the part's kind.
-pub data Opened (bs nodes nodes′ heads heads′ codes codes′ : List ℕ) (goal n : ℕ) (b c : Branch) : Type 0 where
+pub data InsideOpened (bs nodes nodes′ heads heads′ codes codes′ : List ℕ) (goal n : ℕ) (b c : Branch) : Type 0 where
   lends : kindAt bs goal ≡ 6 → nodes′ ≡ set nodes (b .count) (leftAt bs goal) → Headed bs heads heads′ (b .count) (leftAt bs goal)
       → codes′ ≡ set codes 0 (rightAt bs goal * 32 + n) → c ≡ lentB b (nextItem bs b)
-      → Opened bs nodes nodes′ heads heads′ codes codes′ goal n b c
+      → InsideOpened bs nodes nodes′ heads heads′ codes codes′ goal n b c
 
 -- what a way found inside is outside
 unfoldable pub outsideW : List ℕ → ℕ → ℕ → Way → Way

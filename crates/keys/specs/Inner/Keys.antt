@@ -6,5 +6,5 @@ use Rattle.branch.specs.declared.Branch.{Branch}
 -- the words of a branch's row: its key and, last, its room
 abbrev pub keyWords : Branch → List ℕ
 keyWords b =
-    b .strict .low ∷ b .strict .mid ∷ b .strict .high ∷ b .lax .low ∷ b .lax .mid ∷ b .lax .high ∷ b .seen ∷ b .len
+    b .strict .low ∷ b .strict .mid ∷ b .strict .high ∷ b .lax .low ∷ b .lax .mid ∷ b .lax .high ∷ b .seen .bits ∷ b .len
     ∷ (b .limit - b .at) ∷ []

@@ -1,5 +1,4 @@
 -- The mark by its cases: in the list, surely used or not; must and not in it; may and not in it.
-use native.Mathlib.Omega.{arith}
 use mathlib.Core.Path.{sym, _∙_, ap}
 use mathlib.Core.Bool.{cond}
 use borrow.Author.Needs.{needs}
@@ -11,8 +10,8 @@ use Rattle.marks.proofs.mark.Tie as tie
 has-requires : tie.Need-has-requires
 has-requires c κs = search needs
 
-has-line-requires : tie.Need-has-line-requires
-has-line-requires c κs = let p = c .before .before .before .pre in omega (arith, p .1, p .0 .lines)
+has-requires-2 : tie.Need-has-requires-2
+has-requires-2 c κs = search needs
 
 mark-used-requires : tie.Need-mark-used-requires
 mark-used-requires c κs = search needs
@@ -22,7 +21,7 @@ unfolding markBy
 returns c =
     let at-line = c .before in
     let taken = at-line .before in
-    rw (sym (taken .before .has .ensures) ∙ taken .if1 .taken) (c .mark-used .ensures ∙ ap (λ b. cond b 1 3) (at-line .has-line .ensures))
+    rw (sym (taken .before .has .ensures) ∙ taken .if1 .taken) (c .mark-used .ensures ∙ ap (λ b. cond b 1 3) (at-line .has2 .ensures))
 
 line-byte-requires : tie.Need-line-byte-requires
 line-byte-requires c κs = search needs
@@ -40,4 +39,4 @@ returns-3 c =
     rw (sym (left .before .has .ensures) ∙ left .if1 .left, ne-eqb _ _ (λ q. c .if2 .left (c .before .line-byte .ensures .0 ∙ q)))
 
 pub mark-spec : {M : Type 1} → statement M
-mark-spec = tie.close (tie.spec has-requires has-line-requires mark-used-requires returns line-byte-requires returns-2 returns-3)
+mark-spec = tie.close (tie.spec has-requires has-requires-2 mark-used-requires returns line-byte-requires returns-2 returns-3)

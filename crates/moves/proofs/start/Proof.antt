@@ -6,8 +6,8 @@ use mathlib.Core.Bool.{false}
 use borrow.Author.Needs.{needs}
 use Rattle.card.specs.Format.{lineCount}
 use Rattle.card.proofs.CardChecked.{sound-front}
-use Rattle.lines.specs.Inner.Set.{fullS, cutS}
-use Rattle.lines.specs.Inner.Count.{countS}
+use Rattle.lines.specs.Set.{fullS, cutS}
+use Rattle.lines.specs.Count.{countS}
 use Rattle.branch.proofs.CountsKept.{kept}
 use Rattle.scope.specs.Inner.Sets.{strictOf}
 use Rattle.moves.specs.Inner.Moves.{startB}
@@ -45,16 +45,20 @@ cut-requires c κs = search needs
 empty-requires : tie.Need-empty-requires
 empty-requires c κs = search needs
 
+empty-requires-2 : tie.Need-empty-requires-2
+empty-requires-2 c κs = search needs
+
 count-requires : tie.Need-count-requires
 count-requires c κs = search needs
 
-add-t10 : tie.Need-add-t10
-add-t10 c = search needs
+add-t11 : tie.Need-add-t11
+add-t11 c = search needs
 
 returns : tie.Need-returns
 unfolding startB
 returns c =
-    let at-empty = c .before in
+    let at-empty2 = c .before in
+    let at-empty = at-empty2 .before in
     let at-cut = at-empty .before in
     let at-full = at-cut .before in
     let at-strict-lines = at-full .before in
@@ -79,7 +83,7 @@ returns c =
       strict = strict i;
       lax = lax i;
       used = at-empty .empty .ensures i;
-      seen = 0;
+      seen = at-empty2 .empty2 .ensures i;
       slack = false;
     })
 
@@ -94,6 +98,7 @@ start-spec =
     full-requires
     cut-requires
     empty-requires
+    empty-requires-2
     count-requires
-    add-t10
+    add-t11
     returns)

@@ -7,8 +7,9 @@ use Rattle.calculus.specs.Formula.{usable}
 use Rattle.calculus.specs.Steps.{leftChoice}
 use Rattle.card.specs.Format.{ruleCount, lineCount, stepLimit, byteAt, leftAt, rightAt}
 use Rattle.card.specs.Decode.{clauseOf, scopeOf}
-use Rattle.lines.specs.Inner.Set.{emptyS, fullS, cutS}
-use Rattle.lines.specs.Inner.Count.{countS}
+use Rattle.lines.specs.Set.{emptyS, fullS, cutS}
+use Rattle.lines.specs.Count.{countS}
+use Rattle.lines.specs.Inner.Word.{emptyL}
 use Rattle.scope.specs.Inner.Sets.{strictOf}
 use Rattle.branch.specs.declared.Branch.{Branch}
 use Rattle.branch.specs.declared.Floor.{Floor}
@@ -36,6 +37,6 @@ startB bs =
       strict = strictOf bs;
       lax = cutS (fullS (lineCount bs)) (strictOf bs);
       used = emptyS;
-      seen = 0;
+      seen = emptyL;
       slack = false;
     }

@@ -1,12 +1,12 @@
 -- A clause of the card, and the ways past it.
 use Prim.Native.Nat.{ℕ, _+_, _<_}
 use native.Mathlib.Omega.{arith}
-use mathlib.Core.Path.{_≡_, sym, _∙_}
-use mathlib.Core.Logic.{⊎-elim}
-use mathlib.Core.Bool.{true, false≢true}
+use mathlib.Core.Path.{_≡_, refl, sym, _∙_}
+use mathlib.Core.Logic.{_↔_, ⊎-elim}
+use mathlib.Core.Bool.{Bool, true, false}
 use mathlib.Core.List.{List}
 use borrow.Author.Needs.{needs}
-use borrow.Author.Tests.{not-false, eqb-true}
+use borrow.Author.Tests.{not-false, eqb-true, eq-eqb}
 use borrow.Fn.Kinds.{In}
 use borrow.Fn.PlainCycle.{Measures, is, falls, and}
 use Rattle.card.specs.Format.{nodeCount, kindAt, leftAt, rightAt}
@@ -15,7 +15,9 @@ use Rattle.card.specs.Decode.{clauseOf, scopeOf}
 use Rattle.card.proofs.NodesDecoded.{reads-name, reads-rest}
 use Rattle.card.proofs.SoundNodes.{clause-lower, clause-kind, clause-above, recipe-parts, menu-parts, sound-recipe, sound-menu}
 use Rattle.bounds.proofs.WaysSmall.{clause-node, way-on}
-use Rattle.bounds.specs.Inner.Table.{Held, Node, HeadFits, WaysFit, leastAt, lowAt, highAt}
+use Rattle.bounds.specs.Inner.Table.{TableHeld, Node, HeadFits, WaysFit, leastAt, lowAt, highAt}
+use Rattle.node_bounds.proofs.ChecksDecide.{holds, unmet}
+use Rattle.node_bounds.proofs.WaysByKind.{below, node, part-lower, part-clause, name-ways, rest-ways, recipe-ways, menu-ways, menu-fails}
 use Rattle.node_bounds.proofs.ways_fit.Reads as ways-fit
 use Rattle.node_bounds.proofs.ways_fit.Kinds as ways-fit-kinds
 use Rattle.node_bounds.proofs.+ways_fit.Lts-ways_fit as ways-fit-lts
@@ -26,7 +28,8 @@ use Rattle.bounds.proofs.nodes.right_part.Reads as right-part-reads
 use Rattle.bounds.proofs.table.high.Reads as high-reads
 use Rattle.bounds.proofs.table.least.Reads as least-reads
 use Rattle.bounds.proofs.table.low.Reads as low-reads
-use Rattle.node_bounds.proofs.head_fits.Reads as head-fits-reads
+use Rattle.bounds.proofs.table.row.Reads as row-reads
+use Rattle.node_bounds.proofs.row_fits.Reads as row-fits-reads
 use Rattle.node_bounds.proofs.+ways_fit.{statement}
 use Rattle.node_bounds.proofs.+ways_fit.Tie.{close}
 
@@ -39,53 +42,16 @@ ways-fit-at t = and 3 ways-fit-kinds.ps (is 3 ways-fit-kinds.ps μ-ways-fit t) w
 abbrev ways-fit-below : ℕ → In 3 ways-fit-kinds.ps
 ways-fit-below t = and 3 ways-fit-kinds.ps (falls 3 ways-fit-kinds.ps _<_ μ-ways-fit t) ways-fit.Pre
 
-module _ {bs names t : List ℕ} (z : Held bs names t) (i : ℕ) (p : clausePart bs (nodeCount bs) i ≡ true) where
-  below : i < nodeCount bs
-  below = clause-lower bs (nodeCount bs) i p
-
-  node : Node bs i
-  node = clause-node (z .sound) p
-
-  -- a part that reads as a clause
-  part-lower : (j : ℕ) → clausePart bs i j ≡ true → j < i
-  part-lower j e = clause-lower bs i j e
-
-  part-clause : (j : ℕ) → clausePart bs i j ≡ true → clausePart bs (nodeCount bs) j ≡ true
-  part-clause j e = clause-above bs i j (nodeCount bs) (omega (arith, below)) e
-
-  module _ (c s l h : ℕ) where
-    name-ways : {a : ℕ} → kindAt bs i ≡ 1 → a ≡ leftAt bs i → HeadFits names t a c s l h → WaysFit bs names t (clauseOf bs i) i c s l h
-    unfolding WaysFit scopeOf
-    name-ways {a} k e w = rw (reads-name bs i k .1) (λ b f. rw (eqb-true (leftAt bs i) b f) at (rw e at w))
-
-    -- a clause that is neither a name nor a recipe nor a menu has no head
-    rest-ways : (kindAt bs i ≡ 1 → ⊥) → (kindAt bs i ≡ 7 → ⊥) → (kindAt bs i ≡ 10 → ⊥) → WaysFit bs names t (clauseOf bs i) i c s l h
-    unfolding WaysFit
-    rest-ways n m o =
-        ⊎-elim (λ k. absurd (n k))
-        (⊎-elim (λ k. rw (reads-rest bs i k .1) tt) (⊎-elim (λ k. absurd (m k)) (λ k. absurd (o k))))
-        (clause-kind bs (nodeCount bs) i p)
-
-    recipe-ways : {j g x y u : ℕ} → kindAt bs i ≡ 7 → j ≡ rightAt bs i → g ≡ leftAt bs i
-        → x ≡ leastAt t g → y ≡ lowAt t g c → u ≡ highAt t g c
-        → WaysFit bs names t (clauseOf bs j) j c (s + x) (l + y) (h + u) → WaysFit bs names t (clauseOf bs i) i c s l h
-    unfolding WaysFit
-    recipe-ways k d e a b f w = rw (sound-recipe (z .sound) i below k) (rw (a, b, f, d, e) at w)
-
-    menu-ways : {d e : ℕ} → kindAt bs i ≡ 10 → d ≡ leftAt bs i → e ≡ rightAt bs i
-        → WaysFit bs names t (clauseOf bs d) d c (s + 1) l h → WaysFit bs names t (clauseOf bs e) e c (s + 1) l h
-        → WaysFit bs names t (clauseOf bs i) i c s l h
-    unfolding WaysFit
-    menu-ways k a b v w = rw (sound-menu (z .sound) i below k) (rw a at v, rw b at w)
-
 abbrev callees : ℕ → ways-fit-lts.Claims
 callees t = (
   kind-at-reads.Asked,
   kind-at-reads.Learnt,
   name-at-reads.Asked,
   name-at-reads.Learnt,
-  head-fits-reads.Asked,
-  head-fits-reads.Learnt,
+  row-reads.Asked,
+  row-reads.Learnt,
+  row-fits-reads.Asked,
+  row-fits-reads.Learnt,
   left-part-reads.Asked,
   left-part-reads.Learnt,
   least-reads.Asked,
@@ -107,21 +73,26 @@ ways-fit-kind-at-requires t c κs =
 
 ways-fit-name-at-requires : (t : ℕ) → ways-fit-lts.Need-name-at-requires (callees t) (ways-fit-at t) ways-fit.Post
 ways-fit-name-at-requires t c κs =
-    let a = c .before in
+    let e = c .before in
+    let a = e .before in
     let s = a .before .before in
-    (s .pre .1 .0 .sound, (node (s .pre .1 .0) (s .args .i) (s .pre .1 .1 .0 .0), sym (a .kind-at .ensures) ∙ c .if1 .taken))
+    (s .pre .1 .0 .sound, (node (s .pre .1 .0) (s .args .i) (s .pre .1 .1 .0 .0), sym (a .kind-at .ensures) ∙ e .if1 .taken))
 
-ways-fit-head-fits-requires : (t : ℕ) → ways-fit-lts.Need-head-fits-requires (callees t) (ways-fit-at t) ways-fit.Post
-ways-fit-head-fits-requires t c κs = search needs
+ways-fit-row-requires : (t : ℕ) → ways-fit-lts.Need-row-requires (callees t) (ways-fit-at t) ways-fit.Post
+ways-fit-row-requires t c κs = search needs
+
+ways-fit-row-fits-requires : (t : ℕ) → ways-fit-lts.Need-row-fits-requires (callees t) (ways-fit-at t) ways-fit.Post
+ways-fit-row-fits-requires t c κs = search needs
 
 ways-fit-returns : (t : ℕ) → ways-fit-lts.Need-returns (callees t) (ways-fit-at t) ways-fit.Post
 ways-fit-returns t c =
-    let e = c .before .before in
+    let r = c .before in
+    let n = r .before in
+    let e = n .before .before in
     let a = e .before in
     let s = a .before .before in
-    λ q.
-    name-ways (s .pre .1 .0) (s .args .i) (s .pre .1 .1 .0 .0) _ _ _ _ (sym (a .kind-at .ensures) ∙ e .if1 .taken)
-    (c .before .name-at .ensures .0) (c .head-fits .ensures q)
+    name-ways (s .pre .1 .0) (s .args .i) (s .pre .1 .1 .0 .0) _ _ _ _ (sym (a .kind-at .ensures) ∙ e .if1 .taken) (n .name-at .ensures .0)
+    (rw (r .row .ensures .0) at (c .row-fits .ensures))
 
 ways-fit-left-part-requires : (t : ℕ) → ways-fit-lts.Need-left-part-requires (callees t) (ways-fit-at t) ways-fit.Post
 ways-fit-left-part-requires t c κs =
@@ -196,10 +167,9 @@ ways-fit-returns-2 t c =
     let e = f .before in
     let a = e .before .before in
     let s = a .before .before in
-    λ q.
     recipe-ways (s .pre .1 .0) (s .args .i) (s .pre .1 .1 .0 .0) _ _ _ _ (sym (a .kind-at .ensures) ∙ e .if2 .taken)
     (r .right-part .ensures .0) (f .left-part .ensures .0) (g .least .ensures .0) (l .low .ensures .0) (h .high .ensures .0)
-    (c .ways-fit .ensures q)
+    (c .ways-fit .ensures)
 
 ways-fit-left-part-requires-2 : (t : ℕ) → ways-fit-lts.Need-left-part-requires-2 (callees t) (ways-fit-at t) ways-fit.Post
 ways-fit-left-part-requires-2 t c κs =
@@ -232,7 +202,14 @@ ways-fit-ways-fit-requires-2 t c κs =
     )
 
 ways-fit-returns-3 : (t : ℕ) → ways-fit-lts.Need-returns-3 (callees t) (ways-fit-at t) ways-fit.Post
-ways-fit-returns-3 t c = λ q. absurd (false≢true q)
+ways-fit-returns-3 t c =
+    let d = c .before in
+    let l = d .before in
+    let e = l .before in
+    let a = e .before .before .before in
+    let s = a .before .before in
+    menu-fails (s .pre .1 .0) (s .args .i) (s .pre .1 .1 .0 .0) _ _ _ _ (sym (a .kind-at .ensures) ∙ e .if3 .taken)
+    (l .left-part2 .ensures .0) (unmet (d .ways-fit2 .ensures) (c .if4 .taken))
 
 ways-fit-right-part-requires-2 : (t : ℕ) → ways-fit-lts.Need-right-part-requires-2 (callees t) (ways-fit-at t) ways-fit.Post
 ways-fit-right-part-requires-2 t c κs =
@@ -275,10 +252,9 @@ ways-fit-returns-4 t c =
     let e = l .before in
     let a = e .before .before .before in
     let s = a .before .before in
-    λ q.
     menu-ways (s .pre .1 .0) (s .args .i) (s .pre .1 .1 .0 .0) _ _ _ _ (sym (a .kind-at .ensures) ∙ e .if3 .taken)
-    (l .left-part2 .ensures .0) (r .right-part2 .ensures .0) (d .ways-fit2 .ensures (not-false _ (r .before .if4 .left)))
-    (c .ways-fit3 .ensures q)
+    (l .left-part2 .ensures .0) (r .right-part2 .ensures .0) (d .ways-fit2 .ensures .0 (not-false _ (r .before .if4 .left)))
+    (c .ways-fit3 .ensures)
 
 ways-fit-returns-5 : (t : ℕ) → ways-fit-lts.Need-returns-5 (callees t) (ways-fit-at t) ways-fit.Post
 ways-fit-returns-5 t c =
@@ -286,16 +262,17 @@ ways-fit-returns-5 t c =
     let a = e .before .before in
     let s = a .before .before in
     let k = a .kind-at .ensures in
-    λ q.
-    rest-ways (s .pre .1 .0) (s .args .i) (s .pre .1 .1 .0 .0) _ _ _ _ (λ h. e .before .if1 .left (k ∙ h)) (λ h. e .if2 .left (k ∙ h))
-    (λ h. c .if3 .left (k ∙ h))
+    holds
+    (rest-ways (s .pre .1 .0) (s .args .i) (s .pre .1 .1 .0 .0) _ _ _ _ (λ h. e .before .if1 .left (k ∙ h)) (λ h. e .if2 .left (k ∙ h))
+    (λ h. c .if3 .left (k ∙ h)))
 
 pub +ways-fit-spec : {M : Type 1} → statement M
 +ways-fit-spec = close μ-ways-fit λ t. ways-fit-lts.spec (callees t) (ways-fit-at t)
     ways-fit.Post
     (ways-fit-kind-at-requires t)
     (ways-fit-name-at-requires t)
-    (ways-fit-head-fits-requires t)
+    (ways-fit-row-requires t)
+    (ways-fit-row-fits-requires t)
     (ways-fit-returns t)
     (ways-fit-left-part-requires t)
     (ways-fit-least-requires t)

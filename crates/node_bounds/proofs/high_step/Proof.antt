@@ -6,7 +6,7 @@ use Rattle.node_bounds.proofs.StepsByKind.{high-name, high-rest, high-d
 use Rattle.node_bounds.proofs.StepsByKind.{byte-small, under-small, sum-small, part-small, min-small, zero-small, top-small}
 use Rattle.node_bounds.proofs.StepsByKind.{same-low, left-both}
 use Rattle.bounds.specs.Inner.Table.{highAt, rowOf, ifRecipe, inClass}
-use Rattle.lines.specs.Inner.Count.{bit}
+use Rattle.lines.specs.Count.{bit}
 use Rattle.bounds.specs.Inner.Bound.{off}
 use Rattle.card.specs.Format.{leftAt}
 use Rattle.node_bounds.proofs.high_step.Statement.{statement}

@@ -5,7 +5,7 @@ use borrow.Author.Needs.{needs}
 use Rattle.node_bounds.proofs.StepsByKind.{low-name, low-done, low-lend, low-either, low-recipe, low-both, left-both}
 use Rattle.node_bounds.proofs.StepsByKind.{byte-small, less-small, sum-small, part-small, max-small, zero-small, same-low}
 use Rattle.bounds.specs.Inner.Table.{lowAt, rowOf, ifRecipe, inClass}
-use Rattle.lines.specs.Inner.Count.{bit}
+use Rattle.lines.specs.Count.{bit}
 use Rattle.node_bounds.proofs.low_step.Statement.{statement}
 use Rattle.node_bounds.proofs.low_step.Tie as tie
 

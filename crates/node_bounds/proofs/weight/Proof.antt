@@ -2,7 +2,7 @@ use native.Mathlib.Omega.{arith}
 use mathlib.Core.Path.{refl, sym, ap₂, _∙_}
 use borrow.Author.Needs.{needs}
 use Rattle.bounds.specs.Inner.Table.{takesIn, inClass}
-use Rattle.lines.specs.Inner.Count.{bit}
+use Rattle.lines.specs.Count.{bit}
 use borrow.Author.Tests.{not-true, not-false}
 use Rattle.node_bounds.proofs.weight.Statement.{statement}
 use Rattle.node_bounds.proofs.weight.Tie as tie

@@ -15,7 +15,7 @@ unfoldable pub builtAt : List ℕ → ℕ → Built
 builtAt bs i = cond (wellBuilt bs i && leb (heightAt bs i) 8) (Height (heightAt bs i)) Faulty
 
 -- Node i stands on the card, and t begins with the heights of the nodes before it.
-pub record Tabled (bs : List ℕ) (i : ℕ) (t : List ℕ) : Type 0 where
+pub record HeightsTabled (bs : List ℕ) (i : ℕ) (t : List ℕ) : Type 0 where
   pub here : 16 + 5 * i ≤ length bs
   pub few : i < 512
   pub size : length t ≡ 512

@@ -1,9 +1,10 @@
 -- One word counts; a memory is told, or stays as it is.
-use mathlib.Core.Path.{_≡_, refl, sym, _∙_}
+use mathlib.Core.Path.{refl, sym, _∙_}
 use mathlib.Core.Logic.{inl}
 use mathlib.Core.Bool.{false≢true}
 use borrow.Author.Needs.{needs}
 use borrow.Author.Tests.{eqb-true, eqb-false, not-false}
+use Rattle.dead.proofs.RowsKept.{recorded-rooms}
 use Rattle.prune.proofs.PruningsTell.{remembering, asking, honest-more}
 use Rattle.prune.proofs.dead_end.Statement.{statement}
 use Rattle.prune.proofs.dead_end.Tie as tie
@@ -17,7 +18,7 @@ same-length c = search needs
 returns : tie.Need-returns
 returns c =
     let at-tired = c .before .before in
-    let one = at-tired .tired .ensures in
+    let one = at-tired .tired .ensures .1 .0 in
     (inl one, ((refl, one ∙ sym (eqb-true _ _ (at-tired .before .before .if1 .taken))), λ p. one))
 
 returns-2 : tie.Need-returns-2
@@ -55,12 +56,9 @@ returns-4 c =
     let honest = remembering (start .pre .1 .0) (eqb-false _ _ (at-if1 .if1 .left)) in
     let told = at-remember .remember .ensures in
     let barren = start .pre .1 .1 (not-false _ (at-if2 .if2 .left)) in
-    let own = at-unlent .unlent .ensures (not-false _ (at-if3 .if3 .left)) in (
+    let own = at-unlent .unlent .ensures .0 (not-false _ (at-if3 .if3 .left)) in (
       honest-more (start .pre .0) own honest barren told,
-      (
-        (told .code-room ∙ sym (honest .code-room), told .word-room ∙ sym (honest .word-room)),
-        λ p. absurd (false≢true p),
-      ),
+      (recorded-rooms told, λ p. absurd (false≢true p)),
     )
 
 pub dead-end-spec : {M : Type 1} → statement M

@@ -49,8 +49,8 @@ returns-4 c =
     let at-unlent = at-if3 .before in
     let at-if1 = at-unlent .before .before .before .before .before .before in
     let start = at-if1 .before .before .before .before .before .before .before in
-    let bare = at-unlent .unlent .ensures (not-false _ (at-if3 .if3 .left)) in
-    λ p. known-doom (start .pre .0) bare (remembering (start .pre .1 .memory) (at-if1 .if1 .left)) (c .known .ensures p)
+    let bare = at-unlent .unlent .ensures .0 (not-false _ (at-if3 .if3 .left)) in
+    λ p. known-doom (start .pre .0) bare (remembering (start .pre .1 .memory) (at-if1 .if1 .left)) (c .known .ensures .0 p)
 
 pub doomed-spec : {M : Type 1} → statement M
 doomed-spec =

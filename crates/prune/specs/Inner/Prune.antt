@@ -16,14 +16,14 @@ use Rattle.entries.specs.Inner.Masks.{Seen}
 use Rattle.branch.specs.declared.Branch.{Branch}
 use Rattle.segment.specs.Inner.Tasks.{agendaOf, Laid}
 use Rattle.dead.specs.Inner.Barren.{Honest}
-use Rattle.bounds.specs.Inner.Table.{Held, Settled}
+use Rattle.bounds.specs.Inner.Table.{TableHeld, Settled}
 
 -- how many entries the job's scope has: the rules, then the lines
 abbrev pub jobCount : List ℕ → ℕ
 jobCount bs = ruleCount bs + lineCount bs
 
 -- i is the left part of a lend
-pub record Lends (bs : List ℕ) (i : ℕ) : Type 0 where
+pub record LendPart (bs : List ℕ) (i : ℕ) : Type 0 where
   pub node : ℕ
   pub here : node < nodeCount bs
   pub lend : kindAt bs node ≡ 6
@@ -32,10 +32,10 @@ pub record Lends (bs : List ℕ) (i : ℕ) : Type 0 where
 -- The first n entries in scope: the job's, then left parts of lends.
 pub record Rooted (bs nodes : List ℕ) (n : ℕ) : Type 0 where
   pub base : scopeIn bs nodes (jobCount bs) ≡ jobOf bs .scope
-  pub lent : (e : ℕ) → jobCount bs ≤ e → e < n → Lends bs (getD nodes e 0)
+  pub lent : (e : ℕ) → jobCount bs ≤ e → e < n → LendPart bs (getD nodes e 0)
 
 -- What every pruning is handed: a sound card, the entries in scope, an agenda with a next task, and a place within the step limit.
-pub record Asks (bs nodes agenda : List ℕ) (b : Branch) : Type 0 where
+pub record PruneAsks (bs nodes agenda : List ℕ) (b : Branch) : Type 0 where
   pub sound : Sound bs
   pub node-room : length nodes ≡ 256
   pub clauses : (e : ℕ) → e < b .count → clausePart bs (nodeCount bs) (getD nodes e 0) ≡ true
@@ -53,7 +53,7 @@ Memory bs codes words = (length words ≡ 1) ⊎ Honest bs (jobOf bs .scope) cod
 
 -- A table of bounds that is settled, if it is there.
 abbrev pub Tabled : List ℕ → List ℕ → List ℕ → List ℕ → Type 0
-Tabled bs names table masks = length masks ≡ 64 → Held bs names table × Settled bs names table masks
+Tabled bs names table masks = length masks ≡ 64 → TableHeld bs names table × Settled bs names table masks
 
 -- What the prunings are stocked with.
 pub record Stocked (bs names table masks codes words : List ℕ) : Type 0 where

@@ -2,7 +2,6 @@
 use native.Mathlib.Omega.{arith}
 use borrow.Author.Needs.{needs}
 use Rattle.sheet_front.proofs.SheetFits.{fitting}
-use Rattle.reader.specs.Read.{toldRead}
 use Rattle.reader.proofs.ReaderExits.{Fits, steps-room, found-list, found-sure, found-wrong}
 use Rattle.reader.proofs.read_steps.Statement.{statement}
 use Rattle.reader.proofs.read_steps.Tie as tie
@@ -35,6 +34,18 @@ steps-check-requires c κs =
 enum-known-steps : tie.Need-enum-known-steps
 enum-known-steps c = search needs
 
+enum-told : tie.Need-enum-told
+enum-told c = search needs
+
+steps-answered-requires : tie.Need-steps-answered-requires
+steps-answered-requires c κs = search needs
+
+returns : tie.Need-returns
+returns c =
+    let at-steps = c .before .before .before in
+    found-wrong (fits (at-steps .before .before)) _ (at-steps .steps-check .ensures .0) _ 0 (c .before .enum-told .given .1)
+    (c .steps-answered .ensures)
+
 read-marks-requires : tie.Need-read-marks-requires
 read-marks-requires c κs =
     let at-steps = c .before .before .before in
@@ -53,17 +64,8 @@ read-marks-requires c κs =
       ),
     )
 
-enum-known-steps-2 : tie.Need-enum-known-steps-2
-enum-known-steps-2 c = search needs
-
-returns : tie.Need-returns
-returns c = c .read-marks .ensures
-
 returns-2 : tie.Need-returns-2
-unfolding toldRead
-returns-2 c =
-    let at-steps = c .before .before .before in
-    found-wrong (fits (at-steps .before .before)) _ (at-steps .steps-check .ensures .0) _ (c .before .steps2 .given .1)
+returns-2 c = c .read-marks .ensures
 
 pub read-steps-spec : {M : Type 1} → statement M
 read-steps-spec =
@@ -75,7 +77,8 @@ read-steps-spec =
     part-steps-check-end
     steps-check-requires
     enum-known-steps
-    read-marks-requires
-    enum-known-steps-2
+    enum-told
+    steps-answered-requires
     returns
+    read-marks-requires
     returns-2)

@@ -11,7 +11,7 @@ use Rattle.calculus.specs.Derivation.{Entry, Scope, extend}
 use Rattle.card.specs.Format.{ruleCount, lineCount, lineNode, listing}
 use Rattle.card.specs.Decode.{ruleEntry, lineEntry}
 use Rattle.card.proofs.CardChecked.{sound-front}
-use Rattle.scope.specs.Inner.Tables.{scopeIn, Entered}
+use Rattle.scope.specs.Inner.Tables.{tableScope, TableEntered}
 use Rattle.card.proofs.SoundNodes.{line-here, sound-line-node}
 use Rattle.scope.proofs.TablesAreScopes.{scope-more, job-scope, entered-more}
 use Rattle.scope.proofs.enter.Statement.{statement}
@@ -19,8 +19,8 @@ use Rattle.scope.proofs.enter.Tie as tie
 
 abbrev Inv-loop : tie.InvT-loop
 Inv-loop card nodes₀ linear₀ p t i₀ nodes linear i =
-    (i ≤ t) × (Entered card nodes linear (p + i)
-    × (scopeIn card nodes linear (p + i) .entries ≡ listing p (ruleEntry card) ++ listing i (lineEntry card)))
+    (i ≤ t) × (TableEntered card nodes linear (p + i)
+    × (tableScope card nodes linear (p + i) .entries ≡ listing p (ruleEntry card) ++ listing i (lineEntry card)))
 
 abbrev μ-loop : tie.MeasureT-loop
 μ-loop card nodes₀ linear₀ p t i₀ nodes linear i = t - i

@@ -10,7 +10,7 @@ use Rattle.calculus.specs.Derivation.{Entry, Scope, extend}
 use Rattle.card.specs.Format.{ruleCount, ruleNode, listing}
 use Rattle.card.specs.Decode.{ruleEntry}
 use Rattle.card.proofs.CardChecked.{sound-front}
-use Rattle.scope.specs.Inner.Tables.{scopeIn, Entered}
+use Rattle.scope.specs.Inner.Tables.{tableScope, TableEntered}
 use Rattle.card.proofs.SoundNodes.{rule-here, sound-rule-node}
 use Rattle.scope.proofs.TablesAreScopes.{scope-more, entered-none, entered-more}
 use Rattle.scope.proofs.enter_rules.Statement.{statement}
@@ -18,7 +18,7 @@ use Rattle.scope.proofs.enter_rules.Tie as tie
 
 abbrev Inv-loop : tie.InvT-loop
 Inv-loop card nodes₀ linear₀ p i₀ nodes linear i =
-    (i ≤ p) × (Entered card nodes linear i × (scopeIn card nodes linear i .entries ≡ listing i (ruleEntry card)))
+    (i ≤ p) × (TableEntered card nodes linear i × (tableScope card nodes linear i .entries ≡ listing i (ruleEntry card)))
 
 abbrev μ-loop : tie.MeasureT-loop
 μ-loop card nodes₀ linear₀ p i₀ nodes linear i = p - i
@@ -29,7 +29,7 @@ byte-requires c κs =
     let f = sound-front (start .args .card .now) (start .pre .0) in search needs
 
 loop-holds : tie.Need-loop-holds Inv-loop μ-loop
-unfolding scopeIn listing
+unfolding tableScope listing
 loop-holds c =
     let start = c .before .before in
     (search needs, (entered-none (start .pre .1 .0) (start .pre .1 .1), refl))

@@ -9,7 +9,7 @@ use borrow.Author.Needs.{needs}
 use borrow.Author.Tests.{eq-eqb, ne-eqb}
 use Rattle.card.specs.Format.{lineCount, lineByte}
 use Rattle.card.proofs.CardChecked.{sound-front}
-use Rattle.lines.specs.Inner.Set.{addS}
+use Rattle.lines.specs.Set.{addS}
 use Rattle.scope.specs.Inner.Sets.{strictBelow, strictOf}
 use Rattle.card.proofs.SoundNodes.{line-here}
 use Rattle.scope.proofs.strict_lines.Statement.{statement}

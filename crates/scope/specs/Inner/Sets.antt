@@ -1,4 +1,4 @@
--- Line sets as sets of items, the must lines of a card as a line set, and the lines surely used as a word.
+-- Line sets as sets of items, the must lines of a card as a line set, and the lines surely used as a set of lines.
 use Prim.Native.Nat.{ℕ, zero, suc, _+_, _-_, _<_}
 use mathlib.Core.Path.{_≡_}
 use mathlib.Core.Bool.{true, false, _&&_}
@@ -10,7 +10,9 @@ use Rattle.calculus.specs.Job.{Listed, surelyUsed}
 use Rattle.card.specs.Format.{ruleCount, lineCount, lineByte}
 use Rattle.card.specs.Decode.{jobOf}
 use Rattle.lines.specs.declared.LineSet.{LineSet}
-use Rattle.lines.specs.Inner.Set.{bitAt, member, emptyS, addS}
+use Rattle.lines.specs.declared.LineWord.{LineWord}
+use Rattle.lines.specs.Set.{member, emptyS, addS}
+use Rattle.lines.specs.Inner.Word.{lineIn}
 
 -- The items of a line set: item i is the entry P + i.
 unfoldable pub items : ℕ → LineSet → Items
@@ -24,15 +26,15 @@ strictBelow bs (suc n) = elim (eqb (lineByte bs n) 1) [ true ↦ addS (strictBel
 unfoldable pub strictOf : List ℕ → LineSet
 strictOf bs = strictBelow bs (lineCount bs)
 
--- the lines of a word as items of the card: line x is bit x
-unfoldable pub wordItems : List ℕ → ℕ → Items
-wordItems bs word e = bitAt word (e - ruleCount bs)
+-- a set of lines as items of the card
+unfoldable pub wordItems : List ℕ → LineWord → Items
+wordItems bs word e = lineIn word (e - ruleCount bs)
 
--- Of the lines, of which a card has at most 64, the word has just those that are in the set.
-pub record LinesOf (P word : ℕ) (U : Items) : Type 0 where
-  pub line : (x : ℕ) → x < 64 → bitAt word x ≡ U (P + x)
+-- Of the lines, of which a card has at most 64, the word has just those that are among the items.
+pub record LinesOf (P : ℕ) (word : LineWord) (U : Items) : Type 0 where
+  pub line : (x : ℕ) → x < 64 → lineIn word x ≡ U (P + x)
 
 -- of the lines in the list l, the word has just those that a derivation with this list surely uses
-pub record SureLines (bs l : List ℕ) (word : ℕ) : Type 0 where
+pub record SureLines (bs l : List ℕ) (word : LineWord) : Type 0 where
   pub lines : (x : Listed (jobOf bs) l) (i : ℕ) → i < lineCount bs → stands (ruleCount bs + i) l ≡ true
-      → bitAt word i ≡ surelyUsed x (ruleCount bs + i)
+      → lineIn word i ≡ surelyUsed x (ruleCount bs + i)

@@ -10,14 +10,14 @@ use Rattle.card.specs.Fault.{clausePart}
 use Rattle.card.specs.Decode.{clauseOf, scopeOf}
 
 -- The scope that the first n entries of the tables stand for, with the card's test of heads.
-unfoldable pub scopeIn : List ℕ → List ℕ → List Bool → ℕ → Scope
-scopeIn bs nodes linear n = record {
+unfoldable pub tableScope : List ℕ → List ℕ → List Bool → ℕ → Scope
+tableScope bs nodes linear n = record {
   entries = listing n (λ e. record { clause = clauseOf bs (getD nodes e 0); linear = getD linear e false });
   fits = scopeOf bs .fits;
 }
 
 -- The first n entries of the tables are clauses of the card, and the linear ones have a place in a line set.
-pub record Entered (bs nodes : List ℕ) (linear : List Bool) (n : ℕ) : Type 0 where
+pub record TableEntered (bs nodes : List ℕ) (linear : List Bool) (n : ℕ) : Type 0 where
   pub node-room : length nodes ≡ 256
   pub linear-room : length linear ≡ 256
   pub clauses : (e : ℕ) → e < n → clausePart bs (nodeCount bs) (getD nodes e 0) ≡ true

@@ -79,7 +79,7 @@ pruned-remembering-requires-2 t c κs =
     let at-prepare = at-if2 .before in
     let start = at-prepare .before .before .before .before .before .before in (
       start .pre .1,
-      λ h. (at-prepare .prepare .ensures .1 .0, at-prepare .prepare .ensures .0 (not-false _ (at-if2 .if2 .left))),
+      λ h. (at-prepare .prepare .ensures .1 .0, at-prepare .prepare .ensures .0 .0 (not-false _ (at-if2 .if2 .left))),
     )
 
 pruned-returns-3 : (t : ℕ) → pruned-lts.Need-returns-3 (pruned-claims t) (pruned-at t) pruned.Post

@@ -13,7 +13,7 @@ use Rattle.branch.specs.Inner.Values.{answerIn, Awake}
 use Rattle.branch.proofs.Outcome.{the-type}
 use Rattle.prune.proofs.StockKept.{stocked-start}
 use Rattle.search.specs.declared.Found.{Found}
-use Rattle.search.specs.Inner.Found.{Finds, Ran, Says}
+use Rattle.search.specs.Inner.Found.{Finds, Ran, FoundSays}
 use Rattle.search.proofs.first_list.Statement.{statement}
 use Rattle.search.proofs.first_list.Tie as tie
 
@@ -25,8 +25,8 @@ awake IsTired (inl k) = absurd (omega (arith, k))
 awake IsTired (inr k) = absurd (omega (arith, k))
 
 -- what a run says is what is found
-says-finds : (bs tape ws : List ℕ) (r : Outcome) (s : Found) → Ran bs tape (answerIn r ws) → Says ws r s → Finds bs tape s
-unfolding Ran Says Finds answerIn
+says-finds : (bs tape ws : List ℕ) (r : Outcome) (s : Found) → Ran bs tape (answerIn r ws) → FoundSays ws r s → Finds bs tape s
+unfolding Ran FoundSays Finds answerIn
 says-finds bs tape ws IsSolved s q e = rw e q
 says-finds bs tape ws IsStuck s q e = rw e q
 says-finds bs tape ws IsTired s q e = absurd e

@@ -6,6 +6,7 @@ use borrow.Author.Needs.{needs}
 use Rattle.card.proofs.CardChecked.{sound-front}
 use Rattle.prune.proofs.RootsKept.{rooted-start}
 use Rattle.engine.proofs.WaysSaid.{equipped-at}
+use Rattle.engine.proofs.CountIsScan.{count-is-scan}
 use Rattle.search.proofs.StartFindsFirst.{goal-code, at-goal, asked, ran, started, start-count}
 use Rattle.search.proofs.run.Statement.{statement}
 use Rattle.search.proofs.run.Tie as tie
@@ -51,8 +52,11 @@ solve-requires c κs =
       told .0,
       (
         told .1,
-        equipped-at (start-count _ (at-start .start .ensures .0))
-            (record { way-room = q .way-room; rooted = rooted-start (q .scope); stocked = start .pre .1 }),
+        (
+          equipped-at (start-count _ (at-start .start .ensures .0))
+              (record { way-room = q .way-room; rooted = rooted-start (q .scope); stocked = start .pre .1 }),
+          count-is-scan (told .0),
+        ),
       ),
     )
 

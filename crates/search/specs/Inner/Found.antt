@@ -32,10 +32,10 @@ Ran bs tape Stuck = (l : List ℕ) → Listed (jobOf bs) l → ⊥
 Ran bs tape Tired = Unit {0}
 
 -- what is found is what the run says
-unfoldable pub Says : List ℕ → Outcome → Found → Type 0
-Says way IsSolved s = s ≡ ListOf (wayIn way .at)
-Says way IsStuck s = s ≡ Nothing
-Says way IsTired s = ⊥
+unfoldable pub FoundSays : List ℕ → Outcome → Found → Type 0
+FoundSays way IsSolved s = s ≡ ListOf (wayIn way .at)
+FoundSays way IsStuck s = s ≡ Nothing
+FoundSays way IsTired s = ⊥
 
 -- What a run starts from: a sound card, its tables in order, and room for a tape and a way.
 pub record Starts (bs waits tape nodes heads way : List ℕ) : Type 0 where

@@ -5,12 +5,12 @@ use mathlib.Core.Logic.{_⊎_}
 use mathlib.Core.Bool.{Bool, true, _||_}
 use mathlib.Core.List.{List, [], _∷_}
 use lib.ListN.{length, getD, set}
-use Rattle.calculus.specs.Formula.{Goal, atomᴳ, topᴳ, oneᴳ, zeroᴳ, tensor, with, oplus, lolliᴳ}
 use Rattle.calculus.specs.Items.{Items}
 use Rattle.calculus.specs.Derivation.{Scope}
 use Rattle.card.specs.Format.{ruleCount, nodeCount, kindAt, leftAt, rightAt}
 use Rattle.card.specs.Fault.{goalPart, clausePart, heightAt}
 use Rattle.card.specs.Decode.{goalAt, clauseOf}
+use Rattle.card.specs.Inner.Size.{weight}
 use Rattle.scope.specs.Inner.Sets.{items}
 use Rattle.agenda.specs.Inner.Agenda.{Agenda, Task, task, pushed, core}
 use Rattle.agenda.specs.Inner.Sought.{Place, holding, None, Least}
@@ -33,17 +33,7 @@ unfoldable pub agendaOf : List ℕ → List ℕ → ℕ → Agenda
 agendaOf bs codes zero = []
 agendaOf bs codes (suc n) = taskOf bs (getD codes n 0) ∷ agendaOf bs codes n
 
--- "nesting, steps left and formula size give the falling number": a goal's size, and that of all tasks, each by the nesting left to it.
-unfoldable pub weight : Goal → ℕ
-weight (atomᴳ a) = 1
-weight topᴳ = 1
-weight oneᴳ = 1
-weight zeroᴳ = 1
-weight (tensor G H) = 1 + weight G + weight H
-weight (with G H) = 1 + weight G + weight H
-weight (oplus G H) = 1 + weight G + weight H
-weight (lolliᴳ D G) = 1 + weight G
-
+-- how much there is still to do: a goal's size by the nesting left to it, and that of all tasks
 unfoldable pub taskWeight : List ℕ → ℕ → ℕ
 taskWeight bs c = weight (goalAt bs (nodeOf c)) * (nestOf c + 1)
 

@@ -2,7 +2,7 @@
 use mathlib.Core.Path.{_∙_, ap}
 use borrow.Author.Tests.{not-true, not-false}
 use Rattle.card.proofs.CardChecked.{sound-front}
-use Rattle.lines.specs.Inner.Set.{fullS}
+use Rattle.lines.specs.Set.{fullS}
 use Rattle.trace.proofs.FollowsExactly.{not-alive, not-inside, slack-covers, strict-covers}
 use borrow.Author.Needs.{needs}
 use Rattle.trace.proofs.covers.Statement.{statement}

@@ -6,7 +6,7 @@ use Rattle.trace.proofs.end_check.Statement.{statement}
 use Rattle.trace.proofs.end_check.Tie as tie
 
 length-check-requires : tie.Need-length-check-requires
-length-check-requires c κs = c .before .pre .1 .0
+length-check-requires c κs = (c .before .pre .1 .0, c .before .pre .1 .1 .0)
 
 enum-told : tie.Need-enum-told
 enum-told c = search needs
@@ -24,7 +24,7 @@ returns c =
 covers-requires : tie.Need-covers-requires
 covers-requires c κs =
     let start = c .before .before .before .before in
-    (start .pre .0, start .pre .1 .1)
+    (start .pre .0, start .pre .1 .1 .1)
 
 refuse-requires : tie.Need-refuse-requires
 refuse-requires c κs = tt

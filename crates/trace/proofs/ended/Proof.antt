@@ -1,7 +1,7 @@
 -- The tests of the end, with as many must lines as a scan finds; then the lines of the walk.
 use mathlib.Core.Path.{_∙_, ap, sym, subst}
 use borrow.Author.Needs.{needs}
-use Rattle.lines.specs.Inner.Count.{countS}
+use Rattle.lines.specs.Count.{countS}
 use Rattle.trace.specs.Inner.Listing.{Ending}
 use Rattle.trace.proofs.ended.Statement.{statement}
 use Rattle.trace.proofs.ended.Tie as tie
@@ -16,7 +16,8 @@ end-check-requires : tie.Need-end-check-requires
 end-check-requires c κs =
     let strict = c .before in
     let start = strict .before .before in
-    (start .pre .0, (start .pre .1 .0, (start .pre .1 .1, c .count .ensures ∙ ap countS (strict .strict-lines .ensures))))
+    let p = start .pre in
+    (p .0, (p .1 .0, (p .1 .1 .0, (p .1 .1 .1, c .count .ensures ∙ ap countS (strict .strict-lines .ensures)))))
 
 with-lines-requires : tie.Need-with-lines-requires
 with-lines-requires c κs = search needs

@@ -1,7 +1,7 @@
 -- What the callees answer, put together.
 use Prim.Native.Nat.{_+_}
 use Rattle.card.proofs.CardChecked.{sound-front}
-use Rattle.summary.specs.Inner.Values.{startB}
+use Rattle.summary.specs.Inner.Values.{startP}
 use borrow.Author.Needs.{needs}
 use Rattle.trace.proofs.start.Statement.{statement}
 use Rattle.trace.proofs.start.Tie as tie
@@ -25,7 +25,7 @@ add-t6 : tie.Need-add-t6
 add-t6 c = search needs
 
 returns : tie.Need-returns
-unfolding startB
+unfolding startP
 returns c =
     let p = c .before .before .byte .ensures .0 in
     let t = c .before .byte2 .ensures .0 in

@@ -3,7 +3,6 @@ use Prim.Native.Nat.{_≤_}
 use native.Mathlib.Omega.{arith}
 use mathlib.Core.Path.{refl}
 use Rattle.card.proofs.CardChecked.{sound-front}
-use Rattle.trace.specs.Inner.Listing.{toldFollowed, SurelyFollows}
 use Rattle.trace.proofs.FollowsExactly.{start-call, end-short, end-counted, end-found, end-sure, stray-found}
 use Rattle.trace.proofs.steps_check.Statement.{statement}
 use Rattle.trace.proofs.steps_check.Tie as tie
@@ -53,6 +52,19 @@ module _ (c : tie.After-walk) where
   abbrev entry : tie.Start
   entry = known .before
 
+enum-told : tie.Need-enum-told
+enum-told c = c .match .keys2
+
+strayed-requires : tie.Need-strayed-requires
+strayed-requires c κs = tt
+
+returns : tie.Need-returns
+returns c =
+    let w = c .before .before .before in
+    stray-found (entry w .pre .0) (entry w .pre .1 .0) (entry w .pre .1 .1) (short (known w)) (at-enter w .enter .ensures .0)
+    (at-enter w .enter .ensures .1) _ (at-start w .start .ensures) _ (at-word w .word .ensures .0) (w .walk .ensures)
+    (c .before .enum-told .given .1) _ (c .strayed .ensures)
+
 ended-requires : tie.Need-ended-requires
 ended-requires c κs =
     let at-walked = c .before in
@@ -62,17 +74,17 @@ ended-requires c κs =
         end-short (entry w .pre .0) (entry w .pre .1 .0) (entry w .pre .1 .1) (short (known w)) (at-enter w .enter .ensures .0)
             (at-enter w .enter .ensures .1) _ (at-start w .start .ensures) _ (at-word w .word .ensures .0) (w .walk .ensures) _
             (at-walked .walked .given .1),
-        end-counted (entry w .pre .0) (entry w .pre .1 .0) (entry w .pre .1 .1) (short (known w)) (at-enter w .enter .ensures .0)
-            (at-enter w .enter .ensures .1) _ (at-start w .start .ensures) _ (at-word w .word .ensures .0) (w .walk .ensures) _
-            (at-walked .walked .given .1),
+        (
+          short (known w),
+          end-counted (entry w .pre .0) (entry w .pre .1 .0) (entry w .pre .1 .1) (short (known w)) (at-enter w .enter .ensures .0)
+              (at-enter w .enter .ensures .1) _ (at-start w .start .ensures) _ (at-word w .word .ensures .0) (w .walk .ensures) _
+              (at-walked .walked .given .1),
+        ),
       ),
     )
 
-enum-known-walked-2 : tie.Need-enum-known-walked-2
-enum-known-walked-2 c = c .match .keys2
-
-returns : tie.Need-returns
-returns c =
+returns-2 : tie.Need-returns-2
+returns-2 c =
     let at-walked = c .before .before in
     let w = at-walked .before .before in (
       end-found (entry w .pre .0) (entry w .pre .1 .0) (entry w .pre .1 .1) (short (known w)) (at-enter w .enter .ensures .0)
@@ -81,16 +93,6 @@ returns c =
       end-sure (entry w .pre .0) (entry w .pre .1 .0) (entry w .pre .1 .1) (short (known w)) (at-enter w .enter .ensures .0)
           (at-enter w .enter .ensures .1) _ (at-start w .start .ensures) _ (at-word w .word .ensures .0) (w .walk .ensures) _
           (at-walked .walked .given .1) _ (c .ended .ensures .0) (c .ended .ensures .1),
-    )
-
-returns-2 : tie.Need-returns-2
-unfolding toldFollowed SurelyFollows
-returns-2 c =
-    let w = c .before .before .before in (
-      stray-found (entry w .pre .0) (entry w .pre .1 .0) (entry w .pre .1 .1) (short (known w)) (at-enter w .enter .ensures .0)
-          (at-enter w .enter .ensures .1) _ (at-start w .start .ensures) _ (at-word w .word .ensures .0) (w .walk .ensures)
-          (c .before .walked2 .given .1),
-      tt,
     )
 
 pub steps-check-spec : {M : Type 1} → statement M
@@ -102,7 +104,8 @@ steps-check-spec =
     word-requires
     walk-requires
     enum-known-walked
-    ended-requires
-    enum-known-walked-2
+    enum-told
+    strayed-requires
     returns
+    ended-requires
     returns-2)

@@ -1,6 +1,6 @@
 -- What `cut` and `is_empty` answer, put together.
 use mathlib.Core.Path.{_∙_, ap}
-use Rattle.lines.specs.Inner.Set.{isEmptyS}
+use Rattle.lines.specs.Set.{isEmptyS}
 use borrow.Author.Needs.{needs}
 use Rattle.trace.proofs.within.Statement.{statement}
 use Rattle.trace.proofs.within.Tie as tie

@@ -10,8 +10,11 @@ use Rattle.calculus.specs.Walk.{ItemsDivide}
 use Rattle.card.specs.Format.{ruleCount}
 use Rattle.card.specs.Verdict.{Verdict, Where, sound, fault, step, steps, whereOf}
 use Rattle.card.specs.Decode.{jobOf}
+use Rattle.lines.specs.declared.LineWord.{LineWord}
 use Rattle.scope.specs.Inner.Sets.{items, SureLines}
 use Rattle.summary.specs.declared.Summary.{Summary}
+use Rattle.summary.specs.declared.Walked.{Walked}
+use Rattle.summary.specs.declared.Walked.the-variants.{Ended, Astray}
 use Rattle.trace.specs.declared.Followed.{Followed}
 use Rattle.trace.specs.declared.Followed.the-variants.{Listed, Refused}
 use Rattle.trace.specs.Steps.{stepsFault}
@@ -34,9 +37,14 @@ toldFollowed (Listed s) = sound
 toldFollowed (Refused f) = fault (f .number) (whereOf (f .place))
 
 -- the lines that are told, if any
-unfoldable pub HasLines : ℕ → Followed → Type 0
+unfoldable pub HasLines : LineWord → Followed → Type 0
 HasLines sure (Listed s) = s ≡ sure
 HasLines sure (Refused f) = Unit {0}
+
+-- what a walk's answer is as what is found of the steps: its refusal; of a walk that has ended, the lines that it gathered
+unfoldable pub followedOf : Walked → Followed
+followedOf (Ended w) = Listed (w .sure)
+followedOf (Astray f) = Refused f
 
 -- what is found of a list: 13, 17 or 18; 19; or nothing, and it is the list of a derivation within limits
 pub data Following (bs l : List ℕ) : Verdict → Type 0 where

@@ -1,7 +1,8 @@
--- The walk by its connectives: each call is ready, and each answer tells of the part walked. Nesting left, steps left and node fall.
+-- The walk by its connectives: each call is ready, and each answer tells of the part walked. Nesting left, steps left and formula
+-- size fall.
 use mathlib.Core.Path.{_≡_, refl, sym, ap, _∙_}
 use native.Mathlib.Omega.{arith}
-use Prim.Native.Nat.{_+_, _*_}
+use Prim.Native.Nat.{_+_}
 use mathlib.Core.Logic.{inl, inr}
 use mathlib.Core.Bool.{Bool, true, false}
 use Rattle.calculus.specs.Formula.{topᴳ, oneᴳ, usable}
@@ -11,7 +12,7 @@ use Rattle.card.specs.Decode.{clauseOf, scopeOf}
 use Rattle.card.proofs.CardChecked.{sound-front}
 use Rattle.card.proofs.NodesDecoded.{reads-rest, reads-done}
 use Rattle.card.proofs.SoundNodes.{clause-lower}
-use Rattle.walk.proofs.CallsAreReady.{Fitting, weight, rules-below, first-lost, run-lost, run-tensor, run-with, goal-here}
+use Rattle.walk.proofs.CallsAreReady.{Fitting, ahead, goalNumber, clauseNumber, rules-below, first-lost, run-lost, run-tensor, run-with, goal-here}
 use Rattle.walk.proofs.CallsAreReady.{done-ends, never-ends, left-call, right-call, kind-nine, tensor-parts, with-parts, tensor-both}
 use Rattle.walk.proofs.CallsAreReady.{tensor-joins, with-both, with-joins, put-room, lend-call, lend-lost, lend-done, one-of-lost}
 use Rattle.walk.proofs.CallsAreReady.{one-of-room, one-of-call, one-of-done, atom-lost, atom-call, atom-done, clause-here, head-ends}
@@ -52,10 +53,11 @@ use Rattle.card.proofs.format.left.Reads as left-reads
 use Rattle.card.proofs.format.right.Reads as right-reads
 use Rattle.scope.proofs.put.Reads as put-reads
 use Rattle.scope.proofs.usable.Reads as usable-reads
-use Rattle.summary.proofs.Branch.ended.Reads as ended-reads
-use Rattle.summary.proofs.Branch.lent.Reads as lent-reads
-use Rattle.summary.proofs.Branch.on.Reads as on-reads
-use Rattle.summary.proofs.Branch.stepped.Reads as stepped-reads
+use Rattle.summary.proofs.astray.Reads as astray-reads
+use Rattle.summary.proofs.Position.ended.Reads as ended-reads
+use Rattle.summary.proofs.Position.lent.Reads as lent-reads
+use Rattle.summary.proofs.Position.on.Reads as on-reads
+use Rattle.summary.proofs.Position.stepped.Reads as stepped-reads
 use Rattle.summary.proofs.Summary.beside.Reads as beside-reads
 use Rattle.summary.proofs.Summary.tensor.Reads as tensor-reads
 use Rattle.summary.proofs.Summary.using.Reads as using-reads
@@ -71,31 +73,31 @@ use Rattle.walk.proofs.+conditions+menu+use_clause+walk+walk_atom+walk_
 }
 
 abbrev μ-conditions : Measures 4 conditions-kinds.ps ℕ
-μ-conditions κs a = weight (a .1 .1 .1 .1 .0) + 4 * (a .1 .1 .1 .1 .1 .1 .0) + 2
+μ-conditions κs a = clauseNumber (a .0 .now) (a .1 .1 .1 .1 .0) (a .1 .1 .1 .1 .1 .1 .0) + 2
 
 abbrev μ-menu : Measures 4 menu-kinds.ps ℕ
-μ-menu κs a = weight (a .1 .1 .1 .1 .0) + 4 * (a .1 .1 .1 .1 .1 .1 .0) + 1
+μ-menu κs a = clauseNumber (a .0 .now) (a .1 .1 .1 .1 .0) (a .1 .1 .1 .1 .1 .1 .0) + 1
 
 abbrev μ-use-clause : Measures 4 use-clause-kinds.ps ℕ
-μ-use-clause κs a = weight (a .1 .1 .1 .1 .0)
+μ-use-clause κs a = ahead (a .1 .1 .1 .1 .0)
 
 abbrev μ-walk : Measures 4 walk-kinds.ps ℕ
-μ-walk κs a = weight (a .1 .1 .1 .1 .0) + 4 * (a .1 .1 .1 .1 .1 .0) + 3
+μ-walk κs a = goalNumber (a .0 .now) (a .1 .1 .1 .1 .0) (a .1 .1 .1 .1 .1 .0) + 3
 
 abbrev μ-walk-atom : Measures 4 walk-atom-kinds.ps ℕ
-μ-walk-atom κs a = weight (a .1 .1 .1 .1 .0) + 4 * (a .1 .1 .1 .1 .1 .0) + 2
+μ-walk-atom κs a = goalNumber (a .0 .now) (a .1 .1 .1 .1 .0) (a .1 .1 .1 .1 .1 .0) + 2
 
 abbrev μ-walk-lend : Measures 4 walk-lend-kinds.ps ℕ
-μ-walk-lend κs a = weight (a .1 .1 .1 .1 .0) + 4 * (a .1 .1 .1 .1 .1 .0) + 2
+μ-walk-lend κs a = goalNumber (a .0 .now) (a .1 .1 .1 .1 .0) (a .1 .1 .1 .1 .1 .0) + 2
 
 abbrev μ-walk-one-of : Measures 4 walk-one-of-kinds.ps ℕ
-μ-walk-one-of κs a = weight (a .1 .1 .1 .1 .0) + 4 * (a .1 .1 .1 .1 .1 .0) + 2
+μ-walk-one-of κs a = goalNumber (a .0 .now) (a .1 .1 .1 .1 .0) (a .1 .1 .1 .1 .1 .0) + 2
 
 abbrev μ-walk-tensor : Measures 4 walk-tensor-kinds.ps ℕ
-μ-walk-tensor κs a = weight (a .1 .1 .1 .1 .0) + 4 * (a .1 .1 .1 .1 .1 .0) + 2
+μ-walk-tensor κs a = goalNumber (a .0 .now) (a .1 .1 .1 .1 .0) (a .1 .1 .1 .1 .1 .0) + 2
 
 abbrev μ-walk-with : Measures 4 walk-with-kinds.ps ℕ
-μ-walk-with κs a = weight (a .1 .1 .1 .1 .0) + 4 * (a .1 .1 .1 .1 .1 .0) + 2
+μ-walk-with κs a = goalNumber (a .0 .now) (a .1 .1 .1 .1 .0) (a .1 .1 .1 .1 .1 .0) + 2
 
 abbrev conditions-at : ℕ → In 4 conditions-kinds.ps
 conditions-at t = and 4 conditions-kinds.ps (is 4 conditions-kinds.ps μ-conditions t) conditions.Pre
@@ -183,6 +185,8 @@ menu-claims t = (
   right-reads.Learnt,
   next-side-reads.Asked,
   next-side-reads.Learnt,
+  astray-reads.Asked,
+  astray-reads.Learnt,
   stepped-reads.Asked,
   stepped-reads.Learnt,
   conditions-below t,
@@ -225,6 +229,8 @@ walk-atom-claims t = (
   left-reads.Learnt,
   next-step-reads.Asked,
   next-step-reads.Learnt,
+  astray-reads.Asked,
+  astray-reads.Learnt,
   use-clause-below t,
   use-clause.Post,
 )
@@ -249,6 +255,8 @@ abbrev walk-one-of-claims : ℕ → walk-one-of-lts.Claims
 walk-one-of-claims t = (
   next-side-reads.Asked,
   next-side-reads.Learnt,
+  astray-reads.Asked,
+  astray-reads.Learnt,
   stepped-reads.Asked,
   stepped-reads.Learnt,
   walk-below t,
@@ -447,6 +455,20 @@ menu-next-side-requires t c κs =
 menu-enum-known-next : (t : ℕ) → menu-lts.Need-enum-known-next (menu-claims t) (menu-at t) menu.Post
 menu-enum-known-next t c = c .match .keys1
 
+menu-enum-told : (t : ℕ) → menu-lts.Need-enum-told (menu-claims t) (menu-at t) menu.Post
+menu-enum-told t c = c .match .keys2
+
+menu-astray-requires : (t : ℕ) → menu-lts.Need-astray-requires (menu-claims t) (menu-at t) menu.Post
+menu-astray-requires t c κs = tt
+
+menu-returns : (t : ℕ) → menu-lts.Need-returns (menu-claims t) (menu-at t) menu.Post
+menu-returns t c =
+    let at-told = c .before in
+    let at-side = at-told .before .before in
+    let start = at-side .before .before .before .before .before .before .before in
+    menu-lost (start .pre .1 .0) _ _ (start .pre .1 .1 .0) (start .pre .1 .1 .1) (tested t (at-side .before)) (at-side .next-side .ensures)
+    (at-told .enum-told .given .1) _ (c .astray .ensures)
+
 menu-stepped-requires : (t : ℕ) → menu-lts.Need-stepped-requires (menu-claims t) (menu-at t) menu.Post
 menu-stepped-requires t c κs =
     let at-next = c .before .before .before in
@@ -463,25 +485,14 @@ menu-conditions-requires t c κs =
     menu-call (start .pre .1 .0) _ _ (start .pre .1 .1 .0) (start .pre .1 .1 .1) (tested t (at-side .before)) (at-side .next-side .ensures) _
     (at-next .next .given .1) _ (c .stepped .ensures) t (start .pre .0)
 
-menu-enum-known-next-2 : (t : ℕ) → menu-lts.Need-enum-known-next-2 (menu-claims t) (menu-at t) menu.Post
-menu-enum-known-next-2 t c = c .match .keys2
-
-menu-returns : (t : ℕ) → menu-lts.Need-returns (menu-claims t) (menu-at t) menu.Post
-menu-returns t c =
+menu-returns-2 : (t : ℕ) → menu-lts.Need-returns-2 (menu-claims t) (menu-at t) menu.Post
+menu-returns-2 t c =
     let at-stepped = c .before in
     let at-next = at-stepped .before .before .before .before in
     let at-side = at-next .before .before in
     let start = at-side .before .before .before .before .before .before .before in
     menu-done (start .pre .1 .0) _ _ (start .pre .1 .1 .0) (start .pre .1 .1 .1) (tested t (at-side .before)) (at-side .next-side .ensures) _
     (at-next .next .given .1) _ (at-stepped .stepped .ensures) (c .conditions .ensures)
-
-menu-returns-2 : (t : ℕ) → menu-lts.Need-returns-2 (menu-claims t) (menu-at t) menu.Post
-menu-returns-2 t c =
-    let at-next = c .before in
-    let at-side = at-next .before .before in
-    let start = at-side .before .before .before .before .before .before .before in
-    menu-lost (start .pre .1 .0) _ _ (start .pre .1 .1 .0) (start .pre .1 .1 .1) (tested t (at-side .before)) (at-side .next-side .ensures)
-    (at-next .next2 .given .1)
 
 use-clause-mul-node : (t : ℕ) → use-clause-lts.Need-mul-node (use-clause-claims t) (use-clause-at t) use-clause.Post
 use-clause-mul-node t c =
@@ -691,6 +702,21 @@ walk-atom-next-step-requires t c κs =
 walk-atom-enum-known-next : (t : ℕ) → walk-atom-lts.Need-enum-known-next (walk-atom-claims t) (walk-atom-at t) walk-atom.Post
 walk-atom-enum-known-next t c = c .match .keys1
 
+walk-atom-enum-told : (t : ℕ) → walk-atom-lts.Need-enum-told (walk-atom-claims t) (walk-atom-at t) walk-atom.Post
+walk-atom-enum-told t c = c .match .keys2
+
+walk-atom-astray-requires : (t : ℕ) → walk-atom-lts.Need-astray-requires (walk-atom-claims t) (walk-atom-at t) walk-atom.Post
+walk-atom-astray-requires t c κs = tt
+
+walk-atom-returns : (t : ℕ) → walk-atom-lts.Need-returns (walk-atom-claims t) (walk-atom-at t) walk-atom.Post
+walk-atom-returns t c =
+    let at-told = c .before in
+    let at-next-step = at-told .before .before in
+    let at-left = at-next-step .before .before .before in
+    let start = at-left .before .before .before in
+    atom-lost (start .pre .1 .0) _ (start .pre .1 .1 .0) (start .pre .1 .1 .1) _ (at-left .left .ensures .0) (at-next-step .next-step
+    .ensures) (at-told .enum-told .given .1) _ (c .astray .ensures)
+
 walk-atom-use-clause-requires : (t : ℕ) → walk-atom-lts.Need-use-clause-requires (walk-atom-claims t) (walk-atom-at t) walk-atom.Post
 walk-atom-use-clause-requires t c κs =
     let at-next = c .before .before .before in
@@ -700,24 +726,12 @@ walk-atom-use-clause-requires t c κs =
     atom-call (start .pre .1 .0) _ (start .pre .1 .1 .0) (start .pre .1 .1 .1) _ (at-left .left .ensures .0) (at-next-step .next-step
     .ensures) _ (at-next .next .given .1) t (start .pre .0)
 
-walk-atom-enum-known-next-2 : (t : ℕ) → walk-atom-lts.Need-enum-known-next-2 (walk-atom-claims t) (walk-atom-at t) walk-atom.Post
-walk-atom-enum-known-next-2 t c = c .match .keys2
-
-walk-atom-returns : (t : ℕ) → walk-atom-lts.Need-returns (walk-atom-claims t) (walk-atom-at t) walk-atom.Post
-walk-atom-returns t c =
+walk-atom-returns-2 : (t : ℕ) → walk-atom-lts.Need-returns-2 (walk-atom-claims t) (walk-atom-at t) walk-atom.Post
+walk-atom-returns-2 t c =
     let at-next-step = c .before .before .before .before .before .before in
     let at-left = at-next-step .before .before .before in
     let start = at-left .before .before .before in
     atom-done (start .pre .1 .0) _ (start .pre .1 .1 .0) (start .pre .1 .1 .1) _ (at-left .left .ensures .0) (c .use-clause .ensures)
-
-walk-atom-returns-2 : (t : ℕ) → walk-atom-lts.Need-returns-2 (walk-atom-claims t) (walk-atom-at t) walk-atom.Post
-walk-atom-returns-2 t c =
-    let at-next = c .before in
-    let at-next-step = at-next .before .before in
-    let at-left = at-next-step .before .before .before in
-    let start = at-left .before .before .before in
-    atom-lost (start .pre .1 .0) _ (start .pre .1 .1 .0) (start .pre .1 .1 .1) _ (at-left .left .ensures .0) (at-next-step .next-step
-    .ensures) (at-next .next2 .given .1)
 
 walk-lend-left-requires : (t : ℕ) → walk-lend-lts.Need-left-requires (walk-lend-claims t) (walk-lend-at t) walk-lend.Post
 walk-lend-left-requires t c κs =
@@ -800,6 +814,19 @@ walk-one-of-next-side-requires t c κs =
 walk-one-of-enum-known-next : (t : ℕ) → walk-one-of-lts.Need-enum-known-next (walk-one-of-claims t) (walk-one-of-at t) walk-one-of.Post
 walk-one-of-enum-known-next t c = c .match .keys1
 
+walk-one-of-enum-told : (t : ℕ) → walk-one-of-lts.Need-enum-told (walk-one-of-claims t) (walk-one-of-at t) walk-one-of.Post
+walk-one-of-enum-told t c = c .match .keys2
+
+walk-one-of-astray-requires : (t : ℕ) → walk-one-of-lts.Need-astray-requires (walk-one-of-claims t) (walk-one-of-at t) walk-one-of.Post
+walk-one-of-astray-requires t c κs = tt
+
+walk-one-of-returns : (t : ℕ) → walk-one-of-lts.Need-returns (walk-one-of-claims t) (walk-one-of-at t) walk-one-of.Post
+walk-one-of-returns t c =
+    let at-told = c .before in
+    let at-side = at-told .before .before in
+    let start = at-side .before .before .before in
+    one-of-lost (start .pre .1 .0) _ (start .pre .1 .1 .0) (start .pre .1 .1 .1) (at-side .next-side .ensures) (at-told .enum-told .given .1) _ (c .astray .ensures)
+
 walk-one-of-stepped-requires : (t : ℕ) → walk-one-of-lts.Need-stepped-requires (walk-one-of-claims t) (walk-one-of-at t) walk-one-of.Post
 walk-one-of-stepped-requires t c κs =
     let at-next = c .before .before .before in
@@ -815,24 +842,14 @@ walk-one-of-walk-requires t c κs =
     one-of-call (start .pre .1 .0) _ (start .pre .1 .1 .0) (start .pre .1 .1 .1) (at-side .next-side .ensures) _ (at-next .next .given .1) _
     (c .stepped .ensures) t (start .pre .0)
 
-walk-one-of-enum-known-next-2 : (t : ℕ) → walk-one-of-lts.Need-enum-known-next-2 (walk-one-of-claims t) (walk-one-of-at t) walk-one-of.Post
-walk-one-of-enum-known-next-2 t c = c .match .keys2
-
-walk-one-of-returns : (t : ℕ) → walk-one-of-lts.Need-returns (walk-one-of-claims t) (walk-one-of-at t) walk-one-of.Post
-walk-one-of-returns t c =
+walk-one-of-returns-2 : (t : ℕ) → walk-one-of-lts.Need-returns-2 (walk-one-of-claims t) (walk-one-of-at t) walk-one-of.Post
+walk-one-of-returns-2 t c =
     let at-stepped = c .before in
     let at-next = at-stepped .before .before .before .before in
     let at-side = at-next .before .before in
     let start = at-side .before .before .before in
     one-of-done (start .pre .1 .0) _ (start .pre .1 .1 .0) (start .pre .1 .1 .1) (at-side .next-side .ensures) _ (at-next .next .given .1) _
     (at-stepped .stepped .ensures) (c .walk .ensures)
-
-walk-one-of-returns-2 : (t : ℕ) → walk-one-of-lts.Need-returns-2 (walk-one-of-claims t) (walk-one-of-at t) walk-one-of.Post
-walk-one-of-returns-2 t c =
-    let at-next = c .before in
-    let at-side = at-next .before .before in
-    let start = at-side .before .before .before in
-    one-of-lost (start .pre .1 .0) _ (start .pre .1 .1 .0) (start .pre .1 .1 .1) (at-side .next-side .ensures) (at-next .next2 .given .1)
 
 walk-tensor-left-requires : (t : ℕ) → walk-tensor-lts.Need-left-requires (walk-tensor-claims t) (walk-tensor-at t) walk-tensor.Post
 walk-tensor-left-requires t c κs =
@@ -844,7 +861,7 @@ walk-tensor-walk-requires t c κs =
     let at-left = c .before .before in
     let start = at-left .before .before .before in
     let parts = tensor-parts (start .pre .1 .0) _ (start .pre .1 .1 .0) (start .pre .1 .1 .1) in
-    left-call (start .pre .1 .0) _ (start .pre .1 .1 .0) (parts .0) (parts .1) (parts .2) (parts .3) t (start .pre .0) _ (at-left .left .ensures .0)
+    left-call (start .pre .1 .0) _ (start .pre .1 .1 .0) (parts .0) (parts .1) (parts .2) (parts .3) (parts .4) t (start .pre .0) _ (at-left .left .ensures .0)
 
 walk-tensor-enum-known-first : (t : ℕ) → walk-tensor-lts.Need-enum-known-first (walk-tensor-claims t) (walk-tensor-at t) walk-tensor.Post
 walk-tensor-enum-known-first t c = c .match .keys1
@@ -875,7 +892,7 @@ walk-tensor-walk-requires-2 t c κs =
     let at-walk = at-first .before .before in
     let start = at-walk .before .before .before .before .before .before in
     let parts = tensor-parts (start .pre .1 .0) _ (start .pre .1 .1 .0) (start .pre .1 .1 .1) in
-    right-call (start .pre .1 .0) _ (start .pre .1 .1 .0) (parts .0) (parts .1) (parts .2) (parts .3) _ (at-first .first .given .1) (at-walk .walk
+    right-call (start .pre .1 .0) _ (start .pre .1 .1 .0) (parts .0) (parts .1) (parts .2) (parts .3) (parts .4) _ (at-first .first .given .1) (at-walk .walk
     .ensures) t (start .pre .0) _ (at-right .right .ensures .0) _ (inl refl) _ (c .on .ensures)
 
 walk-tensor-enum-known-second : (t : ℕ) → walk-tensor-lts.Need-enum-known-second (walk-tensor-claims t) (walk-tensor-at t) walk-tensor.Post
@@ -925,7 +942,7 @@ walk-with-walk-requires t c κs =
     let at-left = c .before .before in
     let start = at-left .before .before .before in
     let parts = with-parts (start .pre .1 .0) _ (start .pre .1 .1 .0) (start .pre .1 .1 .1) in
-    left-call (start .pre .1 .0) _ (start .pre .1 .1 .0) (parts .0) (parts .1) (parts .2) (parts .3) t (start .pre .0) _ (at-left .left .ensures .0)
+    left-call (start .pre .1 .0) _ (start .pre .1 .1 .0) (parts .0) (parts .1) (parts .2) (parts .3) (parts .4) t (start .pre .0) _ (at-left .left .ensures .0)
 
 walk-with-enum-known-first : (t : ℕ) → walk-with-lts.Need-enum-known-first (walk-with-claims t) (walk-with-at t) walk-with.Post
 walk-with-enum-known-first t c = c .match .keys1
@@ -956,7 +973,7 @@ walk-with-walk-requires-2 t c κs =
     let at-walk = at-first .before .before in
     let start = at-walk .before .before .before .before .before .before in
     let parts = with-parts (start .pre .1 .0) _ (start .pre .1 .1 .0) (start .pre .1 .1 .1) in
-    right-call (start .pre .1 .0) _ (start .pre .1 .1 .0) (parts .0) (parts .1) (parts .2) (parts .3) _ (at-first .first .given .1) (at-walk .walk
+    right-call (start .pre .1 .0) _ (start .pre .1 .1 .0) (parts .0) (parts .1) (parts .2) (parts .3) (parts .4) _ (at-first .first .given .1) (at-walk .walk
     .ensures) t (start .pre .0) _ (at-right .right .ensures .0) _ (inr refl) _ (c .on .ensures)
 
 walk-with-enum-known-second : (t : ℕ) → walk-with-lts.Need-enum-known-second (walk-with-claims t) (walk-with-at t) walk-with.Post
@@ -1038,10 +1055,11 @@ pub +conditions+menu+use-clause+walk+walk-atom+walk-lend+walk-one-of+walk-tensor
     (menu-usable-requires-2 t)
     (menu-next-side-requires t)
     (menu-enum-known-next t)
+    (menu-enum-told t)
+    (menu-astray-requires t)
+    (menu-returns t)
     (menu-stepped-requires t)
     (menu-conditions-requires t)
-    (menu-enum-known-next-2 t)
-    (menu-returns t)
     (menu-returns-2 t))
     (λ t. use-clause-lts.spec (use-clause-claims t)
     (use-clause-at t)
@@ -1086,9 +1104,10 @@ pub +conditions+menu+use-clause+walk+walk-atom+walk-lend+walk-one-of+walk-tensor
     (walk-atom-left-requires t)
     (walk-atom-next-step-requires t)
     (walk-atom-enum-known-next t)
-    (walk-atom-use-clause-requires t)
-    (walk-atom-enum-known-next-2 t)
+    (walk-atom-enum-told t)
+    (walk-atom-astray-requires t)
     (walk-atom-returns t)
+    (walk-atom-use-clause-requires t)
     (walk-atom-returns-2 t))
     (λ t. walk-lend-lts.spec (walk-lend-claims t)
     (walk-lend-at t)
@@ -1109,10 +1128,11 @@ pub +conditions+menu+use-clause+walk+walk-atom+walk-lend+walk-one-of+walk-tensor
     walk-one-of.Post
     (walk-one-of-next-side-requires t)
     (walk-one-of-enum-known-next t)
+    (walk-one-of-enum-told t)
+    (walk-one-of-astray-requires t)
+    (walk-one-of-returns t)
     (walk-one-of-stepped-requires t)
     (walk-one-of-walk-requires t)
-    (walk-one-of-enum-known-next-2 t)
-    (walk-one-of-returns t)
     (walk-one-of-returns-2 t))
     (λ t. walk-tensor-lts.spec (walk-tensor-claims t)
     (walk-tensor-at t)

@@ -3,7 +3,7 @@ use native.Mathlib.Omega.{arith}
 use mathlib.Core.Path.{sym, _∙_, ap}
 use Rattle.card.proofs.CardChecked.{sound-front}
 use Rattle.card.proofs.SoundNodes.{line-here}
-use Rattle.lines.specs.Inner.Count.{bit}
+use Rattle.lines.specs.Count.{bit}
 use Rattle.scope.proofs.SetsAreItems.{strict-byte, strict-past}
 use borrow.Author.Needs.{needs}
 use Rattle.walk.proofs.due.Statement.{statement}

@@ -6,7 +6,7 @@ use native.Mathlib.Omega.{arith}
 use mathlib.Core.Path.{_≡_, refl, _∙_, ap}
 use mathlib.Core.Logic.{⊎-elim}
 use Rattle.bounds.specs.Inner.Doom.{lentStock}
-use Rattle.lines.specs.Inner.Count.{bit, number}
+use Rattle.lines.specs.Count.{bit, number}
 use Rattle.bounds.proofs.doom.lent_stock.Statement.{statement}
 use Rattle.bounds.proofs.doom.lent_stock.Tie as tie
 

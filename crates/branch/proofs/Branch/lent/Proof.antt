@@ -3,7 +3,7 @@ use Prim.Native.Nat.{_+_}
 use mathlib.Core.Path.{ap, sym, _∙_}
 use native.Mathlib.Omega.{arith}
 use borrow.Author.Needs.{needs}
-use Rattle.lines.specs.Inner.Count.{countS}
+use Rattle.lines.specs.Count.{countS}
 use Rattle.lines.proofs.CountLaws.{count-most}
 use Rattle.branch.proofs.CountsKept.{counted-lent}
 use Rattle.branch.proofs.Branch.lent.Statement.{statement}

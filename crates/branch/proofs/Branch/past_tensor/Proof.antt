@@ -2,8 +2,8 @@
 use Prim.Native.Nat.{_-_}
 use mathlib.Core.Path.{_∙_, ap}
 use mathlib.Core.Bool.{_||_}
-use Rattle.lines.specs.Inner.Set.{cutS}
-use Rattle.lines.specs.Inner.Count.{countS}
+use Rattle.lines.specs.Set.{cutS}
+use Rattle.lines.specs.Count.{countS}
 use Rattle.branch.specs.Inner.Values.{pastTensorB}
 use Rattle.branch.proofs.CountsKept.{kept, counted-tensor}
 use borrow.Author.Needs.{needs}
@@ -31,8 +31,8 @@ cut-requires c κs = search needs
 returns : tie.Need-returns
 unfolding pastTensorB
 returns c =
-    let b = c .before .before .before .before .before .before .before .before .before .before .before .args .self in
-    let w = c .before .before .before .before .before .before .before .before .before .before .before .args .w in
+    let b = c .before .before .before .before .before .before .before .before .before .before .before .before .args .self in
+    let w = c .before .before .before .before .before .before .before .before .before .before .before .before .args .w in
     let strict = c .before .before .empty .ensures in
     let lax = c .cut .ensures ∙ ap (λ s. cutS s (w .used)) (c .before .join2 .ensures) in
     let used = c .before .before .before .before .before .join .ensures in
@@ -65,8 +65,8 @@ count-requires c κs = search needs
 returns-2 : tie.Need-returns-2
 unfolding pastTensorB
 returns-2 c =
-    let b = c .before .before .before .before .before .before .before .before .before .before .before .args .self in
-    let w = c .before .before .before .before .before .before .before .before .before .before .before .args .w in
+    let b = c .before .before .before .before .before .before .before .before .before .before .before .before .args .self in
+    let w = c .before .before .before .before .before .before .before .before .before .before .before .before .args .w in
     let used = c .before .before .before .before .before .join .ensures in
     let known = c .before .before .before .if1 .left in
     let slack = c .before .before .before .before .either .ensures ∙ ap (λ v. b .slack || v) known in

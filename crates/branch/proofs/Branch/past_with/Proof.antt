@@ -1,7 +1,7 @@
 -- By the slack of the left part.
 use Rattle.branch.specs.Inner.Values.{pastWithB}
 use mathlib.Core.Path.{ap, _∙_}
-use Rattle.lines.specs.Inner.Count.{countS}
+use Rattle.lines.specs.Count.{countS}
 use Rattle.branch.proofs.CountsKept.{kept, counted-with}
 use borrow.Author.Needs.{needs}
 use Rattle.branch.proofs.Branch.past_with.Statement.{statement}
@@ -22,7 +22,7 @@ count-requires c κs = search needs
 returns : tie.Need-returns
 unfolding pastWithB
 returns c =
-    let s = c .before .before .before .before .before .before .before .before .args in
+    let s = c .before .before .before .before .before .before .before .before .before .args in
     let b = s .self in
     let w = s .w in
     let own = c .before .before .before .before .own .ensures .0 in
@@ -50,7 +50,7 @@ count-requires-2 c κs = search needs
 returns-2 : tie.Need-returns-2
 unfolding pastWithB
 returns-2 c =
-    let s = c .before .before .before .before .before .before .before .args in
+    let s = c .before .before .before .before .before .before .before .before .args in
     let b = s .self in
     let w = s .w in
     let own = c .before .before .before .own .ensures .0 in

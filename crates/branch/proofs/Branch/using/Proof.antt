@@ -1,14 +1,14 @@
 -- A rule is used as an item past all others: nothing is taken. Then by whether the item is a line.
-use Prim.Native.Nat.{ℕ, _+_, _-_, _%_, _^_, _≤_, _<_}
+use Prim.Native.Nat.{ℕ, _+_, _-_, _≤_, _<_}
 use native.Mathlib.Omega.{arith}
 use mathlib.Core.Path.{_≡_, refl, sym, ap, _∙_}
 use mathlib.Core.Bool.{Bool, true, false, cond}
 use borrow.Author.Tests.{lt-ltb, le-ltb}
-use lib.Bits.{bitOr}
 use lib.Dec.{ltb}
 use Rattle.lines.specs.declared.LineSet.{LineSet}
-use Rattle.lines.specs.Inner.Set.{addS, takeS}
-use Rattle.lines.proofs.Word.{shl-one}
+use Rattle.lines.specs.declared.LineWord.{LineWord}
+use Rattle.lines.specs.Set.{addS, takeS}
+use Rattle.lines.specs.Inner.Word.{addL}
 use Rattle.lines.proofs.MemberLaws.{member-past, add-past, take-past}
 use Rattle.branch.specs.declared.Branch.{Branch}
 use Rattle.branch.specs.Inner.Values.{itemOf, spentB, usingB}
@@ -43,15 +43,15 @@ module _ (P e : ℕ) where
       go true = ap (λ (x : Bool). cond x (b .due - 1) (b .due)) (member-past (b .strict) 192 (omega arith))
       go false = refl
 
-  module _ (T seen : ℕ) where
-    abbrev lit : Bool → ℕ
-    lit v = cond v seen (cond (ltb (e - P) T) (bitOr seen (2 ^ ((e - P) % 64))) seen)
+  module _ (T : ℕ) (seen : LineWord) where
+    abbrev lit : Bool → LineWord
+    lit v = cond v seen (cond (ltb (e - P) T) (addL seen (e - P)) seen)
 
-    line-seen : T ≤ 64 → itemOf P e < T → bitOr seen (2 ^ (itemOf P e % 64)) ≡ lit (ltb e P)
+    line-seen : T ≤ 64 → itemOf P e < T → addL seen (itemOf P e) ≡ lit (ltb e P)
     unfolding itemOf
     line-seen few h = go (ltb e P) h
       where
-        go : (v : Bool) → cond v 192 (e - P) < T → bitOr seen (2 ^ (cond v 192 (e - P) % 64)) ≡ lit v
+        go : (v : Bool) → cond v 192 (e - P) < T → addL seen (cond v 192 (e - P)) ≡ lit v
         go true k = absurd (omega arith)
         go false k = rw (lt-ltb (e - P) T k) refl
 
@@ -81,20 +81,19 @@ add-requires c κs = search needs
 spent-requires : tie.Need-spent-requires
 spent-requires c κs = search needs
 
-shl-b : tie.Need-shl-b
-shl-b c = search needs
+add-requires-2 : tie.Need-add-requires-2
+add-requires-2 c κs = search needs
 
 returns : tie.Need-returns
 unfolding usingB
 returns c =
-    let at-spent = c .before in
+    let at-spent = c .before .before in
     let at-item = at-spent .before .before .before .before in
-    let start = at-item .before .before .before .before .before in
+    let start = at-item .before .before .before .before .before .before in
     let a = start .args in
     let b = a .self in
     let item = at-item .item-of .ensures in
-    let low : itemOf (a .rules) (a .e) < a .lines = rw (sym item) (c .if1 .taken) in
-    let bit = shl-one 64 (at-item .item-of .result % 64) (omega arith) in
+    let low : itemOf (a .rules) (a .e) < a .lines = rw (sym item) (c .before .if1 .taken) in
     kept (counted-using b (a .rules) (a .lines) (a .e) (a .len) (start .pre .1))
     (λ i. record {
       at = b .at + 1;
@@ -105,8 +104,7 @@ returns c =
       strict = (at-spent .before .before .before .take .ensures ∙ ap (takeS (b .strict)) item ∙ taken (a .rules) (a .e) (b .strict)) i;
       lax = (at-spent .before .before .take2 .ensures ∙ ap (takeS (b .lax)) item ∙ taken (a .rules) (a .e) (b .lax)) i;
       used = (at-spent .before .add .ensures ∙ ap (addS (b .used)) item ∙ added (a .rules) (a .e) (b .used)) i;
-      seen = (ap (bitOr (b .seen)) bit ∙ ap (λ (x : ℕ). bitOr (b .seen) (2 ^ (x % 64))) item
-          ∙ line-seen (a .rules) (a .e) (a .lines) (b .seen) (start .pre .0 .1) low) i;
+      seen = (c .add2 .ensures ∙ ap (addL (b .seen)) item ∙ line-seen (a .rules) (a .e) (a .lines) (b .seen) (start .pre .0 .1) low) i;
       slack = b .slack;
     })
 
@@ -115,7 +113,7 @@ unfolding usingB
 returns-2 c =
     let at-spent = c .before in
     let at-item = at-spent .before .before .before .before in
-    let start = at-item .before .before .before .before .before in
+    let start = at-item .before .before .before .before .before .before in
     let a = start .args in
     let b = a .self in
     let item = at-item .item-of .ensures in
@@ -144,6 +142,6 @@ using-spec =
     take-requires-2
     add-requires
     spent-requires
-    shl-b
+    add-requires-2
     returns
     returns-2)

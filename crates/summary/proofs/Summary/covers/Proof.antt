@@ -1,7 +1,7 @@
 -- What the callees answer, put together.
 use mathlib.Core.Path.{_∙_, ap}
 use mathlib.Core.Bool.{_||_}
-use Rattle.lines.specs.Inner.Set.{isEmptyS}
+use Rattle.lines.specs.Set.{isEmptyS}
 use borrow.Author.Needs.{needs}
 use Rattle.summary.proofs.Summary.covers.Statement.{statement}
 use Rattle.summary.proofs.Summary.covers.Tie as tie

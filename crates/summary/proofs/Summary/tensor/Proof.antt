@@ -1,9 +1,8 @@
 -- What the callees answer, put together.
 use mathlib.Core.Path.{_∙_, ap, ap₂}
 use mathlib.Core.Bool.{_&&_}
-use lib.Bits.{bitOr}
 use borrow.Author.Needs.{needs}
-use Rattle.lines.specs.Inner.Set.{isEmptyS, Words}
+use Rattle.lines.specs.Set.{isEmptyS, Words}
 use Rattle.summary.proofs.Summary.tensor.Statement.{statement}
 use Rattle.summary.proofs.Summary.tensor.Tie as tie
 
@@ -25,6 +24,9 @@ both-requires c κs = search needs
 both-requires-2 : tie.Need-both-requires-2
 both-requires-2 c κs = search needs
 
+join-requires-2 : tie.Need-join-requires-2
+join-requires-2 c κs = search needs
+
 words-self : (s : tie.Start) → Words (s .args .self .used)
 words-self s = search needs
 
@@ -33,16 +35,16 @@ words-other s = search needs
 
 returns : tie.Need-returns
 returns c =
-    let whole = c .before .before in
+    let whole = c .before in
     let joined = whole .before .before .before in
     let empty = joined .before in
-    let start = empty .before .before .before in
+    let start = empty .before .before .before .before in
     let w = start .args .self in
     let v = start .args .w in
     let shares = empty .is-empty .ensures ∙ ap isEmptyS (empty .before .meet .ensures) in
     let alive = whole .both2 .ensures ∙ ap₂ _&&_ (whole .before .both .ensures) shares in
     let slack = whole .before .before .either .ensures in (
-      λ i. record { at = v .at; used = joined .join .ensures i; slack = slack i; alive = alive i; met = v .met; sure = bitOr (w .sure) (v .sure) },
+      λ i. record { at = v .at; used = joined .join .ensures i; slack = slack i; alive = alive i; met = v .met; sure = c .join2 .ensures i },
       (words-self start, words-other start),
     )
 
@@ -56,4 +58,5 @@ tensor-spec =
     either-requires
     both-requires
     both-requires-2
+    join-requires-2
     returns)

@@ -15,22 +15,22 @@ add-requires c κs = search needs
 both-requires : tie.Need-both-requires
 both-requires c κs = search needs
 
-add-t8 : tie.Need-add-t8
-add-t8 c = search needs
+add-t9 : tie.Need-add-t9
+add-t9 c = search needs
 
-with-line-requires : tie.Need-with-line-requires
-with-line-requires c κs = search needs
+add-requires-2 : tie.Need-add-requires-2
+add-requires-2 c κs = search needs
 
 returns : tie.Need-returns
 returns c =
     let whole = c .before .before in
     let at-has = whole .before .before in
-    let a = at-has .before .before .args in
+    let a = at-has .before .before .before .args in
     let w = a .self in
     let alive = whole .both .ensures ∙ ap (λ b. w .alive && not b) (at-has .has .ensures) in
     let used = whole .before .add .ensures in
-    let sure = c .with-line .ensures in
+    let sure = c .add2 .ensures in
     λ i. record { at = w .at; used = used i; slack = w .slack; alive = alive i; met = w .met + a .due; sure = sure i }
 
 pub using-spec : {M : Type 1} → statement M
-using-spec = tie.close (tie.spec has-requires add-requires both-requires add-t8 with-line-requires returns)
+using-spec = tie.close (tie.spec has-requires add-requires both-requires add-t9 add-requires-2 returns)

@@ -19,7 +19,7 @@ both-requires c κs = search needs
 
 returns : tie.Need-returns
 returns c =
-    let w = c .before .before .before .before .before .args .self in
+    let w = c .before .before .before .before .before .before .args .self in
     let gone = c .before .before .either .ensures ∙ ap (λ b. w .slack || b) (c .before .before .before .has .ensures) in
     let alive = c .both .ensures ∙ ap (λ b. w .alive && b) gone in
     λ i. record { at = w .at; used = c .before .take .ensures i; slack = w .slack; alive = alive i; met = w .met; sure = w .sure }

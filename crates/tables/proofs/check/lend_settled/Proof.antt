@@ -1,10 +1,11 @@
 use native.Mathlib.Omega.{arith}
-use mathlib.Core.Path.{sym, _∙_}
+use mathlib.Core.Path.{_≡_, sym, _∙_, subst}
+use mathlib.Core.Logic.{_↔_}
 use mathlib.Core.Bool.{true}
 use borrow.Author.Needs.{needs}
 use Rattle.card.proofs.SoundNodes.{lend-parts, clause-above}
 use Rattle.bounds.specs.Inner.Table.{UseSettled}
-use mathlib.Core.Path.{subst}
+use Rattle.node_bounds.proofs.ChecksDecide.{holds}
 use Rattle.tables.proofs.check.lend_settled.Statement.{statement}
 use Rattle.tables.proofs.check.lend_settled.Tie as tie
 
@@ -26,13 +27,17 @@ use-settled-requires c κs =
 
 returns : tie.Need-returns
 returns c =
-    let s = c .before .before .before .before .before in
-    λ q k.
-    subst (λ d. UseSettled (s .args .card .now) (s .args .names .now) (s .args .table .now) d true) (c .before .left-part .ensures .0)
-    (c .use-settled .ensures q)
+    let at-if1 = c .before .before in
+    let at-kind = at-if1 .before in
+    let s = at-kind .before .before in
+    let w =
+    subst
+    (λ d. (c .use-settled .result ≡ true) ↔ UseSettled (s .args .card .now) (s .args .names .now) (s .args .table .now) d true)
+    (c .before .left-part .ensures .0) (c .use-settled .ensures) in
+    (λ q k. w .0 q, λ f. w .1 (f (sym (at-kind .kind-at .ensures) ∙ at-if1 .if1 .taken)))
 
 returns-2 : tie.Need-returns-2
-returns-2 c = λ q k. absurd (c .if1 .left (c .before .kind-at .ensures ∙ k))
+returns-2 c = holds (λ k. absurd (c .if1 .left (c .before .kind-at .ensures ∙ k)))
 
 pub lend-settled-spec : {M : Type 1} → statement M
 lend-settled-spec =

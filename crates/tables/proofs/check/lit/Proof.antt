@@ -3,7 +3,7 @@ use mathlib.Core.Path.{ap}
 use borrow.Author.Needs.{needs}
 use lib.Dec.{eqb}
 use lib.Bits.{and-mask}
-use Rattle.lines.specs.Inner.Set.{bitAt}
+use Rattle.lines.specs.Set.{bitAt}
 use Rattle.tables.proofs.check.lit.Statement.{statement}
 use Rattle.tables.proofs.check.lit.Tie as tie
 

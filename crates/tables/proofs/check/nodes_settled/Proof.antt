@@ -2,10 +2,10 @@
 use borrow.Author.Needs.{needs}
 use Prim.Native.Nat.{ℕ, _-_, _≤_, _<_}
 use native.Mathlib.Omega.{arith}
-use mathlib.Core.Bool.{false≢true}
 use Rattle.bounds.specs.Inner.Table.{NodeSettled}
 use borrow.Author.Count.{below-more}
 use borrow.Author.Tests.{not-false}
+use Rattle.node_bounds.proofs.ChecksDecide.{holds, fails, unmet}
 use Rattle.tables.proofs.check.nodes_settled.Statement.{statement}
 use Rattle.tables.proofs.check.nodes_settled.Tie as tie
 
@@ -25,7 +25,12 @@ node-settled-requires : tie.Need-node-settled-requires Inv-loop μ-loop
 node-settled-requires c κs = search needs
 
 returns : tie.Need-returns Inv-loop μ-loop
-returns c = λ q. absurd (false≢true q)
+returns c =
+    let turn = c .before .before .before in
+    fails
+    (λ f.
+    unmet (c .before .node-settled .ensures) (c .if1 .taken)
+    (f (turn .loop .i) (omega (arith, c .before .before .loop-test, turn .before .node-count .ensures .0))))
 
 add-i : tie.Need-add-i Inv-loop μ-loop
 add-i c = search needs
@@ -36,12 +41,12 @@ loop-less c = search needs
 loop-again : tie.Need-loop-again Inv-loop μ-loop
 loop-again c = (
   omega arith,
-  below-more _ _ (c .before .before .before .loop .inv .1) (c .before .node-settled .ensures (not-false _ (c .if1 .left))),
+  below-more _ _ (c .before .before .before .loop .inv .1) (c .before .node-settled .ensures .0 (not-false _ (c .if1 .left))),
 )
 
 returns-2 : tie.Need-returns-2 Inv-loop μ-loop
 returns-2 c =
-    λ q k h. c .before .loop .inv .1 k (omega (arith, c .before .before .node-count .ensures .0, c .loop-test, c .before .loop .inv .0))
+    holds (λ k h. c .before .loop .inv .1 k (omega (arith, c .before .before .node-count .ensures .0, c .loop-test, c .before .loop .inv .0)))
 
 pub nodes-settled-spec : {M : Type 1} → statement M
 nodes-settled-spec =

@@ -2,14 +2,15 @@
 use borrow.Author.Needs.{needs}
 use Prim.Native.Nat.{ℕ, _-_, _≤_, _<_}
 use native.Mathlib.Omega.{arith}
-use mathlib.Core.Bool.{false, false≢true}
+use mathlib.Core.Bool.{false}
 use Rattle.bounds.specs.Inner.Table.{UseSettled}
 use Rattle.card.proofs.CardChecked.{sound-front}
 use Rattle.card.proofs.SoundNodes.{sound-rule-node}
 use Rattle.card.specs.Format.{ruleNode}
 use borrow.Author.Count.{below-more}
 use borrow.Author.Tests.{not-false}
-use mathlib.Core.Path.{subst}
+use mathlib.Core.Path.{sym, subst}
+use Rattle.node_bounds.proofs.ChecksDecide.{holds, fails, unmet}
 use Rattle.tables.proofs.check.rules_settled.Statement.{statement}
 use Rattle.tables.proofs.check.rules_settled.Tie as tie
 
@@ -38,7 +39,15 @@ use-settled-requires c κs =
     )
 
 returns : tie.Need-returns Inv-loop μ-loop
-returns c = λ q. absurd (false≢true q)
+returns c =
+    let at-node = c .before .before in
+    let turn = at-node .before .before in
+    let s = turn .before .before .before in
+    fails
+    (λ f.
+    unmet (c .before .use-settled .ensures) (c .if1 .taken)
+    (subst (λ d. UseSettled (s .args .card .now) (s .args .names .now) (s .args .table .now) d false) (sym (at-node .rule-at .ensures .0))
+    (f (turn .loop .i) (omega (arith, at-node .before .loop-test, turn .before .byte .ensures .0)))))
 
 add-i : tie.Need-add-i Inv-loop μ-loop
 add-i c = search needs
@@ -53,11 +62,11 @@ loop-again c =
       omega arith,
       below-more _ _ (c .before .before .before .before .loop .inv .1)
           (subst (λ d. UseSettled bs (s .args .names .now) (s .args .table .now) d false) (c .before .before .rule-at .ensures .0)
-          (c .before .use-settled .ensures (not-false _ (c .if1 .left)))),
+          (c .before .use-settled .ensures .0 (not-false _ (c .if1 .left)))),
     )
 
 returns-2 : tie.Need-returns-2 Inv-loop μ-loop
-returns-2 c = λ q k h. c .before .loop .inv .1 k (omega (arith, c .before .before .byte .ensures .0, c .loop-test, c .before .loop .inv .0))
+returns-2 c = holds (λ k h. c .before .loop .inv .1 k (omega (arith, c .before .before .byte .ensures .0, c .loop-test, c .before .loop .inv .0)))
 
 pub rules-settled-spec : {M : Type 1} → statement M
 rules-settled-spec =

@@ -1,86 +1,61 @@
--- The classes so far allow the use.
+-- A bare name and a recipe of one condition by themselves, any other clause by its ways.
 use borrow.Author.Needs.{needs}
-use Prim.Native.Nat.{ℕ, _-_, _≤_, _<_}
-use native.Mathlib.Omega.{arith}
-use mathlib.Core.Bool.{_&&_, false≢true}
-use Rattle.card.specs.Decode.{clauseOf}
-use Rattle.lines.specs.Inner.Count.{bit}
-use Rattle.bounds.specs.Inner.Table.{inClass, WaysFit}
-use Rattle.bounds.proofs.WaysSmall.{clause-node, way-starts}
-use borrow.Author.Count.{below-more}
-use borrow.Author.Tests.{not-false}
+use mathlib.Core.Path.{sym, _∙_}
+use Rattle.bounds.proofs.WaysSmall.{clause-node}
+use Rattle.tables.proofs.UsesByKind.{name-use}
 use Rattle.tables.proofs.check.use_settled.Statement.{statement}
 use Rattle.tables.proofs.check.use_settled.Tie as tie
 
-abbrev Inv-loop : tie.InvT-loop
-Inv-loop card names table i linear n c₀ c =
-    (c ≤ n) × ((k : ℕ) → k < c
-    → WaysFit card names table (clauseOf card i) i k 1 (bit (linear && inClass names i k)) (bit (linear && inClass names i k)))
+kind-at-requires : tie.Need-kind-at-requires
+kind-at-requires c κs = let s = c .before in (s .pre .0 .sound, clause-node (s .pre .0 .sound) (s .pre .1))
 
-abbrev μ-loop : tie.MeasureT-loop
-μ-loop card names table i linear n c₀ c = n - c
+name-at-requires : tie.Need-name-at-requires
+name-at-requires c κs =
+    let e = c .before in
+    let k = e .before in
+    let s = k .before .before in
+    (s .pre .0 .sound, (clause-node (s .pre .0 .sound) (s .pre .1), sym (k .kind-at .ensures) ∙ e .if1 .taken))
 
-classes-requires : tie.Need-classes-requires Inv-loop μ-loop
-classes-requires c κs = search needs
+row-requires : tie.Need-row-requires
+row-requires c κs = search needs
 
-loop-holds : tie.Need-loop-holds Inv-loop μ-loop
-loop-holds c = (omega arith, λ k h. absurd (omega arith))
+name-settled-requires : tie.Need-name-settled-requires
+name-settled-requires c κs =
+    let s = c .before .before .before .before .before .before in
+    ((s .pre .0 .names-held, s .pre .0 .table-held), (clause-node (s .pre .0 .sound) (s .pre .1) .few, c .row .ensures .1))
 
-weight-requires : tie.Need-weight-requires Inv-loop μ-loop
-weight-requires c κs =
-    let a = c .before .before in
-    let s = a .before .before .before in
-    let n = clause-node (s .pre .0 .sound) (s .pre .1) in
-    (n .few, (omega (arith, c .loop-test, a .classes .ensures .1), s .pre .0 .names-held))
+returns : tie.Need-returns
+returns c =
+    let r = c .before in
+    let n = r .before in
+    let e = n .before .before in
+    let k = e .before in
+    let s = k .before .before in
+    name-use (s .pre .0) (s .pre .1) (sym (k .kind-at .ensures) ∙ e .if1 .taken) (n .name-at .ensures .0) (r .row .ensures .0)
+    (c .name-settled .ensures)
 
-ways-fit-requires : tie.Need-ways-fit-requires Inv-loop μ-loop
-ways-fit-requires c κs =
-    let a = c .before .before .before in
-    let s = a .before .before .before in (
-      s .pre .0,
-      (
-        (s .pre .1, omega (arith, c .before .loop-test, a .classes .ensures .1)),
-        way-starts (clause-node (s .pre .0 .sound) (s .pre .1)) (c .weight .ensures .1),
-      ),
-    )
+recipe-use-settled-requires : tie.Need-recipe-use-settled-requires
+recipe-use-settled-requires c κs = search needs
 
-returns : tie.Need-returns Inv-loop μ-loop
-returns c = λ q. absurd (false≢true q)
+returns-2 : tie.Need-returns-2
+returns-2 c = search needs
 
-add-c : tie.Need-add-c Inv-loop μ-loop
-add-c c = search needs
+ways-settled-requires : tie.Need-ways-settled-requires
+ways-settled-requires c κs = search needs
 
-loop-less : tie.Need-loop-less Inv-loop μ-loop
-loop-less c = search needs
-
-loop-again : tie.Need-loop-again Inv-loop μ-loop
-loop-again c =
-    let f = c .before in
-    let w = f .before in (
-      omega arith,
-      below-more _ _ (w .before .before .loop .inv .1) (rw (w .weight .ensures .0) at (f .ways-fit .ensures (not-false _ (c .if1 .left)))),
-    )
-
-returns-2 : tie.Need-returns-2 Inv-loop μ-loop
-returns-2 c =
-    λ q.
-    record {
-      class = λ k l.
-          c .before .loop .inv .1 k (omega (arith, c .before .before .classes .ensures .0, c .loop-test, c .before .loop .inv .0));
-    }
+returns-3 : tie.Need-returns-3
+returns-3 c = search needs
 
 pub use-settled-spec : {M : Type 1} → statement M
 use-settled-spec =
     tie.close
     (tie.spec
-    Inv-loop
-    μ-loop
-    classes-requires
-    loop-holds
-    weight-requires
-    ways-fit-requires
+    kind-at-requires
+    name-at-requires
+    row-requires
+    name-settled-requires
     returns
-    add-c
-    loop-less
-    loop-again
-    returns-2)
+    recipe-use-settled-requires
+    returns-2
+    ways-settled-requires
+    returns-3)

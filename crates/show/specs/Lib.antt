@@ -1,0 +1,2 @@
+-- The terms of the contracts.
+pub mod Parts
