@@ -9,7 +9,7 @@ use lib.ListN.{length}
 use Rattle.card.specs.Verdict.{Where, fault, sheet}
 use Rattle.card.specs.Fault.{firstFault, Sound}
 use Rattle.card.proofs.FaultsInOrder.{sound-or-faulty}
-use Rattle.planning.specs.Plan.{PlanVerdict, refused, roomOf, Planning, faulty, short, underivable, planned-as}
+use Rattle.planning.specs.Plan.{PlanVerdict, refused, roomOf, Planning, faulty, short, none-within, planned-as}
 use Rattle.planner.proofs.PlannedExactly.{plan-determined, fault-not-ten}
 
 no-room : (bs : List ℕ) → roomOf bs ≤ length {A = ℕ} [] → ⊥
@@ -18,7 +18,7 @@ no-room bs h = omega arith
 pub ten-if-sound : {bs new : List ℕ} {a : PlanVerdict} → Planning bs [] a new → (a ≡ refused 10 sheet) ↔ Sound bs
 ten-if-sound {bs} (faulty p) = (λ e. absurd (fault-not-ten bs p e), λ s. absurd (sound-or-faulty (s .faultless) p))
 ten-if-sound (short s h) = (λ e. s, λ t. refl)
-ten-if-sound {bs} (underivable s h u) = absurd (no-room bs h)
+ten-if-sound {bs} (none-within s h u) = absurd (no-room bs h)
 ten-if-sound {bs} (planned-as s h l f) = absurd (no-room bs h)
 
 pub fault-if-faulty : {bs new : List ℕ} {a : PlanVerdict} {n : ℕ} {w : Where} → firstFault bs ≡ fault n w → Planning bs [] a new

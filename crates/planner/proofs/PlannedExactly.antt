@@ -21,7 +21,7 @@ use Rattle.card.proofs.FaultsInRange.{fault-in-range}
 use Rattle.card.proofs.NodesDecoded.{listed-short}
 use Rattle.planning.specs.declared.Answer.{Answer}
 use Rattle.planning.specs.declared.Answer.the-variants.{Planned}
-use Rattle.planning.specs.Plan.{PlanVerdict, planned, refused, toldPlan, roomOf, Planning, faulty, short, underivable, planned-as}
+use Rattle.planning.specs.Plan.{PlanVerdict, planned, refused, toldPlan, roomOf, Planning, faulty, short, none-within, planned-as}
 use Rattle.planning.specs.Plan.{roomForAny, NeverShort, PlanDecided, is-planned, is-refused, Carries}
 
 -- The first list is the only one.
@@ -47,19 +47,19 @@ derivable x = record { derivation = x .derivation; limited = x .limited }
 pub plan-determined : {bs old : List ℕ} {a b : PlanVerdict} {m n : List ℕ} → Planning bs old a m → Planning bs old b n → (a ≡ b) × (m ≡ n)
 plan-determined (faulty p) (faulty q) = (same-fault refused p q, refl)
 plan-determined (faulty p) (short s h) = absurd (sound-or-faulty (s .faultless) p)
-plan-determined (faulty p) (underivable s h u) = absurd (sound-or-faulty (s .faultless) p)
+plan-determined (faulty p) (none-within s h u) = absurd (sound-or-faulty (s .faultless) p)
 plan-determined (faulty p) (planned-as s h l f) = absurd (sound-or-faulty (s .faultless) p)
 plan-determined (short s h) (faulty q) = absurd (sound-or-faulty (s .faultless) q)
 plan-determined (short s h) (short t i) = (refl, refl)
-plan-determined (short s h) (underivable t i u) = absurd (omega arith)
+plan-determined (short s h) (none-within t i u) = absurd (omega arith)
 plan-determined (short s h) (planned-as t i l f) = absurd (omega arith)
-plan-determined (underivable s h u) (faulty q) = absurd (sound-or-faulty (s .faultless) q)
-plan-determined (underivable s h u) (short t i) = absurd (omega arith)
-plan-determined (underivable s h u) (underivable t i v) = (refl, refl)
-plan-determined (underivable s h u) (planned-as t i l f) = absurd (u (derivable (f .listed)))
+plan-determined (none-within s h u) (faulty q) = absurd (sound-or-faulty (s .faultless) q)
+plan-determined (none-within s h u) (short t i) = absurd (omega arith)
+plan-determined (none-within s h u) (none-within t i v) = (refl, refl)
+plan-determined (none-within s h u) (planned-as t i l f) = absurd (u (derivable (f .listed)))
 plan-determined (planned-as s h l f) (faulty q) = absurd (sound-or-faulty (s .faultless) q)
 plan-determined (planned-as s h l f) (short t i) = absurd (omega arith)
-plan-determined (planned-as s h l f) (underivable t i u) = absurd (u (derivable (f .listed)))
+plan-determined (planned-as s h l f) (none-within t i u) = absurd (u (derivable (f .listed)))
 plan-determined {bs} {old} (planned-as s h l f) (planned-as t i m g) =
     let e = first-unique (jobOf bs) l m f g in
     let u = job-surely (jobOf bs) (f .listed .derivation) (g .listed .derivation) (f .listed .list ∙ e ∙ sym (g .listed .list)) in
@@ -70,7 +70,7 @@ pub planned-exactly : {bs old new : List ℕ} {a : PlanVerdict} → Sound bs →
     → ((k : ℕ) × (a ≡ planned k)) ↔ DerivableWithin (jobOf bs)
 planned-exactly s r (faulty p) = absurd (sound-or-faulty (s .faultless) p)
 planned-exactly s r (short t h) = absurd (omega arith)
-planned-exactly s r (underivable t h u) = (λ q. let z : _≡_ {A = ℕ} 0 1 = cc (q .1) in absurd (omega arith), λ d. absurd (u d))
+planned-exactly s r (none-within t h u) = (λ q. let z : _≡_ {A = ℕ} 0 1 = cc (q .1) in absurd (omega arith), λ d. absurd (u d))
 planned-exactly s r (planned-as t h l f) = (λ q. derivable (f .listed), λ d. (length l, refl))
 
 -- Demand 2, the sheet.
@@ -80,7 +80,7 @@ planned-sheet {k} p = at p refl
     at : {bs old new : List ℕ} {a : PlanVerdict} → Planning bs old a new → a ≡ planned k → Carries bs old new k
     at (faulty q) e = let z : _≡_ {A = ℕ} 0 1 = cc in absurd (omega arith)
     at (short s h) e = let z : _≡_ {A = ℕ} 0 1 = cc in absurd (omega arith)
-    at (underivable s h u) e = let z : _≡_ {A = ℕ} 0 1 = cc in absurd (omega arith)
+    at (none-within s h u) e = let z : _≡_ {A = ℕ} 0 1 = cc in absurd (omega arith)
     at (planned-as s h l f) e =
         let c : length l ≡ k = cc in
         let few = listed-short _ l (f .listed) in
@@ -108,7 +108,7 @@ refused-keeps {n} {w} p = at p refl
     at : {bs old new : List ℕ} {a : PlanVerdict} → Planning bs old a new → a ≡ refused n w → new ≡ old
     at (faulty q) e = refl
     at (short s h) e = refl
-    at (underivable s h u) e = refl
+    at (none-within s h u) e = refl
     at (planned-as s h l f) e = let z : _≡_ {A = ℕ} 0 1 = cc in absurd (omega arith)
 
 -- Demand 1. Every card and every buffer get a decision.
@@ -116,7 +116,7 @@ pub plan-decided : {bs old new : List ℕ} {a : PlanVerdict} → Planning bs old
 unfolding Placed
 plan-decided {bs} (faulty {n} {w} p) = let r = fault-in-range bs p in is-refused {n = n} {w = w} (r .0, omega arith) (r .2) refl
 plan-decided (short s h) = is-refused {n = 10} (omega arith, omega arith) tt refl
-plan-decided (underivable s h u) = is-refused {n = 11} (omega arith, omega arith) tt refl
+plan-decided (none-within s h u) = is-refused {n = 11} (omega arith, omega arith) tt refl
 plan-decided {bs} (planned-as s h l f) = is-planned (listed-short bs l (f .listed))
 
 -- 10 is no card's own fault.
@@ -127,5 +127,5 @@ fault-not-ten bs {n} p e = let r = fault-in-range bs p in let q : n ≡ 10 = cc 
 pub never-short : {bs old new : List ℕ} {a : PlanVerdict} → Bytes bs → roomForAny ≤ length old → Planning bs old a new → NeverShort a
 never-short {bs} b h (faulty p) = record { not-short = λ w e. fault-not-ten bs p e }
 never-short {bs} b h (short s g) = record { not-short = λ w e. omega (arith, sound-front bs s .lines, b .byte 10) }
-never-short b h (underivable s g u) = record { not-short = λ w e. let z : _≡_ {A = ℕ} 11 10 = cc in omega arith }
+never-short b h (none-within s g u) = record { not-short = λ w e. let z : _≡_ {A = ℕ} 11 10 = cc in omega arith }
 never-short b h (planned-as s g l f) = record { not-short = λ w e. let z : _≡_ {A = ℕ} 0 1 = cc in omega arith }

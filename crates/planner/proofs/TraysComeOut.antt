@@ -29,8 +29,8 @@ planned-by {bs} {l} s p q m =
     let f = first-listed (jobOf bs) l (lines-bounded bs) p q in
     record { sound = record { faultless = s }; first = f; marks = ap (λ U. marksOf bs U l) (surely-of (f .listed)) ∙ m }
 
-underivable-by : {bs : List ℕ} → firstFault bs ≡ sound → lists (jobOf bs) ≡ [] → Underivable bs
-underivable-by {bs} s e = record { sound = record { faultless = s }; none = none-listed (jobOf bs) (lines-bounded bs) e }
+no-plan-by : {bs : List ℕ} → firstFault bs ≡ sound → lists (jobOf bs) ≡ [] → Underivable bs
+no-plan-by {bs} s e = record { sound = record { faultless = s }; none = none-listed (jobOf bs) (lines-bounded bs) e }
 
 -- one row, and those after it
 infixr 20 _⋀_
@@ -46,30 +46,30 @@ unfolding _⋀_ kinds kindOf given fitsField partHeight held readBy
     all apart covering tensored sided lent takingUse sideTaken takings named fitting lists matches among leads
 all-come = (
   planned-by refl refl refl refl
-      ⋀ underivable-by refl refl
+      ⋀ no-plan-by refl refl
       ⋀ planned-by refl refl refl refl
       ⋀ planned-by refl refl refl refl
-      ⋀ underivable-by refl refl
-      ⋀ planned-by refl refl refl refl
-      ⋀ planned-by refl refl refl refl
-      ⋀ planned-by refl refl refl refl
-      ⋀ planned-by refl refl refl refl
-      ⋀ planned-by refl refl refl refl
-      ⋀ underivable-by refl refl
-      ⋀ planned-by refl refl refl refl
-      ⋀ underivable-by refl refl
-      ⋀ planned-by refl refl refl refl
-      ⋀ planned-by refl refl refl refl
-      ⋀ underivable-by refl refl
+      ⋀ no-plan-by refl refl
       ⋀ planned-by refl refl refl refl
       ⋀ planned-by refl refl refl refl
       ⋀ planned-by refl refl refl refl
       ⋀ planned-by refl refl refl refl
       ⋀ planned-by refl refl refl refl
+      ⋀ no-plan-by refl refl
+      ⋀ planned-by refl refl refl refl
+      ⋀ no-plan-by refl refl
       ⋀ planned-by refl refl refl refl
       ⋀ planned-by refl refl refl refl
-      ⋀ underivable-by refl refl
-      ⋀ underivable-by refl refl
+      ⋀ no-plan-by refl refl
+      ⋀ planned-by refl refl refl refl
+      ⋀ planned-by refl refl refl refl
+      ⋀ planned-by refl refl refl refl
+      ⋀ planned-by refl refl refl refl
+      ⋀ planned-by refl refl refl refl
+      ⋀ planned-by refl refl refl refl
+      ⋀ planned-by refl refl refl refl
+      ⋀ no-plan-by refl refl
+      ⋀ no-plan-by refl refl
       ⋀ planned-by refl refl refl refl
       ⋀ planned-by refl refl refl refl
       ⋀ planned-by refl refl refl refl

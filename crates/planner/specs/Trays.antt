@@ -12,7 +12,7 @@ use Rattle.card.specs.Sample.{sample}
 -- What a tray's row says: the first list and its marks, or 11.
 pub data TrayOutcome : Type 0 where
   planned : List ℕ → List ℕ → TrayOutcome
-  underivable : TrayOutcome
+  no-plan : TrayOutcome
 
 pub record Tray : Type 0 where
   pub bytes : List ℕ
@@ -34,7 +34,7 @@ pub record Underivable (bs : List ℕ) : Type 0 where
 
 abbrev pub Comes : List ℕ → TrayOutcome → Type 0
 Comes bs (planned l m) = PlannedAs bs l m
-Comes bs underivable = Underivable bs
+Comes bs no-plan = Underivable bs
 
 abbrev pub EachComes : List Tray → Type 0
 EachComes [] = Unit {0}
@@ -52,7 +52,7 @@ trays =
     -- must a, done
     tray
     (0 ∷ 24 ∷ 1 ∷ 0 ∷ 1 ∷ 0 ∷ 2 ∷ 0 ∷ 0 ∷ 4 ∷ 8 ∷ 3 ∷ 0 ∷ 0 ∷ 0 ∷ 0 ∷ 1 ∷ 0 ∷ 1 ∷ 0 ∷ 0 ∷ 0 ∷ 1 ∷ 1 ∷ [])
-    underivable
+    no-plan
     ∷
     -- may a, done
     tray
@@ -67,7 +67,7 @@ trays =
     -- must a, a both a
     tray
     (0 ∷ 24 ∷ 1 ∷ 0 ∷ 1 ∷ 0 ∷ 2 ∷ 0 ∷ 1 ∷ 4 ∷ 8 ∷ 1 ∷ 0 ∷ 1 ∷ 0 ∷ 0 ∷ 4 ∷ 0 ∷ 0 ∷ 0 ∷ 0 ∷ 0 ∷ 0 ∷ 1 ∷ [])
-    underivable
+    no-plan
     ∷
     -- must a, must a, a both a
     tray
@@ -100,7 +100,7 @@ trays =
     tray
     (0 ∷ 42 ∷ 1 ∷ 3 ∷ 0 ∷ 0 ∷ 5 ∷ 0 ∷ 0 ∷ 1 ∷ 8 ∷ 1 ∷ 0 ∷ 3 ∷ 0 ∷ 0 ∷ 1 ∷ 0 ∷ 1 ∷ 0 ∷ 0 ∷ 1 ∷ 0 ∷ 2 ∷ 0 ∷ 0 ∷ 7 ∷ 0 ∷ 2 ∷ 0
     ∷ 0 ∷ 7 ∷ 0 ∷ 1 ∷ 0 ∷ 3 ∷ 0 ∷ 1 ∷ 0 ∷ 2 ∷ 0 ∷ 4 ∷ [])
-    underivable
+    no-plan
     ∷
     -- lend a to a
     tray
@@ -111,7 +111,7 @@ trays =
     tray
     (0 ∷ 36 ∷ 1 ∷ 0 ∷ 0 ∷ 0 ∷ 5 ∷ 0 ∷ 4 ∷ 4 ∷ 8 ∷ 1 ∷ 0 ∷ 1 ∷ 0 ∷ 0 ∷ 3 ∷ 0 ∷ 0 ∷ 0 ∷ 0 ∷ 6 ∷ 0 ∷ 0 ∷ 0 ∷ 1 ∷ 2 ∷ 0 ∷ 0 ∷ 0
     ∷ 0 ∷ 4 ∷ 0 ∷ 2 ∷ 0 ∷ 3 ∷ [])
-    underivable
+    no-plan
     ∷
     -- may a, may b, a one of b: left works
     tray
@@ -128,7 +128,7 @@ trays =
     -- nothing, never
     tray
     (0 ∷ 16 ∷ 1 ∷ 0 ∷ 0 ∷ 0 ∷ 1 ∷ 0 ∷ 0 ∷ 4 ∷ 8 ∷ 9 ∷ 0 ∷ 0 ∷ 0 ∷ 0 ∷ [])
-    underivable
+    no-plan
     ∷
     -- must a, never one of a
     tray
@@ -176,13 +176,13 @@ trays =
     tray
     (0 ∷ 29 ∷ 1 ∷ 0 ∷ 1 ∷ 0 ∷ 3 ∷ 0 ∷ 2 ∷ 4 ∷ 1 ∷ 1 ∷ 0 ∷ 1 ∷ 0 ∷ 0 ∷ 1 ∷ 0 ∷ 2 ∷ 0 ∷ 0 ∷ 8 ∷ 0 ∷ 0 ∷ 0 ∷ 1 ∷ 0 ∷ 1 ∷ 1
     ∷ [])
-    underivable
+    no-plan
     ∷
     -- must (a menu b), a with s = 1
     tray
     (0 ∷ 29 ∷ 1 ∷ 0 ∷ 1 ∷ 0 ∷ 3 ∷ 0 ∷ 0 ∷ 4 ∷ 1 ∷ 1 ∷ 0 ∷ 1 ∷ 0 ∷ 0 ∷ 1 ∷ 0 ∷ 2 ∷ 0 ∷ 0 ∷ 10 ∷ 0 ∷ 0 ∷ 0 ∷ 1 ∷ 0 ∷ 2 ∷ 1
     ∷ [])
-    underivable
+    no-plan
     ∷
     -- (a one of done) both (done one of a) with d = 0
     tray

@@ -34,7 +34,7 @@ pub data Planning (bs old : List ℕ) : PlanVerdict → List ℕ → Type 0 wher
   -- 10
   short : Sound bs → length old < roomOf bs → Planning bs old (refused 10 sheet) old
   -- 11, "no derivation within limits"
-  underivable : Sound bs → roomOf bs ≤ length old → (DerivableWithin (jobOf bs) → ⊥) → Planning bs old (refused 11 card) old
+  none-within : Sound bs → roomOf bs ≤ length old → (DerivableWithin (jobOf bs) → ⊥) → Planning bs old (refused 11 card) old
   -- "Of all lists within limits the planner gives the smallest". "After planned, the buffer's first 5 + k + T bytes are the sheet"; "Bytes
   -- past the sheet .. keep what they held."
   planned-as : Sound bs → roomOf bs ≤ length old → (l : List ℕ) (f : First (jobOf bs) l)

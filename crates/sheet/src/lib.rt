@@ -40,9 +40,8 @@ fn write_steps(steps: &[u8; 255], k: usize, sheet: &mut [u8])
     }
 }
 
-// Writes the sheet of the list that is the first k of steps, where the lines of `sure` are surely used. Bytes past the sheet keep what they
-// held.
-pub fn write(card: &[u8], steps: &[u8; 255], k: usize, sure: LineWord, sheet: &mut [u8])
+// Front, steps and marks, one behind the other.
+fn write_parts(card: &[u8], steps: &[u8; 255], k: usize, sure: LineWord, sheet: &mut [u8])
     requires { ⌜ Framed (now card) ⌝ }
     requires { ⌜ length (now steps) ≡ 255 ⌝ }
     requires { ⌜ k ≤ 255 ⌝ }
@@ -56,4 +55,18 @@ pub fn write(card: &[u8], steps: &[u8; 255], k: usize, sure: LineWord, sheet: &m
     write_steps(steps, k, sheet);
     let start = 5 + k;
     marks::write_marks(card, steps, k, sure, &mut sheet[start..]);
+}
+
+// Writes the sheet of the list that is the first k of steps, where the lines of `sure` are surely used. Bytes past the sheet keep what they
+// held.
+pub fn write(card: &[u8], steps: &[u8; 255], k: usize, sure: LineWord, sheet: &mut [u8])
+    requires { ⌜ Framed (now card) ⌝ }
+    requires { ⌜ length (now steps) ≡ 255 ⌝ }
+    requires { ⌜ k ≤ 255 ⌝ }
+    requires { ⌜ 5 + k + lineCount (now card) ≤ length (now sheet) ⌝ }
+    ensures { λ _. ⌜ now (sheet .exit)
+        ≡ sheetOf (now (card .entry)) (wordItems (now (card .entry)) sure) (take k (now (steps .entry)))
+        ++ drop (5 + k + lineCount (now (card .entry))) (now (sheet .entry)) ⌝ }
+{
+    write_parts(card, steps, k, sure, sheet);
 }

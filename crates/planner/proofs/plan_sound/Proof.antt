@@ -2,7 +2,7 @@ use mathlib.Core.Path.{sym, subst}
 use native.Mathlib.Omega.{arith}
 use borrow.Author.Needs.{needs}
 use Rattle.card.proofs.CardChecked.{sound-front}
-use Rattle.planning.specs.Plan.{PlanVerdict, Planning, short, underivable}
+use Rattle.planning.specs.Plan.{PlanVerdict, Planning, short, none-within}
 use Rattle.planning.proofs.SheetPlanned.{room-enough, room-short}
 use Rattle.planner.proofs.PlannerExits.{list-found, none-found}
 use Rattle.planner.proofs.plan_sound.Statement.{statement}
@@ -44,7 +44,7 @@ returns-2 c =
     let start = c .before .before .before .before .before .before .before .before .before .before in
     let s = start .args in
     subst (λ (v : PlanVerdict). Planning (s .card .now) (s .sheet .now) v (s .sheet .now)) (sym (c .no-plan .ensures))
-    (underivable (start .pre)
+    (none-within (start .pre)
     (room-enough _ (c .before .before .before .before .before .enum-told .given .1)
     (c .before .before .before .before .before .before .before .room-for .ensures))
     (none-found _ _ (c .before .enum-told3 .given .1) (c .before .before .before .first-list .ensures .0)))

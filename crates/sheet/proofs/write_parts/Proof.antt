@@ -7,8 +7,8 @@ use Rattle.card.specs.Format.{lineCount}
 use Rattle.card.specs.Sheet.{marksOf}
 use Rattle.scope.specs.Inner.Sets.{wordItems}
 use Rattle.sheet.proofs.SheetWritten.{part-back, whole-sheet}
-use Rattle.sheet.proofs.write.Statement.{statement}
-use Rattle.sheet.proofs.write.Tie as tie
+use Rattle.sheet.proofs.write_parts.Statement.{statement}
+use Rattle.sheet.proofs.write_parts.Tie as tie
 
 -- the function's entry, once the steps are written, and that the sheet reaches past them
 abbrev entry : tie.After-slice-known3 → tie.Start
@@ -72,8 +72,8 @@ returns c =
     (part-back (5 + s .k) (lineCount (s .card .now)) s₂ (marksOf (s .card .now) U l) (marks .last .1 .1 .1 .1 .0)
     (omega (arith, start .pre, front .kept, steps .kept)) (marks .ensures))
 
-pub write-spec : {M : Type 1} → statement M
-write-spec =
+pub write-parts-spec : {M : Type 1} → statement M
+write-parts-spec =
     tie.close
     (tie.spec
     byte-requires
