@@ -535,8 +535,8 @@ module _ {bs steps nodes : List ℕ} {linear : List Bool} {b : Position} (R : Wa
             → Traced (b .depth) es (goal (goalAt bs l)) g W → Traced (b .depth) es (meet name (clauseOf bs node)) h (U ∪ W)
         recipe-joins f g h U W s c d = rw (sound-recipe (R .sound) node clause-below kind) (traced-recipe s (rw em at c) (rw el at d))
 
-      pub recipe-call : (t : ℕ) → clauseNumber bs b node + 2 ≡ t → (r : ℕ) → r ≡ rightAt bs node
-          → (clauseNumber bs b r + 2 < t) × (WalkReady bs steps nodes linear b × ClauseReady bs b name r)
+      pub recipe-call : (t : ℕ) → clauseNumber bs b node + 1 ≡ t → (r : ℕ) → r ≡ rightAt bs node
+          → (clauseNumber bs b r + 3 < t) × (WalkReady bs steps nodes linear b × ClauseReady bs b name r)
       recipe-call t m r e = rw e (
         let light = light-7 in omega arith,
         (
@@ -553,7 +553,7 @@ module _ {bs steps nodes : List ℕ} {linear : List Bool} {b : Position} (R : Wa
 
       pub condition-call : {nodes₁ : List ℕ} {linear₁ : List Bool} {p : Part} (w : Summary) {x : Walked} → x ≡ Ended w
           → PartWalks bs steps nodes nodes₁ linear linear₁ b p x
-          → (t : ℕ) → clauseNumber bs b node + 2 ≡ t → (l : ℕ) → l ≡ leftAt bs node → (b₂ : Position) → b₂ ≡ onB b (w .at) (w .met)
+          → (t : ℕ) → clauseNumber bs b node + 1 ≡ t → (l : ℕ) → l ≡ leftAt bs node → (b₂ : Position) → b₂ ≡ onB b (w .at) (w .met)
           → (goalNumber bs b₂ l + 3 < t) × (WalkReady bs steps nodes₁ linear₁ b₂ × GoalWalkReady bs b₂ l)
       condition-call {nodes₁} {linear₁} {p} w e W t m l el b₂ eb = rw (el, eb) (
           let F : PartWalks bs steps nodes nodes₁ linear linear₁ b p (Ended w) = rw e at W in (
@@ -640,7 +640,7 @@ module _ {bs steps nodes : List ℕ} {linear : List Bool} {b : Position} (R : Wa
 
     pub use-call : b .count + 1 + 6 * b .depth ≤ b .rules + 168 → (t : ℕ) → ahead b ≡ t → (node : ℕ) → node ≡ getD nodes e 0
         → (b₁ : Position) → b₁ ≡ steppedB b 1
-        → (clauseNumber bs b₁ node + 2 < t) × (WalkReady bs steps nodes linear b₁ × ClauseReady bs b₁ name node)
+        → (clauseNumber bs b₁ node + 3 < t) × (WalkReady bs steps nodes linear b₁ × ClauseReady bs b₁ name node)
     use-call room t m node en b₁ eb = rw (eb, en) (
       (
           let l = clause-low (R .sound) (getD nodes e 0) entry-clause in

@@ -203,7 +203,7 @@ fn use_clause(
 {
     let node = nodes[e] as usize;
     let gone = linear[e];
-    let inner = conditions(card, steps, nodes, linear, b.stepped(1), name, node);
+    let inner = clause(card, steps, nodes, linear, b.stepped(1), name, node);
     let Walked::Ended(w) = inner else {
         return inner;
     };
@@ -214,7 +214,28 @@ fn use_clause(
     Walked::Ended(w)
 }
 
-// The conditions of a clause in use for a name, the one nearest the head first.
+// A clause in use for a name. Most are a head alone, which is met here: it has no conditions to go to.
+fn clause(
+    card: &[u8],
+    steps: &[u8],
+    nodes: &mut [u16; 256],
+    linear: &mut [bool; 256],
+    b: Position,
+    name: usize,
+    node: usize,
+) -> Walked
+    requires { ⌜ WalkReady (now card) (now steps) (now nodes) (now linear) b ⌝ }
+    requires { ⌜ ClauseReady (now card) b name node ⌝ }
+    ensures { λ r. ⌜ ClauseWalks (now (card .entry)) (now (steps .entry)) (now (nodes .entry)) (now (nodes .exit))
+        (now (linear .entry)) (now (linear .exit)) b name node r ⌝ }
+{
+    if kind(card, node) == 1 {
+        return Walked::Ended(b.ended(false, true));
+    }
+    conditions(card, steps, nodes, linear, b, name, node)
+}
+
+// The conditions of a clause in use for a name: a head has none, a menu those of the part chosen.
 fn conditions(
     card: &[u8],
     steps: &[u8],
@@ -236,8 +257,27 @@ fn conditions(
     if k == 10 {
         return menu(card, steps, nodes, linear, b, name, node);
     }
+    recipe(card, steps, nodes, linear, b, name, node)
+}
+
+// G ⊸ D in use for a name: the conditions of D, which are nearer the head, then G.
+fn recipe(
+    card: &[u8],
+    steps: &[u8],
+    nodes: &mut [u16; 256],
+    linear: &mut [bool; 256],
+    b: Position,
+    name: usize,
+    node: usize,
+) -> Walked
+    requires { ⌜ WalkReady (now card) (now steps) (now nodes) (now linear) b ⌝ }
+    requires { ⌜ ClauseReady (now card) b name node ⌝ }
+    requires { ⌜ kindAt (now card) node ≡ 7 ⌝ }
+    ensures { λ r. ⌜ ClauseWalks (now (card .entry)) (now (steps .entry)) (now (nodes .entry)) (now (nodes .exit))
+        (now (linear .entry)) (now (linear .exit)) b name node r ⌝ }
+{
     let r = right(card, node);
-    let first = conditions(card, steps, nodes, linear, b, name, r);
+    let first = clause(card, steps, nodes, linear, b, name, r);
     let Walked::Ended(w) = first else {
         return first;
     };

@@ -21,33 +21,39 @@ use Rattle.walk.proofs.CallsAreReady.{menu-lost, menu-room, menu-call, 
 use Prim.Native.Nat.{ℕ, _<_}
 use borrow.Fn.Kinds.{In}
 use borrow.Fn.PlainCycle.{Measures, is, falls, and}
+use Rattle.walk.proofs.clause.Reads as clause
+use Rattle.walk.proofs.clause.Kinds as clause-kinds
+use Rattle.walk.proofs.+clause+conditions+menu+recipe+use_clause+walk+walk_atom+walk_lend+walk_one_of+walk_tensor+walk_with.Lts-clause as clause-lts
 use Rattle.walk.proofs.conditions.Reads as conditions
 use Rattle.walk.proofs.conditions.Kinds as conditions-kinds
-use Rattle.walk.proofs.+conditions+menu+use_clause+walk+walk_atom+walk_lend+walk_one_of+walk_tensor+walk_with.Lts-conditions as conditions-lts
+use Rattle.walk.proofs.+clause+conditions+menu+recipe+use_clause+walk+walk_atom+walk_lend+walk_one_of+walk_tensor+walk_with.Lts-conditions as conditions-lts
 use Rattle.walk.proofs.menu.Reads as menu
 use Rattle.walk.proofs.menu.Kinds as menu-kinds
-use Rattle.walk.proofs.+conditions+menu+use_clause+walk+walk_atom+walk_lend+walk_one_of+walk_tensor+walk_with.Lts-menu as menu-lts
+use Rattle.walk.proofs.+clause+conditions+menu+recipe+use_clause+walk+walk_atom+walk_lend+walk_one_of+walk_tensor+walk_with.Lts-menu as menu-lts
+use Rattle.walk.proofs.recipe.Reads as recipe
+use Rattle.walk.proofs.recipe.Kinds as recipe-kinds
+use Rattle.walk.proofs.+clause+conditions+menu+recipe+use_clause+walk+walk_atom+walk_lend+walk_one_of+walk_tensor+walk_with.Lts-recipe as recipe-lts
 use Rattle.walk.proofs.use_clause.Reads as use-clause
 use Rattle.walk.proofs.use_clause.Kinds as use-clause-kinds
-use Rattle.walk.proofs.+conditions+menu+use_clause+walk+walk_atom+walk_lend+walk_one_of+walk_tensor+walk_with.Lts-use_clause as use-clause-lts
+use Rattle.walk.proofs.+clause+conditions+menu+recipe+use_clause+walk+walk_atom+walk_lend+walk_one_of+walk_tensor+walk_with.Lts-use_clause as use-clause-lts
 use Rattle.walk.proofs.walk.Reads as walk
 use Rattle.walk.proofs.walk.Kinds as walk-kinds
-use Rattle.walk.proofs.+conditions+menu+use_clause+walk+walk_atom+walk_lend+walk_one_of+walk_tensor+walk_with.Lts-walk as walk-lts
+use Rattle.walk.proofs.+clause+conditions+menu+recipe+use_clause+walk+walk_atom+walk_lend+walk_one_of+walk_tensor+walk_with.Lts-walk as walk-lts
 use Rattle.walk.proofs.walk_atom.Reads as walk-atom
 use Rattle.walk.proofs.walk_atom.Kinds as walk-atom-kinds
-use Rattle.walk.proofs.+conditions+menu+use_clause+walk+walk_atom+walk_lend+walk_one_of+walk_tensor+walk_with.Lts-walk_atom as walk-atom-lts
+use Rattle.walk.proofs.+clause+conditions+menu+recipe+use_clause+walk+walk_atom+walk_lend+walk_one_of+walk_tensor+walk_with.Lts-walk_atom as walk-atom-lts
 use Rattle.walk.proofs.walk_lend.Reads as walk-lend
 use Rattle.walk.proofs.walk_lend.Kinds as walk-lend-kinds
-use Rattle.walk.proofs.+conditions+menu+use_clause+walk+walk_atom+walk_lend+walk_one_of+walk_tensor+walk_with.Lts-walk_lend as walk-lend-lts
+use Rattle.walk.proofs.+clause+conditions+menu+recipe+use_clause+walk+walk_atom+walk_lend+walk_one_of+walk_tensor+walk_with.Lts-walk_lend as walk-lend-lts
 use Rattle.walk.proofs.walk_one_of.Reads as walk-one-of
 use Rattle.walk.proofs.walk_one_of.Kinds as walk-one-of-kinds
-use Rattle.walk.proofs.+conditions+menu+use_clause+walk+walk_atom+walk_lend+walk_one_of+walk_tensor+walk_with.Lts-walk_one_of as walk-one-of-lts
+use Rattle.walk.proofs.+clause+conditions+menu+recipe+use_clause+walk+walk_atom+walk_lend+walk_one_of+walk_tensor+walk_with.Lts-walk_one_of as walk-one-of-lts
 use Rattle.walk.proofs.walk_tensor.Reads as walk-tensor
 use Rattle.walk.proofs.walk_tensor.Kinds as walk-tensor-kinds
-use Rattle.walk.proofs.+conditions+menu+use_clause+walk+walk_atom+walk_lend+walk_one_of+walk_tensor+walk_with.Lts-walk_tensor as walk-tensor-lts
+use Rattle.walk.proofs.+clause+conditions+menu+recipe+use_clause+walk+walk_atom+walk_lend+walk_one_of+walk_tensor+walk_with.Lts-walk_tensor as walk-tensor-lts
 use Rattle.walk.proofs.walk_with.Reads as walk-with
 use Rattle.walk.proofs.walk_with.Kinds as walk-with-kinds
-use Rattle.walk.proofs.+conditions+menu+use_clause+walk+walk_atom+walk_lend+walk_one_of+walk_tensor+walk_with.Lts-walk_with as walk-with-lts
+use Rattle.walk.proofs.+clause+conditions+menu+recipe+use_clause+walk+walk_atom+walk_lend+walk_one_of+walk_tensor+walk_with.Lts-walk_with as walk-with-lts
 use Rattle.card.proofs.format.kind.Reads as kind-reads
 use Rattle.card.proofs.format.left.Reads as left-reads
 use Rattle.card.proofs.format.right.Reads as right-reads
@@ -65,18 +71,24 @@ use Rattle.summary.proofs.Summary.without.Reads as without-reads
 use Rattle.summary.proofs.next_side.Reads as next-side-reads
 use Rattle.summary.proofs.next_step.Reads as next-step-reads
 use Rattle.walk.proofs.due.Reads as due-reads
-use Rattle.walk.proofs.+conditions+menu+use_clause+walk+walk_atom+walk_lend+walk_one_of+walk_tensor+walk_with.{
+use Rattle.walk.proofs.+clause+conditions+menu+recipe+use_clause+walk+walk_atom+walk_lend+walk_one_of+walk_tensor+walk_with.{
   statement,
 }
-use Rattle.walk.proofs.+conditions+menu+use_clause+walk+walk_atom+walk_lend+walk_one_of+walk_tensor+walk_with.Tie.{
+use Rattle.walk.proofs.+clause+conditions+menu+recipe+use_clause+walk+walk_atom+walk_lend+walk_one_of+walk_tensor+walk_with.Tie.{
   close,
 }
+
+abbrev μ-clause : Measures 4 clause-kinds.ps ℕ
+μ-clause κs a = clauseNumber (a .0 .now) (a .1 .1 .1 .1 .0) (a .1 .1 .1 .1 .1 .1 .0) + 3
 
 abbrev μ-conditions : Measures 4 conditions-kinds.ps ℕ
 μ-conditions κs a = clauseNumber (a .0 .now) (a .1 .1 .1 .1 .0) (a .1 .1 .1 .1 .1 .1 .0) + 2
 
 abbrev μ-menu : Measures 4 menu-kinds.ps ℕ
 μ-menu κs a = clauseNumber (a .0 .now) (a .1 .1 .1 .1 .0) (a .1 .1 .1 .1 .1 .1 .0) + 1
+
+abbrev μ-recipe : Measures 4 recipe-kinds.ps ℕ
+μ-recipe κs a = clauseNumber (a .0 .now) (a .1 .1 .1 .1 .0) (a .1 .1 .1 .1 .1 .1 .0) + 1
 
 abbrev μ-use-clause : Measures 4 use-clause-kinds.ps ℕ
 μ-use-clause κs a = ahead (a .1 .1 .1 .1 .0)
@@ -99,6 +111,12 @@ abbrev μ-walk-tensor : Measures 4 walk-tensor-kinds.ps ℕ
 abbrev μ-walk-with : Measures 4 walk-with-kinds.ps ℕ
 μ-walk-with κs a = goalNumber (a .0 .now) (a .1 .1 .1 .1 .0) (a .1 .1 .1 .1 .1 .0) + 2
 
+abbrev clause-at : ℕ → In 4 clause-kinds.ps
+clause-at t = and 4 clause-kinds.ps (is 4 clause-kinds.ps μ-clause t) clause.Pre
+
+abbrev clause-below : ℕ → In 4 clause-kinds.ps
+clause-below t = and 4 clause-kinds.ps (falls 4 clause-kinds.ps _<_ μ-clause t) clause.Pre
+
 abbrev conditions-at : ℕ → In 4 conditions-kinds.ps
 conditions-at t = and 4 conditions-kinds.ps (is 4 conditions-kinds.ps μ-conditions t) conditions.Pre
 
@@ -110,6 +128,12 @@ menu-at t = and 4 menu-kinds.ps (is 4 menu-kinds.ps μ-menu t) menu.Pre
 
 abbrev menu-below : ℕ → In 4 menu-kinds.ps
 menu-below t = and 4 menu-kinds.ps (falls 4 menu-kinds.ps _<_ μ-menu t) menu.Pre
+
+abbrev recipe-at : ℕ → In 4 recipe-kinds.ps
+recipe-at t = and 4 recipe-kinds.ps (is 4 recipe-kinds.ps μ-recipe t) recipe.Pre
+
+abbrev recipe-below : ℕ → In 4 recipe-kinds.ps
+recipe-below t = and 4 recipe-kinds.ps (falls 4 recipe-kinds.ps _<_ μ-recipe t) recipe.Pre
 
 abbrev use-clause-at : ℕ → In 4 use-clause-kinds.ps
 use-clause-at t = and 4 use-clause-kinds.ps (is 4 use-clause-kinds.ps μ-use-clause t) use-clause.Pre
@@ -153,6 +177,16 @@ walk-with-at t = and 4 walk-with-kinds.ps (is 4 walk-with-kinds.ps μ-walk-with 
 abbrev walk-with-below : ℕ → In 4 walk-with-kinds.ps
 walk-with-below t = and 4 walk-with-kinds.ps (falls 4 walk-with-kinds.ps _<_ μ-walk-with t) walk-with.Pre
 
+abbrev clause-claims : ℕ → clause-lts.Claims
+clause-claims t = (
+  kind-reads.Asked,
+  kind-reads.Learnt,
+  ended-reads.Asked,
+  ended-reads.Learnt,
+  conditions-below t,
+  conditions.Post,
+)
+
 abbrev conditions-claims : ℕ → conditions-lts.Claims
 conditions-claims t = (
   kind-reads.Asked,
@@ -161,18 +195,8 @@ conditions-claims t = (
   ended-reads.Learnt,
   menu-below t,
   menu.Post,
-  right-reads.Asked,
-  right-reads.Learnt,
-  conditions-below t,
-  conditions.Post,
-  left-reads.Asked,
-  left-reads.Learnt,
-  on-reads.Asked,
-  on-reads.Learnt,
-  walk-below t,
-  walk.Post,
-  tensor-reads.Asked,
-  tensor-reads.Learnt,
+  recipe-below t,
+  recipe.Post,
 )
 
 abbrev menu-claims : ℕ → menu-lts.Claims
@@ -193,12 +217,28 @@ menu-claims t = (
   conditions.Post,
 )
 
+abbrev recipe-claims : ℕ → recipe-lts.Claims
+recipe-claims t = (
+  right-reads.Asked,
+  right-reads.Learnt,
+  clause-below t,
+  clause.Post,
+  left-reads.Asked,
+  left-reads.Learnt,
+  on-reads.Asked,
+  on-reads.Learnt,
+  walk-below t,
+  walk.Post,
+  tensor-reads.Asked,
+  tensor-reads.Learnt,
+)
+
 abbrev use-clause-claims : ℕ → use-clause-lts.Claims
 use-clause-claims t = (
   stepped-reads.Asked,
   stepped-reads.Learnt,
-  conditions-below t,
-  conditions.Post,
+  clause-below t,
+  clause.Post,
   due-reads.Asked,
   due-reads.Learnt,
   using-reads.Asked,
@@ -291,6 +331,29 @@ walk-with-claims t = (
   beside-reads.Learnt,
 )
 
+clause-kind-requires : (t : ℕ) → clause-lts.Need-kind-requires (clause-claims t) (clause-at t) clause.Post
+clause-kind-requires t c κs =
+    let start = c .before .before in
+    clause-here (start .pre .1 .0) _ _ (start .pre .1 .1)
+
+clause-ended-requires : (t : ℕ) → clause-lts.Need-ended-requires (clause-claims t) (clause-at t) clause.Post
+clause-ended-requires t c κs = tt
+
+clause-returns : (t : ℕ) → clause-lts.Need-returns (clause-claims t) (clause-at t) clause.Post
+clause-returns t c =
+    let at-then1 = c .before in
+    let at-kind = at-then1 .before in
+    let start = at-kind .before .before .before in
+    head-ends (start .pre .1 .0) _ _ (start .pre .1 .1) (sym (at-kind .kind .ensures .0) ∙ at-then1 .if1 .taken) _ (c .ended .ensures)
+
+clause-conditions-requires : (t : ℕ) → clause-lts.Need-conditions-requires (clause-claims t) (clause-at t) clause.Post
+clause-conditions-requires t c κs =
+    let start = c .before .before .before .before .before .before in
+    (omega (arith, start .pre .0), start .pre .1)
+
+clause-returns-2 : (t : ℕ) → clause-lts.Need-returns-2 (clause-claims t) (clause-at t) clause.Post
+clause-returns-2 t c = c .conditions .ensures
+
 conditions-kind-requires : (t : ℕ) → conditions-lts.Need-kind-requires (conditions-claims t) (conditions-at t) conditions.Post
 conditions-kind-requires t c κs =
     let start = c .before .before in
@@ -325,90 +388,14 @@ is-recipe t c =
     kind-seven (start .pre .1 .0) _ _ (start .pre .1 .1) (λ q. c .before .if1 .left (at-kind .kind .ensures .0 ∙ q))
     (λ q. c .if2 .left (at-kind .kind .ensures .0 ∙ q))
 
-conditions-right-requires : (t : ℕ) → conditions-lts.Need-right-requires (conditions-claims t) (conditions-at t) conditions.Post
-conditions-right-requires t c κs =
-    let start = c .before .before .before .before .before in
-    clause-here (start .pre .1 .0) _ _ (start .pre .1 .1)
-
-conditions-conditions-requires : (t : ℕ) → conditions-lts.Need-conditions-requires (conditions-claims t) (conditions-at t) conditions.Post
-conditions-conditions-requires t c κs =
-    let at-right = c .before .before in
-    let at-else2 = at-right .before in
+conditions-recipe-requires : (t : ℕ) → conditions-lts.Need-recipe-requires (conditions-claims t) (conditions-at t) conditions.Post
+conditions-recipe-requires t c κs =
+    let at-else2 = c .before .before in
     let start = at-else2 .before .before .before .before .before in
-    recipe-call (start .pre .1 .0) _ _ (start .pre .1 .1) (is-recipe t at-else2) t (start .pre .0) _
-    (at-right .right .ensures .0)
-
-conditions-enum-known-first : (t : ℕ) → conditions-lts.Need-enum-known-first (conditions-claims t) (conditions-at t) conditions.Post
-conditions-enum-known-first t c = c .match .keys1
-
-conditions-enum-told : (t : ℕ) → conditions-lts.Need-enum-told (conditions-claims t) (conditions-at t) conditions.Post
-conditions-enum-told t c = c .match .keys2
+    (omega (arith, start .pre .0), (start .pre .1 .0, (start .pre .1 .1, is-recipe t at-else2)))
 
 conditions-returns-3 : (t : ℕ) → conditions-lts.Need-returns-3 (conditions-claims t) (conditions-at t) conditions.Post
-conditions-returns-3 t c =
-    let at-conditions = c .before .before in
-    let at-right = at-conditions .before .before .before in
-    let at-else2 = at-right .before in
-    let start = at-else2 .before .before .before .before .before in
-    first-lost (start .pre .1 .0) (recipe-both (start .pre .1 .0) _ _ (start .pre .1 .1) (is-recipe t at-else2) _ (at-right .right
-    .ensures .0) _ refl) (c .enum-told .given .1) (at-conditions .conditions .ensures)
-
-conditions-left-requires : (t : ℕ) → conditions-lts.Need-left-requires (conditions-claims t) (conditions-at t) conditions.Post
-conditions-left-requires t c κs =
-    let start = c .before .before .before .before .before .before .before .before .before .before .before .before in
-    clause-here (start .pre .1 .0) _ _ (start .pre .1 .1)
-
-conditions-on-requires : (t : ℕ) → conditions-lts.Need-on-requires (conditions-claims t) (conditions-at t) conditions.Post
-conditions-on-requires t c κs = tt
-
-conditions-walk-requires : (t : ℕ) → conditions-lts.Need-walk-requires (conditions-claims t) (conditions-at t) conditions.Post
-conditions-walk-requires t c κs =
-    let at-left = c .before .before .before in
-    let at-first = at-left .before .before in
-    let at-conditions = at-first .before .before in
-    let at-else2 = at-conditions .before .before .before .before in
-    let start = at-else2 .before .before .before .before .before in
-    condition-call (start .pre .1 .0) _ _ (start .pre .1 .1) (is-recipe t at-else2) _ (at-first .first
-    .given .1) (at-conditions .conditions .ensures) t (start .pre .0) _ (at-left .left .ensures .0) _ (c .on .ensures)
-
-conditions-enum-known-second : (t : ℕ) → conditions-lts.Need-enum-known-second (conditions-claims t) (conditions-at t) conditions.Post
-conditions-enum-known-second t c = c .match2 .keys1
-
-conditions-enum-told-2 : (t : ℕ) → conditions-lts.Need-enum-told-2 (conditions-claims t) (conditions-at t) conditions.Post
-conditions-enum-told-2 t c = c .match2 .keys2
-
-conditions-returns-4 : (t : ℕ) → conditions-lts.Need-returns-4 (conditions-claims t) (conditions-at t) conditions.Post
-conditions-returns-4 t c =
-    let at-walk = c .before .before in
-    let at-on = at-walk .before in
-    let at-left = at-on .before .before .before in
-    let at-first = at-left .before .before in
-    let at-conditions = at-first .before .before in
-    let at-right = at-conditions .before .before .before in
-    let at-else2 = at-right .before in
-    let start = at-else2 .before .before .before .before .before in
-    run-lost (start .pre .1 .0) _ (at-first .first .given .1) (at-conditions .conditions .ensures) _ _ (at-on .on .ensures) (at-walk .walk
-    .ensures) (recipe-both (start .pre .1 .0) _ _ (start .pre .1 .1) (is-recipe t at-else2) _
-    (at-right .right .ensures .0) _ (at-left .left .ensures .0)) (c .enum-told2 .given .1)
-
-conditions-tensor-requires : (t : ℕ) → conditions-lts.Need-tensor-requires (conditions-claims t) (conditions-at t) conditions.Post
-conditions-tensor-requires t c κs = tt
-
-conditions-returns-5 : (t : ℕ) → conditions-lts.Need-returns-5 (conditions-claims t) (conditions-at t) conditions.Post
-conditions-returns-5 t c =
-    let at-second = c .before .before in
-    let at-walk = at-second .before .before in
-    let at-on = at-walk .before in
-    let at-left = at-on .before .before .before in
-    let at-first = at-left .before .before in
-    let at-conditions = at-first .before .before in
-    let at-right = at-conditions .before .before .before in
-    let at-else2 = at-right .before in
-    let start = at-else2 .before .before .before .before .before in
-    run-tensor (start .pre .1 .0) _ (at-first .first .given .1) (at-conditions .conditions .ensures) _ _ (at-on .on .ensures) (at-walk
-    .walk .ensures) _ (at-second .second .given .1) (c .tensor .ensures .1 .0) (c .tensor .ensures .1 .1) _ refl (c .tensor .ensures .0)
-    (recipe-joins (start .pre .1 .0) _ _ (start .pre .1 .1) (is-recipe t at-else2) _ (at-right .right
-    .ensures .0) _ (at-left .left .ensures .0))
+conditions-returns-3 t c = c .recipe .ensures
 
 menu-left-requires : (t : ℕ) → menu-lts.Need-left-requires (menu-claims t) (menu-at t) menu.Post
 menu-left-requires t c κs =
@@ -494,6 +481,86 @@ menu-returns-2 t c =
     menu-done (start .pre .1 .0) _ _ (start .pre .1 .1 .0) (start .pre .1 .1 .1) (tested t (at-side .before)) (at-side .next-side .ensures) _
     (at-next .next .given .1) _ (at-stepped .stepped .ensures) (c .conditions .ensures)
 
+recipe-right-requires : (t : ℕ) → recipe-lts.Need-right-requires (recipe-claims t) (recipe-at t) recipe.Post
+recipe-right-requires t c κs =
+    let start = c .before .before in
+    clause-here (start .pre .1 .0) _ _ (start .pre .1 .1 .0)
+
+recipe-clause-requires : (t : ℕ) → recipe-lts.Need-clause-requires (recipe-claims t) (recipe-at t) recipe.Post
+recipe-clause-requires t c κs =
+    let at-right = c .before .before in
+    let start = at-right .before .before .before in
+    recipe-call (start .pre .1 .0) _ _ (start .pre .1 .1 .0) (start .pre .1 .1 .1) t (start .pre .0) _
+    (at-right .right .ensures .0)
+
+recipe-enum-known-first : (t : ℕ) → recipe-lts.Need-enum-known-first (recipe-claims t) (recipe-at t) recipe.Post
+recipe-enum-known-first t c = c .match .keys1
+
+recipe-enum-told : (t : ℕ) → recipe-lts.Need-enum-told (recipe-claims t) (recipe-at t) recipe.Post
+recipe-enum-told t c = c .match .keys2
+
+recipe-returns : (t : ℕ) → recipe-lts.Need-returns (recipe-claims t) (recipe-at t) recipe.Post
+recipe-returns t c =
+    let at-clause = c .before .before in
+    let at-right = at-clause .before .before .before in
+    let start = at-right .before .before .before in
+    first-lost (start .pre .1 .0) (recipe-both (start .pre .1 .0) _ _ (start .pre .1 .1 .0) (start .pre .1 .1 .1) _ (at-right .right
+    .ensures .0) _ refl) (c .enum-told .given .1) (at-clause .clause .ensures)
+
+recipe-left-requires : (t : ℕ) → recipe-lts.Need-left-requires (recipe-claims t) (recipe-at t) recipe.Post
+recipe-left-requires t c κs =
+    let start = c .before .before .before .before .before .before .before .before .before in
+    clause-here (start .pre .1 .0) _ _ (start .pre .1 .1 .0)
+
+recipe-on-requires : (t : ℕ) → recipe-lts.Need-on-requires (recipe-claims t) (recipe-at t) recipe.Post
+recipe-on-requires t c κs = tt
+
+recipe-walk-requires : (t : ℕ) → recipe-lts.Need-walk-requires (recipe-claims t) (recipe-at t) recipe.Post
+recipe-walk-requires t c κs =
+    let at-left = c .before .before .before in
+    let at-first = at-left .before .before in
+    let at-clause = at-first .before .before in
+    let start = at-clause .before .before .before .before .before .before in
+    condition-call (start .pre .1 .0) _ _ (start .pre .1 .1 .0) (start .pre .1 .1 .1) _ (at-first .first
+    .given .1) (at-clause .clause .ensures) t (start .pre .0) _ (at-left .left .ensures .0) _ (c .on .ensures)
+
+recipe-enum-known-second : (t : ℕ) → recipe-lts.Need-enum-known-second (recipe-claims t) (recipe-at t) recipe.Post
+recipe-enum-known-second t c = c .match2 .keys1
+
+recipe-enum-told-2 : (t : ℕ) → recipe-lts.Need-enum-told-2 (recipe-claims t) (recipe-at t) recipe.Post
+recipe-enum-told-2 t c = c .match2 .keys2
+
+recipe-returns-2 : (t : ℕ) → recipe-lts.Need-returns-2 (recipe-claims t) (recipe-at t) recipe.Post
+recipe-returns-2 t c =
+    let at-walk = c .before .before in
+    let at-on = at-walk .before in
+    let at-left = at-on .before .before .before in
+    let at-first = at-left .before .before in
+    let at-clause = at-first .before .before in
+    let at-right = at-clause .before .before .before in
+    let start = at-right .before .before .before in
+    run-lost (start .pre .1 .0) _ (at-first .first .given .1) (at-clause .clause .ensures) _ _ (at-on .on .ensures) (at-walk .walk
+    .ensures) (recipe-both (start .pre .1 .0) _ _ (start .pre .1 .1 .0) (start .pre .1 .1 .1) _
+    (at-right .right .ensures .0) _ (at-left .left .ensures .0)) (c .enum-told2 .given .1)
+
+recipe-tensor-requires : (t : ℕ) → recipe-lts.Need-tensor-requires (recipe-claims t) (recipe-at t) recipe.Post
+recipe-tensor-requires t c κs = tt
+
+recipe-returns-3 : (t : ℕ) → recipe-lts.Need-returns-3 (recipe-claims t) (recipe-at t) recipe.Post
+recipe-returns-3 t c =
+    let at-second = c .before .before in
+    let at-walk = at-second .before .before in
+    let at-on = at-walk .before in
+    let at-left = at-on .before .before .before in
+    let at-first = at-left .before .before in
+    let at-clause = at-first .before .before in
+    let at-right = at-clause .before .before .before in
+    let start = at-right .before .before .before in
+    run-tensor (start .pre .1 .0) _ (at-first .first .given .1) (at-clause .clause .ensures) _ _ (at-on .on .ensures) (at-walk
+    .walk .ensures) _ (at-second .second .given .1) (c .tensor .ensures .1 .0) (c .tensor .ensures .1 .1) _ refl (c .tensor .ensures .0)
+    (recipe-joins (start .pre .1 .0) _ _ (start .pre .1 .1 .0) (start .pre .1 .1 .1) _ (at-right .right
+    .ensures .0) _ (at-left .left .ensures .0))
+
 use-clause-mul-node : (t : ℕ) → use-clause-lts.Need-mul-node (use-clause-claims t) (use-clause-at t) use-clause.Post
 use-clause-mul-node t c =
     let start = c .before .before in
@@ -532,8 +599,8 @@ use-clause-stepped-requires t c κs =
     let short = start .pre .1 .0 .short in
     (omega (arith, room, short), start .pre .1 .1 .0 .deep)
 
-use-clause-conditions-requires : (t : ℕ) → use-clause-lts.Need-conditions-requires (use-clause-claims t) (use-clause-at t) use-clause.Post
-use-clause-conditions-requires t c κs =
+use-clause-clause-requires : (t : ℕ) → use-clause-lts.Need-clause-requires (use-clause-claims t) (use-clause-at t) use-clause.Post
+use-clause-clause-requires t c κs =
     let start = c .before .before .before .before .before .before .before in
     use-call (start .pre .1 .0) _ _ (start .pre .1 .1 .0) (start .pre .1 .1 .1) t (start .pre .0) _ refl _ (c .stepped .ensures)
 
@@ -545,36 +612,36 @@ use-clause-enum-told t c = c .match .keys2
 
 use-clause-returns : (t : ℕ) → use-clause-lts.Need-returns (use-clause-claims t) (use-clause-at t) use-clause.Post
 use-clause-returns t c =
-    let at-conditions = c .before .before in
-    let at-stepped = at-conditions .before in
+    let at-clause = c .before .before in
+    let at-stepped = at-clause .before in
     let start = at-stepped .before .before .before .before .before .before .before in
-    use-lost (start .pre .1 .0) _ _ (start .pre .1 .1 .0) _ refl _ (at-stepped .stepped .ensures) (at-conditions .conditions .ensures) (c
+    use-lost (start .pre .1 .0) _ _ (start .pre .1 .1 .0) _ refl _ (at-stepped .stepped .ensures) (at-clause .clause .ensures) (c
     .enum-told .given .1)
 
 use-clause-sub-item : (t : ℕ) → use-clause-lts.Need-sub-item (use-clause-claims t) (use-clause-at t) use-clause.Post
 use-clause-sub-item t c =
     let at-then1 = c .before in
     let at-inner = at-then1 .before .before in
-    let at-conditions = at-inner .before .before in
-    let at-stepped = at-conditions .before in
+    let at-clause = at-inner .before .before in
+    let at-stepped = at-clause .before in
     let start = at-stepped .before .before .before .before .before .before .before in
     item-low (start .pre .1 .0) _ _ (start .pre .1 .1 .0) (at-then1 .if1 .taken)
 
 use-clause-due-requires : (t : ℕ) → use-clause-lts.Need-due-requires (use-clause-claims t) (use-clause-at t) use-clause.Post
 use-clause-due-requires t c κs =
     let at-inner = c .before .before .before in
-    let at-conditions = at-inner .before .before in
-    let at-stepped = at-conditions .before in
+    let at-clause = at-inner .before .before in
+    let at-stepped = at-clause .before in
     let start = at-stepped .before .before .before .before .before .before .before in
     start .pre .1 .0 .sound
 
 use-clause-using-requires : (t : ℕ) → use-clause-lts.Need-using-requires (use-clause-claims t) (use-clause-at t) use-clause.Post
 use-clause-using-requires t c κs =
     let at-inner = c .before .before .before .before in
-    let at-conditions = at-inner .before .before in
-    let at-stepped = at-conditions .before in
+    let at-clause = at-inner .before .before in
+    let at-stepped = at-clause .before in
     let start = at-stepped .before .before .before .before .before .before .before in
-    met-room (start .pre .1 .0) _ _ (start .pre .1 .1 .0) _ refl _ (at-stepped .stepped .ensures) (at-conditions .conditions .ensures) _
+    met-room (start .pre .1 .0) _ _ (start .pre .1 .1 .0) _ refl _ (at-stepped .stepped .ensures) (at-clause .clause .ensures) _
     (at-inner .inner .given .1) _ (c .due .ensures)
 
 use-clause-returns-2 : (t : ℕ) → use-clause-lts.Need-returns-2 (use-clause-claims t) (use-clause-at t) use-clause.Post
@@ -582,19 +649,19 @@ use-clause-returns-2 t c =
     let at-due = c .before in
     let at-then1 = at-due .before .before in
     let at-inner = at-then1 .before .before in
-    let at-conditions = at-inner .before .before in
-    let at-stepped = at-conditions .before in
+    let at-clause = at-inner .before .before in
+    let at-stepped = at-clause .before in
     let start = at-stepped .before .before .before .before .before .before .before in
-    item-done (start .pre .1 .0) _ _ (start .pre .1 .1 .0) _ refl _ (at-stepped .stepped .ensures) (at-conditions .conditions .ensures) _
+    item-done (start .pre .1 .0) _ _ (start .pre .1 .1 .0) _ refl _ (at-stepped .stepped .ensures) (at-clause .clause .ensures) _
     (at-inner .inner .given .1) _ (at-due .due .ensures) (at-then1 .if1 .taken) _ (c .«using» .ensures)
 
 use-clause-returns-3 : (t : ℕ) → use-clause-lts.Need-returns-3 (use-clause-claims t) (use-clause-at t) use-clause.Post
 use-clause-returns-3 t c =
     let at-inner = c .before .before in
-    let at-conditions = at-inner .before .before in
-    let at-stepped = at-conditions .before in
+    let at-clause = at-inner .before .before in
+    let at-stepped = at-clause .before in
     let start = at-stepped .before .before .before .before .before .before .before in
-    rule-done (start .pre .1 .0) _ _ (start .pre .1 .1 .0) _ refl _ (at-stepped .stepped .ensures) (at-conditions .conditions .ensures) _
+    rule-done (start .pre .1 .0) _ _ (start .pre .1 .1 .0) _ refl _ (at-stepped .stepped .ensures) (at-clause .clause .ensures) _
     (at-inner .inner .given .1) (c .if1 .left)
 
 walk-kind-requires : (t : ℕ) → walk-lts.Need-kind-requires (walk-claims t) (walk-at t) walk.Post
@@ -1012,12 +1079,14 @@ walk-with-returns-3 t c =
     _ (at-second .second .given .1) (c .beside .ensures .1 .0) (c .beside .ensures .1 .1) _ refl (c .beside .ensures .0) (with-joins (start
     .pre .1 .0) _ (start .pre .1 .1 .0) _ (at-left .left .ensures .0) _ (at-right .right .ensures .0) (start .pre .1 .1 .1))
 
-pub +conditions+menu+use-clause+walk+walk-atom+walk-lend+walk-one-of+walk-tensor+walk-with-spec :
+pub +clause+conditions+menu+recipe+use-clause+walk+walk-atom+walk-lend+walk-one-of+walk-tensor+walk-with-spec :
     {M : Type 1} → statement M
-+conditions+menu+use-clause+walk+walk-atom+walk-lend+walk-one-of+walk-tensor+walk-with-spec =
++clause+conditions+menu+recipe+use-clause+walk+walk-atom+walk-lend+walk-one-of+walk-tensor+walk-with-spec =
     close
+    μ-clause
     μ-conditions
     μ-menu
+    μ-recipe
     μ-use-clause
     μ-walk
     μ-walk-atom
@@ -1025,6 +1094,14 @@ pub +conditions+menu+use-clause+walk+walk-atom+walk-lend+walk-one-of+walk-tensor
     μ-walk-one-of
     μ-walk-tensor
     μ-walk-with
+    (λ t. clause-lts.spec (clause-claims t)
+    (clause-at t)
+    clause.Post
+    (clause-kind-requires t)
+    (clause-ended-requires t)
+    (clause-returns t)
+    (clause-conditions-requires t)
+    (clause-returns-2 t))
     (λ t. conditions-lts.spec (conditions-claims t)
     (conditions-at t)
     conditions.Post
@@ -1033,19 +1110,8 @@ pub +conditions+menu+use-clause+walk+walk-atom+walk-lend+walk-one-of+walk-tensor
     (conditions-returns t)
     (conditions-menu-requires t)
     (conditions-returns-2 t)
-    (conditions-right-requires t)
-    (conditions-conditions-requires t)
-    (conditions-enum-known-first t)
-    (conditions-enum-told t)
-    (conditions-returns-3 t)
-    (conditions-left-requires t)
-    (conditions-on-requires t)
-    (conditions-walk-requires t)
-    (conditions-enum-known-second t)
-    (conditions-enum-told-2 t)
-    (conditions-returns-4 t)
-    (conditions-tensor-requires t)
-    (conditions-returns-5 t))
+    (conditions-recipe-requires t)
+    (conditions-returns-3 t))
     (λ t. menu-lts.spec (menu-claims t)
     (menu-at t)
     menu.Post
@@ -1061,6 +1127,22 @@ pub +conditions+menu+use-clause+walk+walk-atom+walk-lend+walk-one-of+walk-tensor
     (menu-stepped-requires t)
     (menu-conditions-requires t)
     (menu-returns-2 t))
+    (λ t. recipe-lts.spec (recipe-claims t)
+    (recipe-at t)
+    recipe.Post
+    (recipe-right-requires t)
+    (recipe-clause-requires t)
+    (recipe-enum-known-first t)
+    (recipe-enum-told t)
+    (recipe-returns t)
+    (recipe-left-requires t)
+    (recipe-on-requires t)
+    (recipe-walk-requires t)
+    (recipe-enum-known-second t)
+    (recipe-enum-told-2 t)
+    (recipe-returns-2 t)
+    (recipe-tensor-requires t)
+    (recipe-returns-3 t))
     (λ t. use-clause-lts.spec (use-clause-claims t)
     (use-clause-at t)
     use-clause.Post
@@ -1069,7 +1151,7 @@ pub +conditions+menu+use-clause+walk+walk-atom+walk-lend+walk-one-of+walk-tensor
     (use-clause-cast-node t)
     (use-clause-element-copy-out-gone t)
     (use-clause-stepped-requires t)
-    (use-clause-conditions-requires t)
+    (use-clause-clause-requires t)
     (use-clause-enum-known-inner t)
     (use-clause-enum-told t)
     (use-clause-returns t)
