@@ -249,7 +249,7 @@ fn reading(row: &Row) -> (&Row, Option<f64>) {
     (row, row.3.as_ref().and_then(|times| times.ratio))
 }
 
-/// The families whose rows have a mean ratio above 1.03, and the one that has the greatest.
+/// The families whose rows have a mean ratio above 1.02, and the one that has the greatest.
 fn by_family(of: &str, rows: &[(&Row, Option<f64>)]) {
     let mut means: Vec<(f64, &str)> = rows
         .chunk_by(|a, b| a.0 .0.name == b.0 .0.name)
@@ -257,9 +257,9 @@ fn by_family(of: &str, rows: &[(&Row, Option<f64>)]) {
         .collect();
     means.sort_by(|a, b| b.0.total_cmp(&a.0));
     if let Some((worst, name)) = means.first() {
-        let above = means.iter().filter(|m| m.0 > 1.03).count();
+        let above = means.iter().filter(|m| m.0 > 1.02).count();
         println!(
-            "{of}: {} families, the worst by its mean {worst:.3} ({name}), {above} above 1.03",
+            "{of}: {} families, the worst by its mean {worst:.3} ({name}), {above} above 1.02",
             means.len()
         );
         means.iter().take(above).for_each(|(ratio, name)| println!("  {name} {ratio:.3}"));
