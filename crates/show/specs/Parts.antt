@@ -3,7 +3,7 @@ use Prim.Native.Nat.{ℕ, _+_, min}
 use mathlib.Core.List.{List}
 use lib.ListN.{length}
 
--- the lesser of two
+-- the lesser of two: `min`, folded, since the proofs of callers go by its bounds and are found by search
 unfoldable pub lesser : ℕ → ℕ → ℕ
 lesser n most = min n most
 
