@@ -21,6 +21,8 @@ row-lax row-strict sample-sheet second-entry sheet-fits side-at side-taken surel
 TURNED = "head_at first_entry items_at left_over row_len row_seen".split()
 TAKEN = {n: n.replace("-", "_") + "_lem" for n in LEMMAS + TURNED}
 TAKEN.update({"goal-node": "is_goal_part", "is-goal": "goal_is", "no-entry": "no_such_entry"})
+# the made name that a respelled word may have been, in a function's proof
+BACK = {new: old for old, new in TAKEN.items()}
 PART = r"[^\s(){}\[\],;.`\"]+"
 TOKEN = re.compile(PART)
 DECLARED = re.compile(r"^(\s*)((?:(?:abbrev|unfoldable|opaque|pub|data|record) )*)([^\s:(){},=]+(?: [^\s:(){},=]+)*)((?: \([^()]*(?:\([^()]*\)[^()]*)*\)| \{[^{}]*\})*) :(?: |$)")

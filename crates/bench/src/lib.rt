@@ -1,4 +1,6 @@
 // Two cards on one bench (02, #101): the joined card, and which card a joined line comes from.
+#![tactic(auto)]
+
 ghost use Rattle.std.specs.Prelude.{◌≡◌, ◌≤◌};
 ghost use Rattle.card.specs.Format.{line_start};
 ghost use Rattle.card.specs.Fault.{Sound};

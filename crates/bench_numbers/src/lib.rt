@@ -1,4 +1,6 @@
 // The answers of the calls over two cards packed into one number (include/kit_planner.h).
+#![tactic(auto)]
+
 ghost use Rattle.std.specs.Prelude.{◌≡◌, ◌<◌};
 ghost use Rattle.card.specs.Verdict.{where_of};
 ghost use Rattle.numbers.specs.Numbers.{number_in, card_in, place_in, index_in, place_of, Plain};

@@ -1,4 +1,6 @@
 // What both calls over two cards check first (02, #101): each card by itself, and whether the two fit on one.
+#![tactic(auto)]
+
 ghost use Rattle.std.specs.Prelude.{◌≡◌};
 ghost use Rattle.card.specs.Verdict.{told};
 ghost use Rattle.benched.specs.Benched.{about, owner_of, bench_fault, told_bench};

@@ -2,6 +2,8 @@
 // the source of every joined line and of one beyond; or the refusals. A record of the input is a label (its length in one byte, then its
 // bytes), the length of the buffer to be lent (two bytes; at most 2,900 are lent), the lengths of both cards (two bytes each), and the
 // cards. The buffer is filled with one byte beforehand.
+#![tactic(auto)]
+
 ghost use Rattle.std.specs.Prelude.{◌≤◌, ◌<◌, length};
 
 use bench::Located;

@@ -1,4 +1,6 @@
 // Bounds of an agenda: least steps, and least and greatest numbers of items of each class, from a table that is checked before it is used.
+#![tactic(auto)]
+
 mod doom;
 pub mod nodes;
 pub mod table;

@@ -1,4 +1,6 @@
 // Where a search stands in its segment, and how what it has found changes that.
+#![tactic(auto)]
+
 ghost use Rattle.std.specs.Prelude.{◌≡◌, length, ◌≤◌, ◌<◌, false};
 ghost use Rattle.lines.specs.Set.{member, Words};
 ghost use Rattle.branch.specs.Inner.Values.{dropped_b, longer_b, sized_b, chose_b, freed_b, eased_b, lead_b, own_b, past_tensor_b, past_with_b, lent_b, using_b, spent_b, item_of};

@@ -21,7 +21,7 @@ use Rattle.calculus.specs.Inner.Summary.{sum_⊕₂, sum_⊸, sum_rule, sum_item
 use Rattle.calculus.specs.Inner.Window.{Counts}
 use Rattle.calculus.specs.Inner.Enumeration.{Taking, taking, kept, pairs, below, all, apart, covering, tensored, sided}
 use Rattle.calculus.specs.Inner.Enumeration.{lent, taking_use, side_taken, takings, named, fitting, lists, matches, among, leads}
-use Rattle.calculus.proofs.SetLaws.{◌≐◌, ◌⟹◌, ◌⊑◌, table, same_path, covers, not-true, only_eq, only_self, empty_∅, ∪_joins}
+use Rattle.calculus.proofs.SetLaws.{◌≐◌, ◌⟹◌, ◌⊑◌, table, same_path, covers, not_true, only_eq, only_self, empty_∅, ∪_joins}
 use Rattle.calculus.proofs.SetLaws.{join_left, join_right, join_within, only_without, only_plus, split_joins}
 use Rattle.calculus.proofs.SummaryExact.{bounded_within, bounded_∪, lend_size}
 use Rattle.calculus.proofs.WindowExact.{listed}
@@ -93,7 +93,7 @@ all_of (suc n) I f = and_true (I n) (all n I) (f n) (all_of n I f)
 -- The tests of items say what they should, where the items tested stand in the scope.
 apart_splits : {es : Scope} (U W : Items) → Bounded es U → apart es U W ≡ true → Splits (U ∪ W) U W
 unfolding apart
-apart_splits {es} U W b h = record { whole = (∪_joins U W).joined; apart = λ i. not-true (U i && W i) (none i) }
+apart_splits {es} U W b h = record { whole = (∪_joins U W).joined; apart = λ i. not_true (U i && W i) (none i) }
   where
     none : (i : ℕ) → (U i && W i) ≡ true → ⊥
     none i t = false≢true

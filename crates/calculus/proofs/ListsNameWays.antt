@@ -410,6 +410,7 @@ kept met (res_1 n) = record { singly = once_none; begins = λ n i. absurd (Mem�
 kept (after w) (res_⊗ s l r) = sorted_row (kept w l) (kept anywhere r)
 kept (either w x) (res_⊕₁ d) = sorted_choice left_choice (kept w d)
 kept (either w x) (res_⊕₂ d) = sorted_choice right_choice (kept x d)
+kept (unmet {k = k}) d = elim d [ ]
 
 -- THEOREM. A place has at most one need, and one entry serves it.
 pub serves_once : {es : Scope} {I : Items} {G : Goal} (d : Derives es I G) (p : List Turn) (e f : ℕ)

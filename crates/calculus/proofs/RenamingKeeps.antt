@@ -44,7 +44,7 @@ pub used_usable : {es : Scope} {I : Items} (fits : Fits) (a : ℕ) (D : Clause) 
 unfolding residual usable
 used_usable fits a (atomᴰ b) d = matched_true (fits b a) d
 used_usable fits a topᴰ d = absurd (no_zero d)
-used_usable fits a (lolliᴰ G D) d = used_usable fits a D (left_part d).1
+used_usable {I = I} fits a (lolliᴰ G D) d = used_usable {I = (left_part d).0} fits a D (left_part d).1
 used_usable fits a (withᴰ D E) d =
     ⊎_elim (λ c. ap (λ (b : Bool). b || usable fits a E) (used_usable fits a D c))
     (λ c. or_right (usable fits a D) (usable fits a E) (used_usable fits a E c)) (part_taken d)

@@ -309,6 +309,26 @@ alike (trace_item {es} p s x) (trace_rule q c x') = λ r t h. absurd (rule_or_it
 alike (trace_item p s x) (trace_item q c x') = agree_item s c (λ d. alike x d) x'
 alike (trace_head f e) (trace_head g e') = agree_ends e e'
 alike (trace_recipe s x y) (trace_recipe c x' y') = agree_⊗ s c (alike x x') (alike y y')
+alike {m = m} (trace_1 {n = n} {es = es} {w = w} e) (trace_side {c = c} {q = q} i k y) = elim i [ ]
+alike {m = m} (trace_⊤ {n = n} {es = es} {w = w} e) (trace_side {c = c} {q = q} i k y) = elim i [ ]
+alike {m = m} (trace_0 {n = n} {es = es} {w = w} e) (trace_side {c = c} {q = q} i k y) = elim i [ ]
+alike {m = m} (trace_⊗ {n = n} {es = es} {G = G} {H = H} {w = w} s x y) (trace_side {c = c} {q = q} i k _) = elim i [ ]
+alike {m = m} (trace_& {n = n} {es = es} {G = G} {H = H} {w = w} s x y) (trace_side {c = c} {q = q} i k _) = elim i [ ]
+alike {m = m} (trace_⊸ {n = n} {es = es} {D = D} {G = G} {w = w} s x) (trace_side {c = c} {q = q} i k y) = elim i [ ]
+alike {m = m} (trace_side {n = n} {c = c} {es = es} {q = q} {w = w} o s x) (trace_1 f) = elim o [ ]
+alike {m = m} (trace_side {n = n} {c = c} {es = es} {q = q} {w = w} o s x) (trace_⊤ f) = elim o [ ]
+alike {m = m} (trace_side {n = n} {c = c} {es = es} {q = q} {w = w} o s x) (trace_0 f) = elim o [ ]
+alike {m = m} (trace_side {n = n} {es = es} {q = q} {w = w} o s x) (trace_⊗ {G = G} {H = H} {y = y} c x' y') = elim o [ ]
+alike {m = m} (trace_side {n = n} {es = es} {q = q} {w = w} o s x) (trace_& {G = G} {H = H} {y = y} c x' y') = elim o [ ]
+alike {m = m} (trace_side {n = n} {es = es} {q = q} {w = w} o s x) (trace_⊸ {D = D} {G = G} c x') = elim o [ ]
+alike (trace_side {n = n} {es = es} {w = w} o s x) (trace_rule {a = a} {e = e} q c x') = elim o [ ]
+alike (trace_side {n = n} {es = es} {w = w} o s x) (trace_item {a = a} {e = e} q c x') = elim o [ ]
+alike {m = m} (trace_side {n = n} {c = c} {es = es} {q = q} {w = w} o s x) (trace_head {a = a} {b = b} g e') = elim o [ ]
+alike {m = m} (trace_side {n = n} {es = es} {q = q} {w = w} o s x) (trace_recipe {a = a} {G = G} {D = D} {y = y} c x' y') = elim o [ ]
+alike {m = m} (trace_rule {n = n} {es = es} {a = a} {e = e} {w = w} p s x) (trace_side {c = c} {q = q} i k y) = elim i [ ]
+alike {m = m} (trace_item {n = n} {es = es} {a = a} {e = e} {w = w} p s x) (trace_side {c = c} {q = q} i k y) = elim i [ ]
+alike {m = m} (trace_head {n = n} {es = es} {a = a} {b = b} {w = w} f e) (trace_side {c = c} {q = q} i k y) = elim i [ ]
+alike {m = m} (trace_recipe {n = n} {es = es} {a = a} {G = G} {D = D} {w = w} s x y) (trace_side {c = c} {q = q} i k _) = elim i [ ]
 
 -- THEOREM. A list is walked in one way: walks of two lists that begin one list agree.
 pub trace_unique : {n m : ℕ} {es : Scope} {p : Part} {w x : Gathered} (r t : List ℕ)

@@ -154,6 +154,9 @@ wrong_here (suc n) es asks_name (too_deep h g) i = absurd (omega arith)
 wrong_here n es (asks_name {a}) missing i = walk_none n a es i
 wrong_here n es (asks_choice c) (no_side {c = e} {l = l} d none) i = walk_no_side n c es i e l none
 wrong_here n es (asks_choice c) missing i = walk_no_choice n c es i
+wrong_here n es (asks_name {a = a}) (no_side {c = e} {l = l} d none) i = elim d [ ]
+wrong_here n es (asks_choice c) (no_such_entry {a = a} {e = e} {l = l} h) i = elim c [ ]
+wrong_here n es (asks_choice c) (too_deep {a = a} {e = e} {l = l} h g) i = elim c [ ]
 
 wants_walk : {n u m : ℕ} {es fs : Scope} {p q : Part} {k t : List ℕ} → Wants n es p k u fs q → Wrong n fs u q m t → (i : ℕ)
     → part_walk n p es i (k ++ t) ≡ stops m (i + length k)
@@ -463,8 +466,33 @@ retrace (trace_⊸ s c) (lends a) =
 retrace (trace_side o s c) (ends b) = absurd (side_still o b)
 retrace (trace_side o s c) (in_turn b q a d) = absurd (side_both o b)
 retrace (trace_side o s c) (chooses i a) = retraced_side o i s (λ d. retrace c d) a
-retrace (trace_rule q s c) (uses u a) = retraced_use s.lists (trace_rule q s) (λ d. retrace c d) a
-retrace (trace_item q s c) (uses u a) = retraced_use s.lists (trace_item q s) (λ d. retrace c d) a
+retrace (trace_rule q s c) (uses {n = k} u a) = retraced_use s.lists (trace_rule q s) (λ d. retrace {n = k} c d) a
+retrace (trace_item q s c) (uses {n = k} u a) = retraced_use s.lists (trace_item q s) (λ d. retrace {n = k} c d) a
+retrace {n = n} {l = l} (trace_1 {es = es} {w = w} e) (in_turn {y = y} {k = k} {m = m} x27 q a b) = elim x27 [ ]
+retrace {n = n} (trace_1 {es = es} {w = w} e) (chooses {c = c} {l = l} i a) = elim i [ ]
+retrace {n = n} {l = l} (trace_⊤ {es = es} {w = w} e) (in_turn {y = y} {k = k} {m = m} x28 q a b) = elim x28 [ ]
+retrace {n = n} (trace_⊤ {es = es} {w = w} e) (chooses {c = c} {l = l} i a) = elim i [ ]
+retrace {n = n} {l = l} (trace_0 {es = es} {w = w} e) (in_turn {y = y} {k = k} {m = m} x29 q a b) = elim x29 [ ]
+retrace {n = n} (trace_0 {es = es} {w = w} e) (chooses {c = c} {l = l} i a) = elim i [ ]
+retrace {n = n} (trace_⊗ {es = es} {G = G} {H = H} {w = w} {y = y} s c d) (ends b) = elim b [ ]
+retrace {n = n} (trace_⊗ {es = es} {G = G} {H = H} {w = w} {y = y} s c d) (chooses {l = l} i a) = elim i [ ]
+retrace {n = n} (trace_& {es = es} {G = G} {H = H} {w = w} {y = y} s c d) (ends b) = elim b [ ]
+retrace {n = n} (trace_& {es = es} {G = G} {H = H} {w = w} {y = y} s c d) (chooses {l = l} i a) = elim i [ ]
+retrace {n = n} (trace_⊸ {es = es} {D = D} {G = G} {w = w} s c) (ends b) = elim b [ ]
+retrace {n = n} {l = l} (trace_⊸ {es = es} {D = D} {G = G} {w = w} s c) (in_turn {y = y} {k = k} {m = m} x34 q a b) = elim x34 [ ]
+retrace {n = n} (trace_⊸ {es = es} {D = D} {G = G} {w = w} s c) (chooses {l = l} i a) = elim i [ ]
+retrace {n = n} {l = l} (trace_side {es = es} {q = q} {w = w} o s c) (lends {D = D} {G = G} a) = elim o [ ]
+retrace (trace_side {es = es} {q = q} {w = w} o s c) (uses {n = n} {e = e} {l = l} u a) = elim o [ ]
+retrace {n = n} (trace_rule {es = es} {a = a} {e = e} {w = w} q s c) (ends b) = elim b [ ]
+retrace {n = n} {l = l} (trace_rule {es = es} {e = e} {w = w} q s c) (in_turn {y = y} {k = k} {m = m} x36 _ a b) = elim x36 [ ]
+retrace {n = n} (trace_rule {es = es} {e = e} {w = w} q s c) (chooses {l = l} i a) = elim i [ ]
+retrace {n = n} (trace_item {es = es} {a = a} {e = e} {w = w} q s c) (ends b) = elim b [ ]
+retrace {n = n} {l = l} (trace_item {es = es} {e = e} {w = w} q s c) (in_turn {y = y} {k = k} {m = m} x37 _ a b) = elim x37 [ ]
+retrace {n = n} (trace_item {es = es} {e = e} {w = w} q s c) (chooses {l = l} i a) = elim i [ ]
+retrace {n = n} {l = l} (trace_head {es = es} {w = w} f e) (in_turn {y = y} {k = k} {m = m} x36 q a b) = elim x36 [ ]
+retrace {n = n} (trace_head {es = es} {b = b} {w = w} f e) (chooses {c = c} {l = l} i a) = elim i [ ]
+retrace {n = n} (trace_recipe {es = es} {a = a} {G = G} {D = D} {w = w} {y = y} s c d) (ends b) = elim b [ ]
+retrace {n = n} (trace_recipe {es = es} {G = G} {D = D} {w = w} {y = y} s c d) (chooses {l = l} i a) = elim i [ ]
 
 -- THEOREM. A list is that of a derivation within limits exactly when its walk is right to its end, its items divide, and it keeps to the
 -- step limit.

@@ -1,4 +1,6 @@
 // The card (01, "The card"): access to its bytes, and the terms in which a check answers.
+#![tactic(auto)]
+
 pub mod format;
 pub mod kinds;
 

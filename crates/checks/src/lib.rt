@@ -1,4 +1,6 @@
 // The checks 1 to 9 in their order (01, "Refused, and where").
+#![tactic(auto)]
+
 ghost use Rattle.std.specs.Prelude.{◌≡◌};
 ghost use Rattle.card.specs.Verdict.{told};
 ghost use Rattle.card.specs.Fault.{first_fault};

@@ -1,4 +1,6 @@
 // The choice at a name: which entry is tried next, and where the given steps bear on it.
+#![tactic(auto)]
+
 ghost use Rattle.std.specs.Prelude.{◌≡◌, ℕ, ◌+◌, ◌-◌, ◌≤◌, ◌<◌, length, get_or, true};
 ghost use Rattle.card.specs.Format.{node_count, rule_count, line_count};
 ghost use Rattle.card.specs.Fault.{Sound, clause_part};

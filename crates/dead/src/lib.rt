@@ -1,6 +1,8 @@
 // Dead states: what the search remembers of agendas for which nothing is readable. A row is a key and a room: the tasks, how many they
 // are, the free items, strict and lax apart, the lines seen; and within how many steps there is nothing. The scope is no part of the key:
 // one memory is for one scope. A row is overwritten by the next key that falls on it. A row without tasks is free.
+#![tactic(auto)]
+
 ghost use Rattle.std.specs.Prelude.{◌≡◌, true, ◌↔◌, ◌≤◌, ◌<◌, length, get_or};
 ghost use Rattle.dead.specs.Inner.Rows.{mix, key_row, row_count, row_width, code_cells, word_cells, SameRow, Put, Places, Stored, Recorded};
 ghost use Rattle.dead.specs.Inner.Barren.{Asking};

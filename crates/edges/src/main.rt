@@ -1,5 +1,7 @@
 // Runs the checks 1 to 9 over the cards of standard input and prints what each finds. A record of the input is a label (its length in
 // one byte, then its bytes) and a card (its length in two bytes, then its bytes).
+#![tactic(auto)]
+
 ghost use Rattle.std.specs.Prelude.{◌≤◌, ◌<◌, length};
 
 use card::Checked;

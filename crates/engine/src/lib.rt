@@ -1,6 +1,8 @@
 // The engine: what a segment still has to do is an agenda, handed on by value. A name goes on at once with the conditions of the entry that
 // serves it before the rest, ⊕ with the side taken; & and ⊸ are segments of their own, raised in place where the rest finds nothing behind
 // them. Nothing is ever given back: each try goes on with a branch and an agenda of its own.
+#![tactic(auto)]
+
 ghost use Rattle.std.specs.Prelude.{◌≡◌};
 ghost use Rattle.card.specs.Format.{kind_at, left_at};
 ghost use Rattle.segment.specs.Inner.Tasks.{Laid};

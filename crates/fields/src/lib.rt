@@ -1,4 +1,6 @@
 // What the joined card says that neither card does (02, #101): its length, its limits and its new goal.
+#![tactic(auto)]
+
 ghost use Rattle.std.specs.Prelude.{◌≡◌, ◌+◌, ◌≤◌, length};
 ghost use Rattle.card.specs.Fault.{Sound};
 ghost use Rattle.joined.specs.Joined.{joined_length, joined_depth, joined_steps, both_goals};

@@ -1,4 +1,6 @@
 // The checks 1 to 5: the card's front (01, "Refused, and where").
+#![tactic(auto)]
+
 ghost use Rattle.std.specs.Prelude.{◌≡◌, ◌≤◌, length};
 ghost use Rattle.card.specs.Format.{card_length};
 ghost use Rattle.card.specs.Verdict.{told};

@@ -1,4 +1,6 @@
 // A part with a scope or window of its own: how it is entered, and what is found in it seen from outside.
+#![tactic(auto)]
+
 ghost use Rattle.std.specs.Prelude.{◌≡◌, ◌≤◌, length};
 ghost use Rattle.card.specs.Format.{rule_count};
 ghost use Rattle.card.specs.Fault.{Sound};

@@ -1,4 +1,6 @@
 // The joined card written into a buffer (02, #101).
+#![tactic(auto)]
+
 ghost use Rattle.std.specs.Prelude.{◌≡◌, ◌++◌, ◌+◌, ◌*◌, ◌≤◌, length, drop};
 ghost use Rattle.card.specs.Fault.{Sound};
 ghost use Rattle.joined.specs.Joined.{joined_rules, joined_lines, joined_nodes, joined_length, joined_counts, joined_limits, joined_front};

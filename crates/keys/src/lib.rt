@@ -1,5 +1,7 @@
 // The key of a dead state, and its room, as words: the free items, strict and lax apart, the lines seen, how many tasks there are, and the
 // steps left.
+#![tactic(auto)]
+
 ghost use Rattle.std.specs.Prelude.{◌≡◌, ◌≤◌};
 ghost use Rattle.keys.specs.Inner.Keys.{key_words};
 

@@ -1,4 +1,6 @@
 // The table of kinds (01, "The card"; 02, #103), and which parts read as a goal and as a clause by it.
+#![tactic(auto)]
+
 ghost use Rattle.std.specs.Prelude.{◌≡◌, ◌+◌, ◌*◌, ◌≤◌, length};
 ghost use Rattle.card.specs.Kinds.{kind_of};
 ghost use Rattle.card.specs.Fault.{is_goal, is_clause, goal_part, clause_part};

@@ -1,4 +1,6 @@
 // 15 (02, #101): whether two cards fit on one.
+#![tactic(auto)]
+
 ghost use Rattle.std.specs.Prelude.{◌≡◌, ◌≤◌};
 ghost use Rattle.card.specs.Format.{goal_node};
 ghost use Rattle.card.specs.Verdict.{told, refuse, card as cardAt};

@@ -1,4 +1,6 @@
 // The marks (01, "The sheet"; 02, #105): what each line's mark is, and those of a sheet written and checked.
+#![tactic(auto)]
+
 ghost use Rattle.std.specs.Prelude.{◌≡◌, cond, List, [], ◌∷◌, ◌++◌, ℕ, ◌≤◌, ◌<◌, length, take, drop};
 ghost use Rattle.card.specs.Format.{line_count};
 ghost use Rattle.card.specs.Verdict.{told, first_of};

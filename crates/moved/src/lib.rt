@@ -1,4 +1,6 @@
 // A card's nodes, rules and lines in another buffer, their node numbers shifted (02, #101).
+#![tactic(auto)]
+
 ghost use Rattle.std.specs.Prelude.{◌≡◌, [], ◌∷◌, ◌++◌, ◌+◌, ◌*◌, ◌≤◌, ◌<◌, length};
 ghost use Rattle.card.specs.Format.{node_count, rule_count, line_count};
 ghost use Rattle.card.specs.Fault.{Sound};

@@ -1,5 +1,7 @@
 // The engine's moves, each by itself: the floor behind a list, the sides of a choice, the agenda of a part, the item of a lent clause, the
 // branch at the start.
+#![tactic(auto)]
+
 ghost use Rattle.std.specs.Prelude.{◌≡◌, true, ℕ, ◌+◌, ◌-◌, ◌*◌, ◌≤◌, ◌<◌, length, get_or, set};
 ghost use Rattle.card.specs.Format.{node_count, rule_count, kind_at, left_at, right_at, byte_at};
 ghost use Rattle.card.specs.Fault.{Sound, clause_part, height_at};

@@ -1,4 +1,6 @@
 // The bounds of a node from its parts, and of the use of a clause from its conditions.
+#![tactic(auto)]
+
 ghost use Rattle.std.specs.Prelude.{◌≡◌, true, ◌&&◌, ◌↔◌, ◌-◌, ◌<◌, ◌≤◌, min, max};
 ghost use Rattle.card.specs.Format.{node_count, kind_at};
 ghost use Rattle.card.specs.Fault.{Sound, clause_part};

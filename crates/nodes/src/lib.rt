@@ -1,4 +1,6 @@
 // Check 6: each node is as its kind asks, and its height is at most 8.
+#![tactic(auto)]
+
 ghost use Rattle.std.specs.Prelude.{◌≡◌, true, ◌+◌, ◌*◌, ◌≤◌, ◌<◌, max, length};
 ghost use Rattle.card.specs.Format.{node_count};
 ghost use Rattle.card.specs.Verdict.{told, first_of};

@@ -1,4 +1,6 @@
 // An answer packed into one number (include/kit_planner.h).
+#![tactic(auto)]
+
 ghost use Rattle.std.specs.Prelude.{◌≡◌, ◌<◌};
 ghost use Rattle.card.specs.Verdict.{where_of};
 ghost use Rattle.planning.specs.Plan.{refused, told_plan};

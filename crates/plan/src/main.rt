@@ -1,4 +1,6 @@
 // Plans the card of standard input and prints the answer (01, "Trays tried by hand").
+#![tactic(auto)]
+
 ghost use Rattle.std.specs.Prelude.{◌+◌, ◌≤◌, length};
 ghost use Rattle.planning.specs.Plan.{room_for_any, told_plan, Planning, NeverShort};
 

@@ -1,4 +1,6 @@
 // The planner (01, "Refused, and where"): the checks in their order, the first list, and the sheet.
+#![tactic(auto)]
+
 ghost use Rattle.std.specs.Prelude.{◌≡◌};
 ghost use Rattle.card.specs.Fault.{Sound};
 ghost use Rattle.card.specs.Verdict.{told};

@@ -1,4 +1,6 @@
 // The calls for C and Rust: each answer in one number (include/kit_planner.h).
+#![tactic(auto)]
+
 ghost use Rattle.std.specs.Prelude.{◌≡◌};
 ghost use Rattle.planning.specs.Plan.{Planning};
 ghost use Rattle.reader.specs.Read.{Reading, AcceptsExactly};

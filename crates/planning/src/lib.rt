@@ -1,4 +1,6 @@
 // The planner's outcome (01, "Refused, and where"): its answer, and 10, 11 and the sheet once a card is sound.
+#![tactic(auto)]
+
 ghost use Rattle.std.specs.Prelude.{◌≡◌, ◌≤◌, length, take};
 ghost use Rattle.calculus.specs.Job.{First};
 ghost use Rattle.card.specs.Verdict.{card as cardAt, sheet as sheetAt};

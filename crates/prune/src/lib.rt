@@ -1,5 +1,7 @@
 // Prunings: what the engine asks before it searches a branch, and what it tells of a dead end. The table of bounds says which agendas are
 // hopeless, the memory which were found dead. A first run has neither: it counts its dead ends and gives up after so many.
+#![tactic(auto)]
+
 ghost use Rattle.std.specs.Prelude.{◌≡◌, true, ◌↔◌, ◌-◌, length, get_or};
 ghost use Rattle.card.specs.Fault.{Sound};
 ghost use Rattle.entries.specs.Inner.Entries.{scope_in};

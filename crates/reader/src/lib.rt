@@ -1,4 +1,6 @@
 // The reader (01, "Refused, and where"; 02, #102 and #105): the checks of a card and a sheet in their order. It writes nothing.
+#![tactic(auto)]
+
 ghost use Rattle.std.specs.Prelude.{◌≡◌};
 ghost use Rattle.calculus.specs.Job.{Listed};
 ghost use Rattle.card.specs.Fault.{Sound};

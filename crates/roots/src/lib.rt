@@ -1,4 +1,6 @@
 // The checks 7 to 9: the goal, the rules and the lines.
+#![tactic(auto)]
+
 ghost use Rattle.std.specs.Prelude.{◌≡◌, ◌<◌};
 ghost use Rattle.card.specs.Format.{rule_count, line_count};
 ghost use Rattle.card.specs.Verdict.{told, first_of};

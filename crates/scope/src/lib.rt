@@ -1,4 +1,6 @@
 // The scope of a sound card: its entries in two tables, which clauses can be used for a name, and its must lines.
+#![tactic(auto)]
+
 ghost use Rattle.std.specs.Prelude.{◌≡◌, true, ◌+◌, ◌<◌, length, set};
 ghost use Rattle.calculus.specs.Formula.{usable as usableM};
 ghost use Rattle.card.specs.Format.{node_count, rule_count, line_count, listing};

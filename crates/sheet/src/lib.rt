@@ -1,4 +1,6 @@
 // The sheet (01, "The sheet"): a step list with the card's marks, as bytes.
+#![tactic(auto)]
+
 ghost use Rattle.std.specs.Prelude.{◌≡◌, ◌∷◌, ◌++◌, ◌+◌, ◌≤◌, length, take, drop};
 ghost use Rattle.card.specs.Format.{line_count};
 ghost use Rattle.card.specs.Inner.Checks.{Framed};

@@ -1,4 +1,6 @@
 // A given sheet's front (01, "Refused, and where"): check 12.
+#![tactic(auto)]
+
 ghost use Rattle.std.specs.Prelude.{◌≡◌};
 ghost use Rattle.card.specs.Verdict.{told};
 ghost use Rattle.card.specs.Inner.Checks.{Framed};

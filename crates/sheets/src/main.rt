@@ -1,5 +1,7 @@
 // Reads the sheets of standard input against their cards and prints each answer. A record of the input is a label (its length in one byte,
 // then its bytes), the lengths of a card and of a sheet (two bytes each), the card and the sheet.
+#![tactic(auto)]
+
 ghost use Rattle.std.specs.Prelude.{◌≤◌, ◌<◌, length};
 
 use card::format::{byte, word};

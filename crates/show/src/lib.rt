@@ -1,4 +1,6 @@
 // What the test programs share: printing refusals, sheets and bytes, and the parts of a record of the input.
+#![tactic(auto)]
+
 ghost use Rattle.std.specs.Prelude.{◌≡◌, ◌+◌, ◌≤◌, length};
 ghost use Rattle.show.specs.Parts.{lesser, part_end};
 

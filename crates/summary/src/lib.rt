@@ -1,5 +1,7 @@
 // Where a walk stands in a list, what it gathers there (the outer items taken, slack, whether the items divided, and the lines surely used),
 // and what is wrong at its next step.
+#![tactic(auto)]
+
 ghost use Rattle.std.specs.Prelude.{◌≡◌, ◌+◌, ◌*◌, ◌≤◌, ◌<◌, length};
 ghost use Rattle.lines.specs.Set.{Words};
 ghost use Rattle.summary.specs.Inner.Values.{on_b, lent_p, stepped_b, ended_w, astray_w, cover_w, pick_w, tensor_w, with_w, without_s, using_w, wrong_f};

@@ -1,4 +1,6 @@
 // The table of bounds of a card: filled in, and checked before it is used. Only the check is relied on.
+#![tactic(auto)]
+
 mod check;
 mod fill;
 

@@ -1,5 +1,7 @@
 // What is wrong with a given list, if anything: the walk of the goal (13, 17, 18), then the tests of its end (18) and of its items (19). Of a
 // list that is right, the lines that it surely uses.
+#![tactic(auto)]
+
 ghost use Rattle.std.specs.Prelude.{false, not, ◌↔◌, ◌⊎◌, ◌≡◌, ◌≤◌, eqb, length, take};
 ghost use Rattle.calculus.specs.Job.{Listed};
 ghost use Rattle.calculus.specs.Inner.Trace.{Says};

@@ -1,6 +1,8 @@
 // Plans the cards of standard input and prints each outcome. A record of the input is a label (its length in one byte, then its bytes),
 // the length of the buffer to be lent (two bytes; at most 324 are lent) and a card (its length in two bytes, then its bytes). The buffer is
 // filled with one byte beforehand, and a byte outside the sheet that does not hold it afterwards is told.
+#![tactic(auto)]
+
 ghost use Rattle.std.specs.Prelude.{◌≤◌, ◌<◌, length};
 
 use card::format::{byte, word};

@@ -1,5 +1,7 @@
 // One pass along a given list (02, #102 and #103). It goes by clauses and does not mind items: it ends, or stops at its first wrong step; on
 // the way it gathers the list's summary and whether the items divided, and never breaks off because they did not.
+#![tactic(auto)]
+
 ghost use Rattle.std.specs.Prelude.{◌≡◌, ◌+◌, ◌*◌, ◌≤◌};
 ghost use Rattle.card.specs.Format.{kind_at};
 ghost use Rattle.card.specs.Fault.{Sound};

@@ -1,0 +1,14 @@
+-- `lines::LineSet::has` meets its contract: the mask 1 leaves the digit. Assumes nothing.
+use mathlib.Core.Path.{ap, ◌∙◌}
+use Prim.Native.Nat.{ℕ, ◌/◌, ◌%◌, ◌^◌}
+use lib.Dec.{eqb}
+use lib.Bits.{and_mask}
+use borrow.Author.Rules.{rules}
+use Rattle.lines.specs.Set.{member, bit_at}
+use Rattle.lines.proofs.LineSet.has.Goals as goal
+
+pub returns : goal.returns
+unfolding member bit_at
+returns c =
+    let j = c.args.i % 64 in
+    ap (λ (x : ℕ). eqb x 1) (and_mask (c.word-word.result / 2 ^ j) 1) ∙ ap (λ (w : ℕ). bit_at w j) c.word-word.ensures

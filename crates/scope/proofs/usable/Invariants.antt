@@ -1,0 +1,19 @@
+use mathlib.Core.Path.{◌≡◌, refl, sym, ◌∙◌, ap}
+use mathlib.Core.Bool.{true}
+use native.Mathlib.Omega.{arith}
+use lib.Dec.{eqb}
+use Rattle.calculus.specs.Formula.{usable}
+use Rattle.card.specs.Format.{node_count, kind_at}
+use Rattle.card.specs.Fault.{clause_part}
+use Rattle.card.specs.Decode.{clause_of, scope_of}
+use Rattle.card.proofs.SoundNodes.{usable_name}
+use Rattle.scope.proofs.PartsOfClauses.{here, part_lower, part_clause, right_part, right_same, headless}
+use Rattle.scope.proofs.usable.Given as goal
+
+abbrev pub invariant-loop-k : goal.invariant-loop-k
+invariant-loop-k l =
+    (l.k ≡ kind_at l.card l.at) × ((clause_part l.card (node_count l.card) l.at ≡ true)
+    × (usable (scope_of l.card).fits l.name (clause_of l.card l.at) ≡ usable (scope_of l.card).fits l.name (clause_of l.card l.node)))
+
+abbrev pub decreases-loop-k : goal.decreases-loop-k
+decreases-loop-k l = l.at

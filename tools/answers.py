@@ -1,0 +1,555 @@
+#!/usr/bin/env python3
+"""Turns a crate's Proof.antt files that close a Tie into Invariants.antt and Answers.antt. It goes by the names that a check lists:
+
+    cd crates/NAME; rt check --generated /tmp/names-NAME --old-names; cd ../..
+    python3 tools/answers.py NAME /tmp/names-NAME/names.json COMMIT [MADE]
+
+MADE is what `rt check --generated MADE` writes once Answers.antt stand: where a lemma takes a record of facts, its type is read there.
+
+COMMIT is the last commit in the old form: the old names of goals are read there. A step keeps its fields; `.before` goes, since a step's name
+alone is enough; a clause that had a number has its label. What it can't turn stays and is printed. rt check decides.
+"""
+import json
+import os
+import re
+import subprocess
+import sys
+
+sys.path.insert(0, os.path.dirname(os.path.abspath(__file__)))
+import spell
+
+WORD = r"[^\s(){}\[\],;.]+"
+
+
+def norm(name):
+    """A made name with its dashes as underscores: older kits wrote dashes."""
+    return name.replace("-", "_") if name else name
+
+
+# fields that every record of facts has
+FIELDS = {norm(f): f for f in "well_formed type_inv type_inv_old".split()}
+
+
+def read(path):
+    with open(path, encoding="utf-8") as f:
+        return f.read()
+
+
+# contracts: the labels of each function of the repository
+
+def labels_of(path_of_crate, crate, found):
+    """Adds `crate::mod::Type::f` -> (requires labels, ensures labels, parameter names)."""
+    src = os.path.join(path_of_crate, "src")
+    for folder, _, files in os.walk(src):
+        for name in files:
+            if not name.endswith(".rt"):
+                continue
+            rel = os.path.relpath(os.path.join(folder, name), src)[:-3]
+            mods = [] if rel in ("lib", "main") else rel.split("/")
+            if mods and mods[-1] == "mod":
+                mods.pop()
+            holder = None
+            fn, sig = None, ""
+            for line in read(os.path.join(folder, name)).split("\n"):
+                m = re.match(r"impl(?:<.*>)? (\w+)", line)
+                if m:
+                    holder = m[1]
+                if line == "}":
+                    holder = holder if fn is None else holder
+                if line.startswith("}"):
+                    holder = None
+                m = re.match(r"\s*(?:pub )?(?:const )?(?:unsafe )?(?:extern \"C\" )?fn (\w+)", line)
+                if m:
+                    fn = "::".join([crate] + mods + ([holder] if holder and line.startswith(" ") else []) + [m[1]])
+                    found[fn] = ([], [], [])
+                if fn:
+                    m = re.match(r"\s+(requires|ensures)\*?(?: (\w+))? \{", line)
+                    if m:
+                        found[fn][0 if m[1] == "requires" else 1].append(m[2])
+
+
+def label_path(labels, numbers):
+    """(the label, numbers that are left) for the numbers behind .requires or .ensures; None if they don't fit."""
+    if len(labels) < 2:
+        return None, numbers
+    at, rest = 0, list(numbers)
+    while True:
+        if at == len(labels) - 1:
+            return labels[at], rest
+        if not rest:
+            return None, numbers
+        if rest[0] == "0":
+            return labels[at], rest[1:]
+        if rest[0] != "1":
+            return None, numbers
+        rest = rest[1:]
+        at += 1
+
+
+# declarations of a proof file
+
+class Decl:
+    def __init__(self, lines):
+        self.lines = lines
+        self.head = next(i for i, l in enumerate(lines) if not l.startswith("--"))
+        m = re.match(r"(?:(?:abbrev|pub|unfoldable|opaque) )*(\S+)", lines[self.head])
+        self.name = m[1]
+
+    def text(self):
+        return "\n".join(self.lines)
+
+
+def split(text):
+    """(the lines of imports and the file's comment, declarations)."""
+    blocks, now = [], []
+    for line in text.rstrip("\n").split("\n"):
+        if line.strip() == "":
+            if now:
+                blocks.append(now)
+            now = []
+        else:
+            now.append(line)
+    if now:
+        blocks.append(now)
+    head, decls = [], []
+    for b in blocks:
+        if any(l.startswith(("use ", "  ", "}")) or l.startswith("--") for l in b) and not any(re.match(r"[^\s-].* [:=]( |$)", l) and not l.startswith("use ") for l in b):
+            head.extend(b)
+            continue
+        # the imports may run into the first declaration
+        k = 0
+        while k < len(b) and b[k].startswith("use "):
+            k += 1
+        head.extend(b[:k])
+        # a block may hold several declarations
+        part = []
+        for line in b[k:]:
+            starts = not line.startswith((" ", "--", "unfolding", "infix"))
+            if starts and part and any(not p.startswith("--") for p in part):
+                sig = next((p for p in part if not p.startswith("--")), "")
+                name = re.match(r"(?:(?:abbrev|pub|unfoldable|opaque) )*(\S+)", sig)[1]
+                mine = re.match(r"(?:(?:abbrev|pub|unfoldable|opaque) )*(\S+)", line)[1]
+                if mine != name:
+                    decls.append(Decl(part))
+                    part = []
+            part.append(line)
+        if part:
+            if all(l.startswith("--") for l in part):
+                head.extend(part)
+            else:
+                decls.append(Decl(part))
+    return head, decls
+
+
+GOAL = re.compile(r"^(?:pub )?(\S+) : tie \.?Need-(\S+)|^(?:pub )?(\S+) : tie\.Need-(\S+)")
+
+
+def goals_of(text):
+    """The old names of the goals in order: [(declared name, need)]."""
+    found = []
+    for line in text.split("\n"):
+        m = GOAL.match(line)
+        if m:
+            found.append((m[1] or m[3], m[2] or m[4]))
+    return found
+
+
+class Places:
+    def __init__(self, names):
+        self.by_old = {}
+        for (old, parent, step, callee, _), new in zip(names["places"], names["places_by_name"]):
+            self.by_old.setdefault(norm(old), (new, norm(parent), step, callee))
+        self.arms = {norm(p[0]): a for p, a in zip(names["places"], names["arms"])}
+
+    def chain(self, place):
+        found = []
+        while place is not None and place in self.by_old:
+            found.append(place)
+            place = self.by_old[place][1]
+        return found
+
+    def steps(self, place):
+        """old step -> (new step, callee), of the steps before the place; the nearest wins."""
+        found = {}
+        for p in self.chain(place):
+            new, parent, step, callee = self.by_old[p]
+            if step and step[0]:
+                found.setdefault(norm(step[0]), (step[1], callee))
+        return found
+
+
+class Made:
+    """The records of facts that a check made of a function: what each has before it, and how its type is written."""
+
+    def __init__(self, folder):
+        self.before, self.goal, self.arguments = {}, {}, None
+        for name in ("Lts.antt", "Lts/View.antt"):
+            path = os.path.join(folder, name)
+            if not os.path.exists(path):
+                continue
+            for m in re.finditer(r"pub record (\S+) : Type 0 where\n\s*pub before :\s+(\S+)", read(path)):
+                self.before[m[1]] = m[2].split(".")[-1]
+            for m in re.finditer(r"pub record (\S+) : Type 0 where\n(?!\s*pub before)", read(path)):
+                self.before.setdefault(m[1], None)
+        path = os.path.join(folder, "Goals.antt")
+        if os.path.exists(path):
+            for m in re.finditer(r"abbrev pub (\S+) : Type 0\n\1 =\s+(?:Lts\.|View\.)+(\S+)((?:[^\n]|\n(?!\n))*)", read(path)):
+                if m[2] in self.before:
+                    self.goal[m[1]] = m[2]
+                    self.arguments = re.sub(r"\s+", " ", m[3]).strip()
+
+    def record(self, place):
+        """The record of an old place: of what is past, where there is one."""
+        for name in self.before:
+            if norm(name) == "Past_" + place:
+                return name
+        for name in self.before:
+            if norm(name) == place:
+                return name
+        return None
+
+    def depth(self, start, end):
+        n = 0
+        while start is not None and n < 200:
+            if start == end:
+                return n
+            start = self.before.get(start)
+            n += 1
+        return None
+
+
+class Turn:
+    made = None
+    at = None  # the record that the present declaration takes
+
+    def __init__(self, crate, function, names, contracts):
+        self.crate, self.function, self.names, self.contracts = crate, function, names, contracts
+        self.places = Places(names)
+        self.own = contracts.get(function, ([], [], []))
+        self.left = []
+        self.helpers = {}  # name -> old place of its first argument
+        self.aliases = set()
+
+    def body(self, text, place, variables=("c",)):
+        """The text of a body at a place: paths at place variables are turned."""
+        steps = self.places.steps(place) if place else {}
+        for a in self.aliases:
+            text = re.sub(rf"\({re.escape(a)} ((?:{WORD})(?:\.before)*)\)", r"\1", text)
+            text = re.sub(rf"(?<![^\s(,]){re.escape(a)} ((?:{WORD})(?:\.before)*)(?![\w.])", r"\1", text)
+        known = set(variables)
+        changed = True
+        while changed:
+            changed = False
+            m = re.search(rf"let ({WORD}) = ({'|'.join(re.escape(v) for v in known)})((?:\.before)*) in\s*", text)
+            if m:
+                v, of = m[1], m[2]
+                text = text[: m.start()] + text[m.end() :]
+                text = re.sub(rf"(?<![^\s(,\[]){re.escape(v)}(?=[\s.),;\]]|$)", of, text)
+                changed = True
+        # a helper's argument
+        for name, to in self.helpers.items():
+            def arg(m):
+                if self.made:
+                    n = self.made.depth(self.at, self.made.record(to))
+                    if n is not None:
+                        return m[1] + " " + m[2] + ".before" * n
+                    self.left.append(f"helper {name} at {place}: {self.made.record(to)} is not before {self.at}")
+                    return m[0]
+                chain = self.places.chain(place)
+                if to not in chain:
+                    self.left.append(f"helper {name} at {place}: its place {to} is not on the way")
+                    return m[0]
+                return m[1] + " " + m[2] + ".before" * chain.index(to)
+            one = "|".join(re.escape(v) for v in known)
+            text = re.sub(rf"(?<![^\s(,\[])({re.escape(name)}) \(({one})(?:\.before)*\)", arg, text)
+            text = re.sub(rf"(?<![^\s(,\[])({re.escape(name)}) ({one})(?:\.before)*(?=[\s),;\]]|$)", arg, text)
+
+        arms = {}
+        for p in reversed(self.places.chain(place) if place else []):
+            arm = self.places.arms.get(p)
+            for field, step, inside in arm[2] if arm else []:
+                if not field.endswith("-own"):
+                    arms[(norm(step), *inside)] = [arm[0], field]
+                elif not inside:
+                    arms[(norm(step),)] = [arm[0], field]
+
+        def path(m):
+            var, rest = m[1], m[2]
+            fields = re.findall(r"\.([^.\s(){}\[\],;]+)", rest)
+            keep = []
+            while fields and fields[0] == "before":
+                fields.pop(0)
+            if not fields:
+                return m[0]
+            first = fields.pop(0)
+            if first == "pre":
+                first = "requires"
+            if norm(first) not in steps:
+                back = spell.BACK.get(first, first)
+                first = back if norm(back) in steps else first
+            for n in range(len(fields), 0, -1):
+                found = arms.get((norm(first), *fields[:n]))
+                if found:
+                    return ".".join([var] + found + fields[n:])
+            if (norm(first),) in arms and fields and (fields[0] == "rest" or fields[0].startswith("keys")):
+                return ".".join([var] + arms[(norm(first),)] + fields)
+            if norm(first) in steps:
+                new, callee = steps[norm(first)]
+                first = new
+                if fields and fields[0] == "rest":
+                    fields.insert(0, first + "-own")
+                if fields and fields[0] == "ensures" and callee in self.contracts:
+                    n = 1
+                    while n < len(fields) and fields[n].isdigit():
+                        n += 1
+                    label, rest_numbers = label_path(self.contracts[callee][1], fields[1:n])
+                    if label:
+                        fields = ["ensures", label] + rest_numbers + fields[n:]
+            elif first == "requires":
+                n = 0
+                while n < len(fields) and fields[n].isdigit():
+                    n += 1
+                label, rest_numbers = label_path(self.own[0], fields[:n])
+                if label:
+                    fields = [label] + rest_numbers + fields[n:]
+            elif norm(first) in FIELDS:
+                first = FIELDS[norm(first)]
+            return ".".join([var, first] + fields)
+
+        text = re.sub(rf"(?<![^\s(,\[])({'|'.join(re.escape(v) for v in known)})((?:\.[^.\s(){{}}\[\],;]+)+)", path, text)
+        # a test `!x` tells of x itself
+        text = re.sub(r"\(not-(?:true|false) _ ([^\s(),]+\.if-not-[^\s(),.]+\.(?:true|false))\)", r"\1", text)
+        text = re.sub(r"not-(?:true|false) _ ([^\s(),]+\.if-not-[^\s(),.]+\.(?:true|false))(?=[\s),;]|$)", r"\1", text)
+        return text
+
+
+def top_level_comma(s):
+    depth = 0
+    for i, ch in enumerate(s):
+        if ch in "([{":
+            depth += 1
+        elif ch in ")]}":
+            depth -= 1
+        elif ch == "," and depth == 0:
+            return i
+    return -1
+
+
+def matching(s):
+    """Whether the text is one pair of round brackets."""
+    if not (s.startswith("(") and s.endswith(")")):
+        return False
+    depth = 0
+    for i, ch in enumerate(s):
+        depth += (ch in "([{") - (ch in ")]}")
+        if depth == 0 and i < len(s) - 1:
+            return False
+    return True
+
+
+def as_record(body, labels):
+    """A body whose last term is a nested pair, as a record of the clauses; or None."""
+    m = list(re.finditer(r"(?:\bin\s|(?<==)\s)", body))
+    # the last term begins behind the last ' in ' or the first ' = '
+    at = max([x.end() for x in re.finditer(r"(?<!\S)in(?=\s)", body)] + [re.search(r"\s=(?=\s)", body).end()])
+    lead, last = body[:at], body[at:].strip()
+    parts = []
+    rest = last
+    for i in range(len(labels) - 1):
+        if not matching(rest):
+            return None
+        inner = rest[1:-1]
+        k = top_level_comma(inner)
+        if k < 0:
+            return None
+        parts.append(inner[:k].strip())
+        rest = inner[k + 1 :].strip()
+    parts.append(rest)
+    fields = "; ".join(f"{l} = {p}" for l, p in zip(labels, parts))
+    return f"{lead} record {{ {fields} }}"
+
+
+def turn_file(crate, folder, names_all, contracts, commit, made):
+    path = os.path.join(folder, "Proof.antt")
+    rel = os.path.relpath(folder, os.path.join("crates", crate, "proofs"))
+    if "+" in rel:
+        return [f"{path}: a cycle, left"]
+    dotted = rel.replace("/", ".")
+    key = f"Rattle-{crate}-proofs.{dotted}.Lts"
+    if key not in names_all:
+        return [f"{path}: no names {key}"]
+    names = names_all[key]
+    function = "::".join([crate] + rel.split("/"))
+    turn = Turn(crate, function, names, contracts)
+    text = read(path)
+    if ".Tie as tie" not in text:
+        return [f"{path}: no Tie, left"]
+    old_text = subprocess.run(["git", "show", f"{commit}:{path}"], capture_output=True, text=True).stdout
+    old = goals_of(old_text)
+    new = goals_of(text)
+    said = []
+    if len(old) != len(new):
+        said.append(f"{path}: {len(old)} goals in the old form and {len(new)} now")
+    need_of = {n[0]: norm(o[1]) for o, n in zip(old, new)}
+    goal_of = {norm(o): n for o, n in names["needs"]}
+    place_of = {norm(o): norm(p[0]) for (o, _), p in zip(names["needs"], names["asked_at"])}
+    new_place = {norm(o): p[1] for (o, _), p in zip(names["needs"], names["asked_at"])}
+    if made:
+        turn.made = Made(os.path.join(made, f"Rattle-{crate}-proofs", rel))
+    head, decls = split(text)
+    answers, invariants = [], []
+    imports = [l for l in head if "Statement.{statement}" not in l and ".Tie as tie" not in l]
+    comments = [l for l in imports if l.startswith("--")]
+    uses = [l for l in imports if not l.startswith("--")]
+    plain_uses = list(uses)
+    module = f"Rattle.{crate}.proofs.{dotted}"
+    # helpers and aliases first
+    for d in decls:
+        sig = d.lines[d.head]
+        m = re.match(r"abbrev (\S+) : (?:\(c : )?tie\.(\S+)(?: invariant[^\s)]* decreases[^\s)]*)*\)? → tie\.(?:\S+)(?: invariant[^\s)]* decreases[^\s)]*)*$", sig)
+        if m:
+            turn.aliases.add(m[1])
+            d.alias = True
+            continue
+        m = re.match(r"(?:abbrev )?(\S+) : (?:\(c : tie\.(\S+?)(?: [^)]*)?\)|tie\.(\S+)(?: invariant[^\s)]* decreases[^\s)]*)*(?= →))", sig)
+        if m:
+            turn.helpers[m[1]] = norm(m[2] or m[3])
+    for d in decls:
+        sig = d.lines[d.head]
+        if getattr(d, "alias", False):
+            continue
+        if re.match(r"(pub )?\S+[-_]spec : ", sig):
+            continue
+        if re.match(r"(abbrev )?(pub )?(invariant|decreases)\S* : tie", sig) or re.match(r"abbrev \S+ : tie\.(invariant|decreases)", sig):
+            invariants.append(d)
+            continue
+        if d.name in need_of:
+            need = need_of[d.name]
+            for ending, now in (("holds", "init"), ("again", "preserved"), ("less", "smaller")):
+                if need not in goal_of:
+                    need = re.sub(rf"_{ending}(?=$|_\d)", "_" + now, need)
+            if need not in goal_of:
+                said.append(f"{path}: no new name for {need}")
+                settled = [l for l in d.lines]
+                continue
+            goal, place = goal_of[need], place_of[need]
+            lines = d.lines[d.head :]
+            out = d.lines[: d.head] + [f"pub {goal} : goal.{goal}"]
+            body = []
+            for l in lines[1:]:
+                if l.startswith("unfolding"):
+                    out.append(l)
+                else:
+                    body.append(l)
+            btext = "\n".join(body)
+            if re.fullmatch(rf"{re.escape(d.name)} c( κs)? = (search rules|tt)", btext.strip()):
+                continue
+            btext = re.sub(rf"^{re.escape(d.name)} c κs", f"{goal} c", btext)
+            btext = re.sub(rf"^{re.escape(d.name)}(?=\s)", goal, btext)
+            turn.at = turn.made and turn.made.goal.get(new_place[need])
+            if re.fullmatch(rf"{re.escape(goal)} c = c\.match\d*\.keys\d+", btext.strip()):
+                continue
+            btext = turn.body(btext, place)
+            labels = None
+            if goal.startswith("returns"):
+                labels = turn.own[1]
+            else:
+                m = re.match(r"(.*)-requires", goal)
+                if m:
+                    callee = None
+                    # the call that follows the place
+                    for o, (n, parent, step, c) in turn.places.by_old.items():
+                        if parent == place and c and step[1] == m[1]:
+                            callee = c
+                    if callee in contracts:
+                        labels = contracts[callee][0]
+            if labels and len(labels) > 1:
+                rec = as_record(btext, labels)
+                if rec:
+                    btext = rec
+                else:
+                    said.append(f"{path}: {goal}: {len(labels)} clauses, not a tuple")
+            answers.append("\n".join(out + [btext]))
+            continue
+        # a helper
+        place = turn.helpers.get(d.name)
+        t = d.text()
+        def typed(m):
+            p = turn.places.by_old.get(norm(m[1]))
+            if not p:
+                said.append(f"{path}: {d.name}: no place {m[1]}")
+                return m[0]
+            if turn.made and turn.made.arguments is not None and turn.made.record(norm(m[1])):
+                uses.extend(u for u in [f"use {module}.Lts as lts", f"use {module}.Reads as reads"] if u not in uses)
+                arguments = re.sub(r"(?<![\w.-])the-(invariant|decreases)", r"goal.the-\1", turn.made.arguments).replace("Tie.", "tie.").replace("Reads.", "reads.").replace("Given.", "given.")
+                for word, name in (("tie.", "Tie as tie"), ("given.", "Given as given")):
+                    if word in arguments and f"use {module}.{name}" not in uses:
+                        uses.append(f"use {module}.{name}")
+                return f"lts.{turn.made.record(norm(m[1]))} {arguments}"
+            if norm(m[1]) in {norm(a[0]) for a in names["asked_at"]}:
+                return "goal." + p[0]
+            uses.extend(u for u in [f"use {module}.Lts as lts", f"use {module}.Reads as reads"] if u not in uses)
+            if any(v[3] for v in turn.places.by_old.values()):
+                if f"use {module}.Tie as tie" not in uses:
+                    uses.append(f"use {module}.Tie as tie")
+                return f"lts.{m[1]} tie.the-claims reads.Pre reads.Post"
+            return f"lts.{m[1]} reads.Pre reads.Post"
+        t = re.sub(r"tie\.([A-Za-z0-9_-]+?)(?: invariant[^\s)]* decreases[^\s)]*)?(?=\)| →)", typed, t)
+        turn.at = turn.made and place and turn.made.record(place)
+        t = turn.body(t, place)
+        answers.append(t)
+    if invariants:
+        inv = []
+        for d in invariants:
+            inv.append(turn_invariant(d, names, turn, said, path))
+        with open(os.path.join(folder, "Invariants.antt"), "w", encoding="utf-8") as f:
+            f.write("\n".join(plain_uses + [f"use {module}.Given as goal", "", "\n\n".join(inv)]) + "\n")
+    answers = [a for a in answers if a]
+    if answers:
+        with open(os.path.join(folder, "Answers.antt"), "w", encoding="utf-8") as f:
+            f.write("\n".join(comments + uses + [f"use {module}.Goals as goal", "", "\n\n".join(answers)]) + "\n")
+    os.remove(path)
+    return said + [f"{path}: {l}" for l in turn.left]
+
+
+def turn_invariant(d, names, turn, said, path):
+    """An invariant or a measure, over the live variables: all of them as the loop begins, and then those that change as they are."""
+    lines = d.lines[d.head :]
+    m = re.match(r"abbrev (?:pub )?(\S+) : tie\.(\S+)", lines[0])
+    kind, _, old = m[2].partition("-")
+    loops = {norm(l[0][0]): (l[0][1], l[1], c) for l, c in zip(names["loops"], names["changed"])}
+    if norm(old) not in loops:
+        said.append(f"{path}: no loop {old}: {sorted(loops)}")
+        return d.text()
+    new, variables, changed = loops[norm(old)]
+    body = "\n".join(lines[1:])
+    head, _, rest = body.partition("=")
+    arguments = head.split()[1:]
+    now = [v for v, c in zip(variables, changed) if c]
+    if len(arguments) != len(variables) + len(now):
+        said.append(f"{path}: {m[1]}: {len(arguments)} arguments and {variables} {now}")
+        return d.text()
+    to = {a: f"l.initial.{v}" if c else f"l.{v}" for a, v, c in zip(arguments, variables, changed)}
+    to.update({a: f"l.{v}" for a, v in zip(arguments[len(variables) :], now)})
+    to.pop("_", None)
+    for a, v in to.items():
+        rest = re.sub(rf"(?<![^\s(,\[])({re.escape(a)})(?=[\s.),;\]]|$)", lambda x: v, rest)
+    comments = d.lines[: d.head]
+    return "\n".join(comments + [f"abbrev pub {kind}-{new} : goal.{kind}-{new}", f"{kind}-{new} l ={rest}"])
+
+
+def main():
+    crate, names_path, commit = sys.argv[1:4]
+    made = sys.argv[4] if len(sys.argv) > 4 else None
+    contracts = {}
+    for c in sorted(os.listdir("crates")):
+        labels_of(os.path.join("crates", c), c, contracts)
+    names_all = json.loads(read(names_path))
+    for folder, _, files in sorted(os.walk(os.path.join("crates", crate, "proofs"))):
+        if "Proof.antt" in files:
+            for line in turn_file(crate, folder, names_all, contracts, commit, made):
+                print(line)
+
+
+if __name__ == "__main__":
+    main()
