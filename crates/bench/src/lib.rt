@@ -12,14 +12,14 @@ use card::format::{byte, word};
 use card::{Place, refuse};
 
 // Joined with the length, or a refusal.
-#[derive(Drop)]
+#[derive(Clone, Copy)]
 pub enum Answer {
     Joined(u16),
     Refused(BenchRefusal),
 }
 
 // Where the three bytes of a joined line begin, in the first card or in the second; or a refusal.
-#[derive(Drop)]
+#[derive(Clone, Copy)]
 pub enum Located {
     InFirst(u16),
     InSecond(u16),

@@ -8,7 +8,7 @@ ghost use Rattle.benched.specs.Benched.{about, owner_of, bench_fault, told_bench
 use card::{Checked, Place};
 
 // 02: "told with which card".
-#[derive(Drop)]
+#[derive(Clone, Copy)]
 pub enum Whose {
     Neither,
     First,
@@ -16,7 +16,7 @@ pub enum Whose {
 }
 
 // A refusal, told with which card it is about.
-#[derive(Drop)]
+#[derive(Clone, Copy)]
 pub struct BenchRefusal {
     pub card: Whose,
     pub number: u8,
@@ -24,7 +24,7 @@ pub struct BenchRefusal {
 }
 
 // What the checks find.
-#[derive(Drop)]
+#[derive(Clone, Copy)]
 pub enum Benched {
     Fine,
     Stopped(BenchRefusal),

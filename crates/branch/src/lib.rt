@@ -12,7 +12,7 @@ use lines::{LineSet, LineWord};
 // A branch, by value: the place on the tape, how many entries stand in scope, how many tasks on the agenda, the step limit, how many items
 // are due, which are the strict ones; the free items, strict and lax apart; what the segment has used so far, and whether some ⊤ in it takes
 // more; the lines in the list so far.
-#[derive(Drop)]
+#[derive(Clone, Copy)]
 pub struct Branch {
     pub at: usize,
     pub count: usize,
@@ -28,7 +28,7 @@ pub struct Branch {
 
 // A way found: the place reached on the tape, the items used, the lines in the list, whether some ⊤ takes more, and whether the list
 // keeps to the given steps of the floor.
-#[derive(Drop)]
+#[derive(Clone, Copy)]
 pub struct Way {
     pub at: usize,
     pub used: LineSet,
@@ -39,7 +39,7 @@ pub struct Way {
 
 // What a search answers. A way found is written to a place that the caller lends, as seven words. Tired: it has met too many dead ends,
 // and says nothing.
-#[derive(Drop)]
+#[derive(Clone, Copy)]
 pub enum Outcome {
     Solved,
     Stuck,
@@ -93,7 +93,7 @@ pub fn way_in(way: &[u64; 7]) -> Way
 }
 
 // The least list to be looked at: so many given steps on the tape, and the least entry to be taken after them.
-#[derive(Drop)]
+#[derive(Clone, Copy)]
 pub struct Floor {
     pub fixed: usize,
     pub from: usize,

@@ -1,5 +1,5 @@
 // What a field of a node holds (01, "The card", the table of kinds).
-#[derive(Drop)]
+#[derive(Clone, Copy)]
 pub enum Field {
     // Nothing, so it is 0.
     Unused,

@@ -8,7 +8,7 @@ ghost use Rattle.std.specs.Prelude.{◌≡◌, ◌&&◌, ◌||◌};
 ghost use Rattle.card.specs.Verdict.{told, refuse, where_of};
 
 // 01: "the place names its thing"; 02, #102: "place step i".
-#[derive(Drop)]
+#[derive(Clone, Copy)]
 pub enum Place {
     Card,
     Node(u16),
@@ -21,14 +21,14 @@ pub enum Place {
 }
 
 // 01: "A refusal is a number with a place".
-#[derive(Drop)]
+#[derive(Clone, Copy)]
 pub struct Refusal {
     pub number: u8,
     pub place: Place,
 }
 
 // What a check of the card finds.
-#[derive(Drop)]
+#[derive(Clone, Copy)]
 pub enum Checked {
     Sound,
     Refused(Refusal),

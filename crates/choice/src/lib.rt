@@ -13,7 +13,7 @@ use card::format::byte;
 use lines::{LineSet, LineWord};
 
 // The least usable entry.
-#[derive(Drop)]
+#[derive(Clone, Copy)]
 pub enum Sought {
     At(usize),
     Nothing,

@@ -9,7 +9,7 @@ use card::format::kind;
 use card::kinds::Field;
 
 // A row of the table: what the two fields hold, and whether the node reads as a goal and as a clause.
-#[derive(Drop)]
+#[derive(Clone, Copy)]
 pub struct Kind {
     pub left: Field,
     pub right: Field,

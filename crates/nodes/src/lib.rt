@@ -40,7 +40,7 @@ fn well_built(card: &[u8], i: usize) -> bool
 }
 
 // What a node's check finds: its height, or that 6 applies.
-#[derive(Drop)]
+#[derive(Clone, Copy)]
 pub enum Built {
     Height(u8),
     Faulty,

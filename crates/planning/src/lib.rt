@@ -15,14 +15,14 @@ use card::{Place, Refusal};
 use lines::LineWord;
 
 // 01: "The planner answers planned with k, or a refusal".
-#[derive(Drop)]
+#[derive(Clone, Copy)]
 pub enum Answer {
     Planned(u8),
     Refused(Refusal),
 }
 
 // Whether a buffer holds any sheet that the step limit lets a card have.
-#[derive(Drop)]
+#[derive(Clone, Copy)]
 pub enum Room {
     Enough,
     Short,

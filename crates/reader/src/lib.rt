@@ -18,7 +18,7 @@ use lines::LineWord;
 use trace::Followed;
 
 // 01: "the reader answers accepted with k, or a refusal".
-#[derive(Drop)]
+#[derive(Clone, Copy)]
 pub enum Answer {
     Accepted(u8),
     Refused(Refusal),

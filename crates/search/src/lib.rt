@@ -11,7 +11,7 @@ ghost use Rattle.search.specs.Inner.Found.{Finds, Ran, FoundSays, Starts};
 use branch::{Outcome, way_in};
 
 // The first list, as the first steps of the tape, or that there is none.
-#[derive(Drop)]
+#[derive(Clone, Copy)]
 pub enum Found {
     List(usize),
     Nothing,

@@ -95,7 +95,7 @@ pub fn unwind(card: &[u8], agenda: &mut [u16; 104], b: Branch) -> Branch
 }
 
 // What there is once a clause's conditions are put: how many tasks, and the clause's core, which is a head or a menu.
-#[derive(Drop)]
+#[derive(Clone, Copy)]
 pub struct Pushed {
     pub len: usize,
     pub core: usize,

@@ -14,7 +14,7 @@ use lines::{LineSet, LineWord};
 
 // Where a walk stands: P and how many steps are given; its place in the list, how many entries stand in scope, and the nesting left; and
 // how many must lines were met (used) on the way here.
-#[derive(Drop)]
+#[derive(Clone, Copy)]
 pub struct Position {
     pub rules: usize,
     pub given: usize,
@@ -27,7 +27,7 @@ pub struct Position {
 // What a walk that has ended gathered: the place reached in the list, the outer items taken, whether some ⊤ can take more, whether all
 // items divided, the running count of the must lines met where the walk ended, and the lines surely used. Only lines have marks, so lent
 // clauses are left out of these, but for those among the first 64 items, which are of no account.
-#[derive(Drop)]
+#[derive(Clone, Copy)]
 pub struct Summary {
     pub at: usize,
     pub used: LineSet,
@@ -38,14 +38,14 @@ pub struct Summary {
 }
 
 // What a walk answers: what it gathered, or its first wrong step.
-#[derive(Drop)]
+#[derive(Clone, Copy)]
 pub enum Walked {
     Ended(Summary),
     Astray(Refusal),
 }
 
 // The entry that serves a name or the part that a choice takes, or what is wrong at its step.
-#[derive(Drop)]
+#[derive(Clone, Copy)]
 pub enum Step {
     Taken(usize),
     Wrong(Refusal),

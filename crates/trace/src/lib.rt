@@ -96,7 +96,7 @@ fn end_check(card: &[u8], w: Summary, k: usize, all: usize) -> Checked
 }
 
 // What is found of the steps: they are a list of the card, and the lines that it surely uses; or what is wrong.
-#[derive(Drop)]
+#[derive(Clone, Copy)]
 pub enum Followed {
     Listed(LineWord),
     Refused(Refusal),
