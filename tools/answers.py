@@ -112,7 +112,14 @@ def split(text):
     if now:
         blocks.append(now)
     head, decls = [], []
+    joined = []
     for b in blocks:
+        # a block that is indented belongs to the module above it
+        if joined and b[0].startswith("  ") and not joined[-1][-1].startswith("use "):
+            joined[-1].extend([""] + b)
+        else:
+            joined.append(b)
+    for b in joined:
         if any(l.startswith(("use ", "  ", "}")) or l.startswith("--") for l in b) and not any(re.match(r"[^\s-].* [:=]( |$)", l) and not l.startswith("use ") for l in b):
             head.extend(b)
             continue
@@ -124,7 +131,7 @@ def split(text):
         # a block may hold several declarations
         part = []
         for line in b[k:]:
-            starts = not line.startswith((" ", "--", "unfolding", "infix"))
+            starts = line != "" and not line.startswith((" ", "--", "unfolding", "infix"))
             if starts and part and any(not p.startswith("--") for p in part):
                 sig = next((p for p in part if not p.startswith("--")), "")
                 name = re.match(r"(?:(?:abbrev|pub|unfoldable|opaque) )*(\S+)", sig)[1]
@@ -347,15 +354,22 @@ def matching(s):
     return True
 
 
-def as_record(body, labels):
-    """A body whose last term is a nested pair, as a record of the clauses; or None."""
-    m = list(re.finditer(r"(?:\bin\s|(?<==)\s)", body))
-    # the last term begins behind the last ' in ' or the first ' = '
-    at = max([x.end() for x in re.finditer(r"(?<!\S)in(?=\s)", body)] + [re.search(r"\s=(?=\s)", body).end()])
-    lead, last = body[:at], body[at:].strip()
-    parts = []
-    rest = last
-    for i in range(len(labels) - 1):
+def last_term(body):
+    """Where the last term of a body begins: behind its last `in`, or its first `=`, outside all brackets."""
+    at, depth, i = re.search(r"\s=(?=\s)", body).end(), 0, 0
+    while i < len(body):
+        ch = body[i]
+        depth += (ch in "([{") - (ch in ")]}")
+        if depth == 0 and re.match(r"\sin\s", body[i : i + 4]):
+            at = i + 3
+        i += 1
+    return at
+
+
+def pair_parts(text, labels):
+    """A nested pair's parts, one for each label; or None."""
+    parts, rest = [], text.strip()
+    for _ in range(len(labels) - 1):
         if not matching(rest):
             return None
         inner = rest[1:-1]
@@ -363,10 +377,24 @@ def as_record(body, labels):
         if k < 0:
             return None
         parts.append(inner[:k].strip())
-        rest = inner[k + 1 :].strip()
-    parts.append(rest)
-    fields = "; ".join(f"{l} = {p}" for l, p in zip(labels, parts))
-    return f"{lead} record {{ {fields} }}"
+        rest = inner[k + 1 :].strip().rstrip(",").rstrip()
+    return parts + [rest]
+
+
+def as_record(body, labels):
+    """A body whose last term proves several clauses as a nested pair, as a record of the clauses."""
+    at = last_term(body)
+    lead, last = body[:at], body[at:].strip()
+    parts = pair_parts(last, labels)
+    if parts is None:
+        m = re.match(r"(rw (?:\((?:[^()]|\((?:[^()]|\([^()]*\))*\))*\)|\S+)) ", last)
+        inner = m and pair_parts(last[m.end() :], labels)
+        if inner:
+            parts = [f"{m[1]} ({p})" for p in inner]
+        else:
+            n = len(labels)
+            parts = [f"({last})" + ".1" * k + (".0" if k < n - 1 else "") for k in range(n)]
+    return f"{lead} record {{ " + "; ".join(f"{l} = {p}" for l, p in zip(labels, parts)) + " }"
 
 
 def turn_file(crate, folder, names_all, contracts, commit, made):
@@ -411,7 +439,7 @@ def turn_file(crate, folder, names_all, contracts, commit, made):
             turn.aliases.add(m[1])
             d.alias = True
             continue
-        m = re.match(r"(?:abbrev )?(\S+) : (?:\(c : tie\.(\S+?)(?: [^)]*)?\)|tie\.(\S+)(?: invariant[^\s)]* decreases[^\s)]*)*(?= →))", sig)
+        m = re.match(r"(?:abbrev )?(\S+) : (?:\(\w+ : tie\.(\S+?)(?: [^)]*)?\)|tie\.(\S+)(?: invariant[^\s)]* decreases[^\s)]*)*(?= →))", sig)
         if m:
             turn.helpers[m[1]] = norm(m[2] or m[3])
     for d in decls:
@@ -442,7 +470,7 @@ def turn_file(crate, folder, names_all, contracts, commit, made):
                 else:
                     body.append(l)
             btext = "\n".join(body)
-            if re.fullmatch(rf"{re.escape(d.name)} c( κs)? = (search rules|tt)", btext.strip()):
+            if re.fullmatch(rf"{re.escape(d.name)} c( κs)? = (search rules|tt)", btext.strip()) and not any(l.startswith("unfolding") for l in out):
                 continue
             btext = re.sub(rf"^{re.escape(d.name)} c κs", f"{goal} c", btext)
             btext = re.sub(rf"^{re.escape(d.name)}(?=\s)", goal, btext)
@@ -496,7 +524,8 @@ def turn_file(crate, folder, names_all, contracts, commit, made):
             return f"lts.{m[1]} reads.Pre reads.Post"
         t = re.sub(r"tie\.([A-Za-z0-9_-]+?)(?: invariant[^\s)]* decreases[^\s)]*)?(?=\)| →)", typed, t)
         turn.at = turn.made and place and turn.made.record(place)
-        t = turn.body(t, place)
+        v = re.search(r"\((\w+) : tie\.", d.lines[d.head])
+        t = turn.body(t, place, (v[1],) if v else ("c",))
         answers.append(t)
     if invariants:
         inv = []

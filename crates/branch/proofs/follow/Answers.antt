@@ -10,8 +10,7 @@ use lib.Dec.{eqb}
 use borrow.Author.Rules.{rules}
 use Rattle.branch.specs.declared.Way.{Way}
 use Rattle.branch.specs.Inner.Values.{way_in, following_w}
-use Rattle.branch.proofs.follow.Statement.{statement}
-use Rattle.branch.proofs.follow.Tie as tie
+use Rattle.branch.proofs.follow.Goals as goal
 
 and-always : (k : Bool) → k ≡ (k && true)
 and-always true = refl
@@ -37,19 +36,12 @@ departed ws h = λ i. record {
     other : (j : ℕ) → j < 6 → get_or (set ws 6 0) j 0 ≡ get_or ws j 0
     other j l = get_or-set_other ws 6 j 0 0 (λ e. omega (arith, e, l))
 
-returns : tie.Need-returns
+pub returns-then-kept : goal.returns-then-kept
+returns-then-kept c = record { way_after = rw c.if-kept.true (kept (way_in c.args.way.now)); way_len = rw c.if-kept.true (c.requires) }
+
+pub bounds-way-6 : goal.bounds-way-6
+bounds-way-6 c = let r = c.requires in omega (arith, r)
+
+pub returns : goal.returns
 returns c =
-    let start = c.before in
-    rw c.if1.true (kept (way_in start.args.way.now), start.requires)
-
-element-write-way : tie.Need-element-write-way
-element-write-way c = let r = c.before.requires in omega (arith, r)
-
-returns-2 : tie.Need-returns-2
-returns-2 c =
-    let start = c.before in
-    let ws = start.args.way.now in
-    rw c.if1.false (departed ws start.requires, length-set ws 6 0 ∙ start.requires)
-
-pub follow-spec : {M : Type 1} → statement M
-follow-spec = tie.close (tie.spec returns element-write-way returns-2)
+    let ws = c.args.way.now in record { way_after = rw c.if-kept.false (departed ws c.requires); way_len = rw c.if-kept.false (length-set ws 6 0 ∙ c.requires) }

@@ -1,0 +1,133 @@
+-- A rule is used as an item past all others: nothing is taken. Then by whether the item is a line.
+use Prim.Native.Nat.{ℕ, ◌+◌, ◌-◌, ◌≤◌, ◌<◌}
+use native.Mathlib.Omega.{arith}
+use mathlib.Core.Path.{◌≡◌, refl, sym, ap, ◌∙◌}
+use mathlib.Core.Bool.{Bool, true, false, cond}
+use borrow.Author.Tests.{lt-ltb, le-ltb}
+use lib.Dec.{ltb}
+use Rattle.lines.specs.declared.LineSet.{LineSet}
+use Rattle.lines.specs.declared.LineWord.{LineWord}
+use Rattle.lines.specs.Set.{add_s, take_s}
+use Rattle.lines.specs.Inner.Word.{add_l}
+use Rattle.lines.proofs.MemberLaws.{member_past, add_past, take_past}
+use Rattle.branch.specs.declared.Branch.{Branch}
+use Rattle.branch.specs.Inner.Values.{item_of, spent_b, using_b}
+use Rattle.branch.proofs.CountsKept.{kept, counted_using}
+use borrow.Author.Rules.{rules}
+use Rattle.branch.proofs.Branch.using.Goals as goal
+
+-- what is done with the item is done with e - P, and nothing for a rule
+module _ (P e : ℕ) where
+  taken : (s : LineSet) → take_s s (item_of P e) ≡ cond (ltb e P) s (take_s s (e - P))
+  unfolding item_of
+  taken s = go (ltb e P)
+    where
+      go : (v : Bool) → take_s s (cond v 192 (e - P)) ≡ cond v s (take_s s (e - P))
+      go true = take_past s 192 (omega arith)
+      go false = refl
+
+  added : (s : LineSet) → add_s s (item_of P e) ≡ cond (ltb e P) s (add_s s (e - P))
+  unfolding item_of
+  added s = go (ltb e P)
+    where
+      go : (v : Bool) → add_s s (cond v 192 (e - P)) ≡ cond v s (add_s s (e - P))
+      go true = add_past s 192 (omega arith)
+      go false = refl
+
+  left-due : (b : Branch) → spent_b b (item_of P e) ≡ cond (ltb e P) b.due (spent_b b (e - P))
+  unfolding item_of spent_b
+  left-due b = go (ltb e P)
+    where
+      go : (v : Bool) → spent_b b (cond v 192 (e - P)) ≡ cond v b.due (spent_b b (e - P))
+      go true = ap (λ (x : Bool). cond x (b.due - 1) b.due) (member_past b.strict 192 (omega arith))
+      go false = refl
+
+  module _ (T : ℕ) (seen : LineWord) where
+    abbrev lit : Bool → LineWord
+    lit v = cond v seen (cond (ltb (e - P) T) (add_l seen (e - P)) seen)
+
+    line-seen : T ≤ 64 → item_of P e < T → add_l seen (item_of P e) ≡ lit (ltb e P)
+    unfolding item_of
+    line-seen few h = go (ltb e P) h
+      where
+        go : (v : Bool) → cond v 192 (e - P) < T → add_l seen (cond v 192 (e - P)) ≡ lit v
+        go true k = absurd (omega arith)
+        go false k = rw (lt-ltb (e - P) T k) refl
+
+    none_seen : T ≤ item_of P e → seen ≡ lit (ltb e P)
+    unfolding item_of
+    none_seen h = go (ltb e P) h
+      where
+        go : (v : Bool) → T ≤ cond v 192 (e - P) → seen ≡ lit v
+        go true k = refl
+        go false k = rw (le-ltb (e - P) T k) refl
+
+pub returns-then-item-lines : goal.returns-then-item-lines
+unfolding using_b
+returns-then-item-lines c =
+    let a = c.args in
+    let b = a.self in
+    let item = c.item_of-item.ensures in
+    let low : item_of a.rules a.e < a.lines = rw (sym item) c.if-item-lines.true in record {
+      value = (kept (counted_using b a.rules a.lines a.e a.len c.requires.counted)
+          (λ i. record {
+            at = b.at + 1;
+            count = b.count;
+            len = a.len;
+            limit = b.limit;
+            due = (c.spent.ensures ∙ ap (spent_b b) item ∙ left-due a.rules a.e b) i;
+            strict = (c.take-b.ensures ∙ ap (take_s b.strict) item ∙ taken a.rules a.e b.strict) i;
+            lax = (c.take-b-2.ensures ∙ ap (take_s b.lax) item ∙ taken a.rules a.e b.lax) i;
+            used = (c.add-b.ensures ∙ ap (add_s b.used) item ∙ added a.rules a.e b.used) i;
+            seen = (c.add-b-then-item-lines.ensures ∙ ap (add_l b.seen) item ∙ line-seen a.rules a.e a.lines b.seen c.requires.at_bound.1 low) i;
+            slack = b.slack;
+          })).0;
+      counted_2 = (kept (counted_using b a.rules a.lines a.e a.len c.requires.counted)
+          (λ i. record {
+            at = b.at + 1;
+            count = b.count;
+            len = a.len;
+            limit = b.limit;
+            due = (c.spent.ensures ∙ ap (spent_b b) item ∙ left-due a.rules a.e b) i;
+            strict = (c.take-b.ensures ∙ ap (take_s b.strict) item ∙ taken a.rules a.e b.strict) i;
+            lax = (c.take-b-2.ensures ∙ ap (take_s b.lax) item ∙ taken a.rules a.e b.lax) i;
+            used = (c.add-b.ensures ∙ ap (add_s b.used) item ∙ added a.rules a.e b.used) i;
+            seen = (c.add-b-then-item-lines.ensures ∙ ap (add_l b.seen) item ∙ line-seen a.rules a.e a.lines b.seen c.requires.at_bound.1 low) i;
+            slack = b.slack;
+          })).1;
+    }
+
+pub returns-else-item-lines : goal.returns-else-item-lines
+unfolding using_b
+returns-else-item-lines c =
+    let a = c.args in
+    let b = a.self in
+    let item = c.item_of-item.ensures in
+    let high : a.lines ≤ item_of a.rules a.e = rw (sym item) c.if-item-lines.false in record {
+      value = (kept (counted_using b a.rules a.lines a.e a.len c.requires.counted)
+          (λ i. record {
+            at = b.at + 1;
+            count = b.count;
+            len = a.len;
+            limit = b.limit;
+            due = (c.spent.ensures ∙ ap (spent_b b) item ∙ left-due a.rules a.e b) i;
+            strict = (c.take-b.ensures ∙ ap (take_s b.strict) item ∙ taken a.rules a.e b.strict) i;
+            lax = (c.take-b-2.ensures ∙ ap (take_s b.lax) item ∙ taken a.rules a.e b.lax) i;
+            used = (c.add-b.ensures ∙ ap (add_s b.used) item ∙ added a.rules a.e b.used) i;
+            seen = none_seen a.rules a.e a.lines b.seen high i;
+            slack = b.slack;
+          })).0;
+      counted_2 = (kept (counted_using b a.rules a.lines a.e a.len c.requires.counted)
+          (λ i. record {
+            at = b.at + 1;
+            count = b.count;
+            len = a.len;
+            limit = b.limit;
+            due = (c.spent.ensures ∙ ap (spent_b b) item ∙ left-due a.rules a.e b) i;
+            strict = (c.take-b.ensures ∙ ap (take_s b.strict) item ∙ taken a.rules a.e b.strict) i;
+            lax = (c.take-b-2.ensures ∙ ap (take_s b.lax) item ∙ taken a.rules a.e b.lax) i;
+            used = (c.add-b.ensures ∙ ap (add_s b.used) item ∙ added a.rules a.e b.used) i;
+            seen = none_seen a.rules a.e a.lines b.seen high i;
+            slack = b.slack;
+          })).1;
+    }
