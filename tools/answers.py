@@ -131,7 +131,7 @@ def split(text):
         # a block may hold several declarations
         part = []
         for line in b[k:]:
-            starts = line != "" and not line.startswith((" ", "--", "unfolding", "infix"))
+            starts = line != "" and not line.startswith((" ", ")", "}", "]", "--", "unfolding", "infix"))
             if starts and part and any(not p.startswith("--") for p in part):
                 sig = next((p for p in part if not p.startswith("--")), "")
                 name = re.match(r"(?:(?:abbrev|pub|unfoldable|opaque) )*(\S+)", sig)[1]
@@ -228,6 +228,7 @@ class Made:
 class Turn:
     made = None
     at = None  # the record that the present declaration takes
+    cycle = False
 
     def __init__(self, crate, function, names, contracts):
         self.crate, self.function, self.names, self.contracts = crate, function, names, contracts
@@ -312,7 +313,11 @@ class Turn:
                     label, rest_numbers = label_path(self.contracts[callee][1], fields[1:n])
                     if label:
                         fields = ["ensures", label] + rest_numbers + fields[n:]
+            elif first == "requires" and self.cycle and fields[:1] == ["0"]:
+                first, fields = "decreases", fields[1:]
             elif first == "requires":
+                if self.cycle and fields[:1] == ["1"]:
+                    fields = fields[1:]
                 n = 0
                 while n < len(fields) and fields[n].isdigit():
                     n += 1
@@ -324,6 +329,15 @@ class Turn:
             return ".".join([var, first] + fields)
 
         text = re.sub(rf"(?<![^\s(,\[])({'|'.join(re.escape(v) for v in known)})((?:\.[^.\s(){{}}\[\],;]+)+)", path, text)
+        # a value that a `let` gives to all that a call ensures, or to all that is required
+        by_new = {new: callee for new, callee in steps.values()}
+        for m in list(re.finditer(rf"let ({WORD}) = c\.(?:(\S+)\.ensures|requires) in\s", text)):
+            labels = self.contracts.get(by_new.get(m[2]), ([], []))[1] if m[2] else self.own[0]
+            if len(labels) > 1:
+                def of(x):
+                    label, rest = label_path(labels, x[1].strip(".").split("."))
+                    return m[1] + "." + ".".join([label] + rest) if label else x[0]
+                text = re.sub(rf"(?<![^\s(,\[]){re.escape(m[1])}((?:\.\d)+)", of, text)
         # a test `!x` tells of x itself
         text = re.sub(r"\(not-(?:true|false) _ ([^\s(),]+\.if-not-[^\s(),.]+\.(?:true|false))\)", r"\1", text)
         text = re.sub(r"not-(?:true|false) _ ([^\s(),]+\.if-not-[^\s(),.]+\.(?:true|false))(?=[\s),;]|$)", r"\1", text)
@@ -401,7 +415,7 @@ def turn_file(crate, folder, names_all, contracts, commit, made):
     path = os.path.join(folder, "Proof.antt")
     rel = os.path.relpath(folder, os.path.join("crates", crate, "proofs"))
     if "+" in rel:
-        return [f"{path}: a cycle, left"]
+        return turn_cycle(crate, folder, rel, names_all, contracts, commit, made)
     dotted = rel.replace("/", ".")
     key = f"Rattle-{crate}-proofs.{dotted}.Lts"
     if key not in names_all:
@@ -539,6 +553,128 @@ def turn_file(crate, folder, names_all, contracts, commit, made):
             f.write("\n".join(comments + uses + [f"use {module}.Goals as goal", "", "\n\n".join(answers)]) + "\n")
     os.remove(path)
     return said + [f"{path}: {l}" for l in turn.left]
+
+
+def parameters(crate, function):
+    """The names of a function's parameters."""
+    for folder, _, files in os.walk(os.path.join("crates", crate, "src")):
+        for name in files:
+            if name.endswith(".rt"):
+                m = re.search(rf"\bfn {function}\b[^(]*\(((?:[^()]|\([^()]*\))*)\)", read(os.path.join(folder, name)))
+                if m:
+                    return [p.split(":")[0].strip().replace("mut ", "").lstrip("&") for p in m[1].split(",") if p.strip()]
+    return []
+
+
+def turn_cycle(crate, folder, rel, names_all, contracts, commit, made):
+    """A cycle's file: the goals of each of its functions, and a measure for each."""
+    path = os.path.join(folder, "Proof.antt")
+    text = read(path)
+    said = []
+    cycle = rel.split("/")[-1]
+    mods = rel.split("/")[:-1]
+    dotted = rel.replace("/", ".")
+    module = f"Rattle.{crate}.proofs.{dotted}"
+    old_path = path
+    old_text = subprocess.run(["git", "show", f"{commit}:{path}"], capture_output=True, text=True).stdout
+    if not old_text:
+        listed = subprocess.run(["git", "ls-tree", "-r", "--name-only", commit, f"crates/{crate}/proofs"], capture_output=True, text=True).stdout
+        files = [f for f in listed.split("\n") if "/+" in f and "+".join(sorted(f.split("/")[-2].strip("+").split("+"))) and f.endswith("Proof.antt")]
+        wanted = {norm(x) for x in names_all if f".{cycle}." in x}
+        old_text = "".join(subprocess.run(["git", "show", f"{commit}:{f}"], capture_output=True, text=True).stdout for f in files)
+    functions = {}
+    for k in names_all:
+        m = re.match(rf"Rattle-{crate}-proofs\.{re.escape(dotted)}\.Lts-(\S+)$", k)
+        if m:
+            functions[norm(m[1])] = (m[1], k)
+    pattern = re.compile(r"^(?:pub )?(\S+) : \(t : ℕ\) → (\S+?)-lts ?\.Need-(\S+) ", re.M)
+    old = pattern.findall(old_text)
+    new = pattern.findall(text)
+    if len(old) != len(new):
+        said.append(f"{path}: {len(old)} goals in the old form and {len(new)} now")
+    need_of = {n[0]: (norm(o[1]), norm(o[2])) for o, n in zip(old, new)}
+    turns = {}
+    for f, (name, key) in functions.items():
+        t = Turn(crate, "::".join([crate] + mods + [name]), names_all[key], contracts)
+        t.cycle = True
+        turns[f] = t
+    head, decls = split(text)
+    uses = [l for l in head if not l.startswith("--")]
+    comments = [l for l in head if l.startswith("--")]
+    dropped = re.compile(r"\.Reads as |\.Kinds as |\.Lts-\S+ as |borrow\.Fn\.(Kinds|PlainCycle)|proofs\.\+\S+\.\{|^  statement,|^  close,|^\}")
+    uses = [u for u in uses if not dropped.search(u)]
+    answers, measures = [], []
+    for d in decls:
+        sig = d.lines[d.head]
+        m = re.match(r"abbrev μ-(\S+) : Measures", sig)
+        if m:
+            f = norm(m[1])
+            name = functions[f][0] if f in functions else m[1]
+            params = parameters(crate, name)
+            rest = "\n".join(d.lines[d.head + 1 :]).partition("=")[2]
+            rest = re.sub(r"(?<![\w.])a((?:\.1)*)\.0(?=[.\s)]|$)", lambda x: f"l.{params[x[1].count('1')]}", rest)
+            measures.append(f"abbrev pub decreases-{name} : goal.decreases-{name}\ndecreases-{name} l ={rest}")
+            continue
+        if re.match(r"abbrev (\S+-(at|below)|callees) : ", sig) or re.match(r"pub \+", sig):
+            continue
+        if d.name in need_of:
+            f, need = need_of[d.name]
+            turn = turns.get(f)
+            if not turn:
+                said.append(f"{path}: {d.name}: no function {f}")
+                continue
+            names = turn.names
+            goal_of = {norm(o): n for o, n in names["needs"]}
+            place_of = {norm(o): norm(p[0]) for (o, _), p in zip(names["needs"], names["asked_at"])}
+            new_place = {norm(o): p[1] for (o, _), p in zip(names["needs"], names["asked_at"])}
+            for ending, now in (("holds", "init"), ("again", "preserved"), ("less", "smaller")):
+                if need not in goal_of:
+                    need = re.sub(rf"_{ending}(?=$|_\d)", "_" + now, need)
+            if need not in goal_of:
+                said.append(f"{path}: {f}: no new name for {need}")
+                continue
+            goal = ("" if len(functions) == 1 else functions[f][0] + "-") + goal_of[need]
+            place = place_of[need]
+            out = d.lines[: d.head] + [f"pub {goal} : goal.{goal}"]
+            body = []
+            for l in d.lines[d.head + 1 :]:
+                (out if l.startswith("unfolding") else body).append(l)
+            btext = "\n".join(body)
+            if re.fullmatch(rf"{re.escape(d.name)} t c( κs)? = (search rules|tt)", btext.strip()) and not any(l.startswith("unfolding") for l in out):
+                continue
+            if re.search(r" = c\.match\d*\.keys\d+$", btext.strip()):
+                continue
+            btext = re.sub(rf"^{re.escape(d.name)} t c κs", f"{goal} t c", btext)
+            btext = re.sub(rf"^{re.escape(d.name)}(?=\s)", goal, btext)
+            btext = turn.body(btext, place)
+            labels = None
+            if goal_of[need].startswith("returns"):
+                labels = turn.own[1]
+            else:
+                m = re.match(r"(.*)-requires", goal_of[need])
+                callee = None
+                for o, (n, parent, step, c) in turn.places.by_old.items():
+                    if m and parent == place and c and step[1] == m[1]:
+                        callee = c
+                if callee in contracts and norm(callee.split("::")[-1]) not in functions:
+                    labels = contracts[callee][0]
+            if labels and len(labels) > 1:
+                btext = as_record(btext, labels)
+            answers.append("\n".join(out + [btext]))
+            continue
+        m = re.search(r"\((\w+) : (\S+?)-lts\.(\S+)", sig)
+        if m:
+            turn = turns.get(norm(m[2]))
+            said.append(f"{path}: {d.name}: a lemma over a record of {m[2]}")
+            answers.append(turn.body(d.text(), norm(m[3]), (m[1],)) if turn else d.text())
+            continue
+        answers.append(d.text())
+    with open(os.path.join(folder, "Invariants.antt"), "w", encoding="utf-8") as f:
+        f.write("\n".join(uses + [f"use {module}.Given as goal", "", "\n\n".join(measures)]) + "\n")
+    with open(os.path.join(folder, "Answers.antt"), "w", encoding="utf-8") as f:
+        f.write("\n".join(comments + uses + [f"use {module}.Goals as goal", "", "\n\n".join(answers)]) + "\n")
+    os.remove(path)
+    return said + [f"{path}: {l}" for t in turns.values() for l in t.left]
 
 
 def turn_invariant(d, names, turn, said, path):
