@@ -395,10 +395,38 @@ def pair_parts(text, labels):
     return parts + [rest]
 
 
-def as_record(body, labels):
+def own_names(decls, made):
+    """The new spelling of the names that a function's proof file gives itself: lemmas, fields of records, local names."""
+    found = set()
+    for d in decls:
+        text = d.text()
+        if d.name not in made:
+            found.add(d.name)
+        if re.match(r"(?:pub )?record ", d.lines[d.head]):
+            found.add(re.match(r"(?:pub )?record (\S+)", d.lines[d.head])[1])
+            found.update(f for l in d.lines for m in [re.match(r"  (?:pub )?(\S+(?: [^\s:(){}]+)*) :", l)] if m for f in m[1].split())
+        for line in d.lines:
+            for pattern in (spell.BOUND, spell.LAMBDA):
+                for m in pattern.finditer(line):
+                    found.update(m[1].split())
+            found.update(m[1] for m in spell.LET.finditer(line))
+        # names of a where or a module
+        found.update(m[1] for m in re.finditer(r"^ +([^\s:(){}=]+) : ", text, re.M))
+        for m in re.finditer(r"^(\S+)((?: [^\s=(){}]+)+) =", text, re.M):
+            found.update(m[2].split())
+    return {n: spell.snake(n) for n in found if spell.needs(n)}
+
+
+def named_anew(text, names):
+    return spell.TOKEN.sub(lambda m: names.get(m[0], m[0]), text)
+
+
+def as_record(body, labels, own=()):
     """A body whose last term proves several clauses as a nested pair, as a record of the clauses."""
     at = last_term(body)
     lead, last = body[:at], body[at:].strip()
+    if last == "c.requires" and len(own) == len(labels):
+        return f"{lead} record {{ " + "; ".join(f"{l} = c.requires.{o}" for l, o in zip(labels, own)) + " }"
     parts = pair_parts(last, labels)
     if parts is None:
         m = re.match(r"(rw (?:\((?:[^()]|\((?:[^()]|\([^()]*\))*\))*\)|\S+)) ", last)
@@ -407,7 +435,11 @@ def as_record(body, labels):
             parts = [f"{m[1]} ({p})" for p in inner]
         else:
             n = len(labels)
-            parts = [f"({last})" + ".1" * k + (".0" if k < n - 1 else "") for k in range(n)]
+            if m and last[m.end() :].startswith("at "):
+                m = None
+            lead_in = m[1] + " " if m else ""
+            last = last[m.end() :] if m else last
+            parts = [f"{lead_in}(({last})" + ".1" * k + (".0" if k < n - 1 else "") + ")" for k in range(n)] if m else [f"({last})" + ".1" * k + (".0" if k < n - 1 else "") for k in range(n)]
     return f"{lead} record {{ " + "; ".join(f"{l} = {p}" for l, p in zip(labels, parts)) + " }"
 
 
@@ -500,13 +532,13 @@ def turn_file(crate, folder, names_all, contracts, commit, made):
                 if m:
                     callee = None
                     # the call that follows the place
-                    for o, (n, parent, step, c) in turn.places.by_old.items():
-                        if parent == place and c and step[1] == m[1]:
-                            callee = c
+                    after = {c for o, (n, parent, step, c) in turn.places.by_old.items() if parent == place and c}
+                    if len(after) == 1:
+                        callee = after.pop()
                     if callee in contracts:
                         labels = contracts[callee][0]
             if labels and len(labels) > 1:
-                rec = as_record(btext, labels)
+                rec = as_record(btext, labels, turn.own[0])
                 if rec:
                     btext = rec
                 else:
@@ -541,13 +573,24 @@ def turn_file(crate, folder, names_all, contracts, commit, made):
         v = re.search(r"\((\w+) : tie\.", d.lines[d.head])
         t = turn.body(t, place, (v[1],) if v else ("c",))
         answers.append(t)
+    said_names = own_names(decls, need_of)
+    answers = [named_anew(a, said_names) for a in answers]
     if invariants:
         inv = []
+        texts = " ".join(d.text() for d in invariants)
+        shared = [d for d in decls if d not in invariants and re.search(rf"(?<![^\s(]){re.escape(kept_name(d))}(?![^\s)])", texts)]
+        for d in shared:
+            inv.append(named_anew(published(d), said_names))
+        if shared:
+            answers = [a for a in answers if a not in {named_anew(turn_shared(d, turn), said_names) for d in shared}]
+            names_of = ", ".join(said_names.get(kept_name(d), kept_name(d)) for d in shared)
+            uses.append(f"use {module}.Invariants.{{{names_of}}}")
         for d in invariants:
-            inv.append(turn_invariant(d, names, turn, said, path))
+            inv.append(named_anew(turn_invariant(d, names, turn, said, path), said_names))
         with open(os.path.join(folder, "Invariants.antt"), "w", encoding="utf-8") as f:
             f.write("\n".join(plain_uses + [f"use {module}.Given as goal", "", "\n\n".join(inv)]) + "\n")
     answers = [a for a in answers if a]
+    comments = comments if answers else []
     if answers:
         with open(os.path.join(folder, "Answers.antt"), "w", encoding="utf-8") as f:
             f.write("\n".join(comments + uses + [f"use {module}.Goals as goal", "", "\n\n".join(answers)]) + "\n")
@@ -653,13 +696,13 @@ def turn_cycle(crate, folder, rel, names_all, contracts, commit, made):
             else:
                 m = re.match(r"(.*)-requires", goal_of[need])
                 callee = None
-                for o, (n, parent, step, c) in turn.places.by_old.items():
-                    if m and parent == place and c and step[1] == m[1]:
-                        callee = c
+                after = {c for o, (n, parent, step, c) in turn.places.by_old.items() if m and parent == place and c}
+                if len(after) == 1:
+                    callee = after.pop()
                 if callee in contracts and norm(callee.split("::")[-1]) not in functions:
                     labels = contracts[callee][0]
             if labels and len(labels) > 1:
-                btext = as_record(btext, labels)
+                btext = as_record(btext, labels, turn.own[0])
             answers.append("\n".join(out + [btext]))
             continue
         m = re.search(r"\((\w+) : (\S+?)-lts\.(\S+)", sig)
@@ -675,6 +718,28 @@ def turn_cycle(crate, folder, rel, names_all, contracts, commit, made):
         f.write("\n".join(comments + uses + [f"use {module}.Goals as goal", "", "\n\n".join(answers)]) + "\n")
     os.remove(path)
     return said + [f"{path}: {l}" for t in turns.values() for l in t.left]
+
+
+def kept_name(d):
+    m = re.match(r"(?:(?:pub|abbrev|unfoldable|record|data) )*(\S+)", d.lines[d.head])
+    return m[1]
+
+
+def turn_shared(d, turn):
+    """A declaration without records of facts, as it stands among the answers."""
+    return turn.body(d.text(), None)
+
+
+def published(d):
+    """A declaration of the invariants' file that the answers cite too."""
+    lines = list(d.lines)
+    head = lines[d.head]
+    if re.match(r"(pub )?record ", head):
+        lines = [re.sub(r"^  (?!pub )(?=\S+(?: \S+)* :)", "  pub ", l) for l in lines]
+        lines[d.head] = head if head.startswith("pub ") else "pub " + head
+    elif "pub " not in head:
+        lines[d.head] = re.sub(r"^((?:abbrev |unfoldable )?)", r"\1pub ", head)
+    return "\n".join(lines)
 
 
 def turn_invariant(d, names, turn, said, path):

@@ -20,20 +20,8 @@ use Rattle.card.proofs.SoundNodes.{height_pos, height_parts}
 use Rattle.agenda.specs.Inner.Agenda.{Agenda, pushed, core}
 use Rattle.segment.specs.Inner.Tasks.{agenda_of, Laid, Pushing}
 use Rattle.segment.proofs.TasksAreAgendas.{task_code, fit_code, agenda_put, laid_put}
-use Rattle.segment.proofs.tasks.push.Statement.{statement}
-use Rattle.segment.proofs.tasks.push.Tie as tie
-
--- n tasks with the clause at the node still to be put: what the loop keeps
-record Putting (bs codes₀ codes : List ℕ) (len clause nest at n : ℕ) : Type 0 where
-  part : clause_part bs (node_count bs) at ≡ true
-  room : length codes ≡ 104
-  more : len ≤ n
-  height : n + height_at bs at ≤ len + height_at bs clause
-  same-core : core (clause_of bs at) ≡ core (clause_of bs clause)
-  no_lower : height_at bs at ≤ height_at bs clause
-  tasks : pushed nest (clause_of bs at) (agenda_of bs codes n) ≡ pushed nest (clause_of bs clause) (agenda_of bs codes₀ len)
-  laid : (count : ℕ) → Laid bs codes₀ len count → len + height_at bs clause + 6 * nest ≤ 105
-      → count + height_at bs clause + 6 * nest ≤ rule_count bs + 169 → Laid bs codes n count
+use Rattle.segment.proofs.tasks.push.Invariants.{Putting}
+use Rattle.segment.proofs.tasks.push.Goals as goal
 
 module _ {bs : List ℕ} (s : Sound bs) (i : ℕ) (p : clause_part bs (node_count bs) i ≡ true) where
   below : i < node_count bs
@@ -67,9 +55,9 @@ module _ {bs : List ℕ} (s : Sound bs) (i : ℕ) (p : clause_part bs (node_coun
       (⊎_elim (λ k. absurd (d k)) (λ k. ap (λ (D : Clause). pushed n D A) (sound_menu s i below k))))
       (clause_kind bs (node_count bs) i p)
 
-  own-core : (kind_at bs i ≡ 7 → ⊥) → core (clause_of bs i) ≡ clause_of bs i
+  own_core : (kind_at bs i ≡ 7 → ⊥) → core (clause_of bs i) ≡ clause_of bs i
   unfolding core
-  own-core d =
+  own_core d =
       ⊎_elim (λ k. ap core (reads_name bs i k).1 ∙ sym (reads_name bs i k).1)
       (⊎_elim (λ k. ap core (reads_rest bs i k).1 ∙ sym (reads_rest bs i k).1)
       (⊎_elim (λ k. absurd (d k)) (λ k. ap core (sound_menu s i below k) ∙ sym (sound_menu s i below k))))
@@ -92,7 +80,7 @@ module _ {bs codes₀ codes : List ℕ} {len clause nest at n : ℕ} (s : Sound 
         room = length-set codes n (left_at bs at * 32 + nest) ∙ t.room;
         more = omega (arith, t.more);
         height = omega (arith, a.1, t.height);
-        same-core = sym (ap core (sound_recipe s at (below s at t.part) k)) ∙ t.same-core;
+        same_core = sym (ap core (sound_recipe s at (below s at t.part) k)) ∙ t.same_core;
         no_lower = omega (arith, a.1, t.no_lower);
         tasks =
             ap (pushed nest (clause_of bs (right_at bs at)))
@@ -112,110 +100,78 @@ module _ {bs codes₀ codes : List ℕ} {len clause nest at n : ℕ} (s : Sound 
     tasks = sym (bare s at t.part d nest (agenda_of bs codes n)) ∙ t.tasks;
     core_node = t.part;
     core_kind = d;
-    is_core = sym (own-core s at t.part d) ∙ t.same-core;
+    is_core = sym (own_core s at t.part d) ∙ t.same_core;
     no_higher = t.height;
     lower = t.no_lower;
     laid = t.laid;
   }
 
-abbrev invariant-loop : tie.invariant-loop
-invariant-loop card agenda₀ len clause nest at₀ n₀ k₀ agenda at n k = (k ≡ kind_at card at) × Putting card agenda₀ agenda len clause nest at n
+pub kind-k-requires : goal.kind-k-requires
+kind-k-requires c = here c.requires.sound c.args.clause c.requires.clause_value
 
-abbrev decreases-loop : tie.decreases-loop
-decreases-loop card agenda₀ len clause nest at₀ n₀ k₀ agenda at n k = at
+pub loop-k-init : goal.loop-k-init
+loop-k-init c = (
+  c.kind-k.ensures.0,
+  record {
+    part = c.requires.clause_value;
+    room = c.requires.nest_bound.1.1;
+    more = omega arith;
+    height = omega arith;
+    same_core = refl;
+    no_lower = omega arith;
+    tasks = refl;
+    laid = λ count l d e. l;
+  },
+)
 
-kind-requires : tie.Need-kind-requires invariant-loop decreases-loop
-kind-requires c κs = let start = c.before in here start.requires.0 start.args.clause start.requires.1.0
+pub left-requires : goal.left-requires
+left-requires c =
+    let turn = c.loop-k in
+    here c.requires.sound turn.at turn.invariant.1.part
 
-loop-holds : tie.Need-loop-init invariant-loop decreases-loop
-loop-holds c =
-    let start = c.before.before in (
-      c.kind.ensures.0,
-      record {
-        part = start.requires.1.0;
-        room = start.requires.1.1.1.1;
-        more = omega arith;
-        height = omega arith;
-        same-core = refl;
-        no_lower = omega arith;
-        tasks = refl;
-        laid = λ count l d e. l;
-      },
-    )
-
-left-requires : tie.Need-left-requires invariant-loop decreases-loop
-left-requires c κs =
-    let start = c.before.before.before.before.before in
-    let turn = c.before.before.loop in
-    here start.requires.0 turn.at turn.invariant.1.part
-
-put-requires : tie.Need-put-requires invariant-loop decreases-loop
-put-requires c κs =
-    let start = c.before.before.before.before.before.before in
-    let turn = c.before.before.before.loop in
+pub put-requires : goal.put-requires
+put-requires c =
+    let turn = c.loop-k in
     let t = turn.invariant.1 in
-    let small = small start.requires.0 turn.at t.part (omega arith) in (
-      (
-        inside start.requires.0 t start.requires.1.1.0 start.requires.1.1.1.0 (omega arith),
-        (omega (arith, small, c.left.ensures.0), start.requires.1.1.0),
-      ),
-      t.room,
+    let small = small c.requires.sound turn.at t.part (omega arith) in record {
+      i_bound = (
+        inside c.requires.sound t c.requires.nest_bound.0 c.requires.nest_bound.1.0 (omega arith),
+        (omega (arith, small, c.left.ensures.0), c.requires.nest_bound.0),
+      );
+      agenda_len = t.room;
+    }
+
+pub overflow_add-n : goal.overflow_add-n
+overflow_add-n c =
+    let turn = c.loop-k in
+    let n = inside c.requires.sound turn.invariant.1 c.requires.nest_bound.0 c.requires.nest_bound.1.0 (omega arith) in search rules
+
+pub right-at-requires : goal.right-at-requires
+right-at-requires c =
+    let turn = c.loop-k in
+    here c.requires.sound turn.at turn.invariant.1.part
+
+pub kind-k-requires-in-loop-k : goal.kind-k-requires-in-loop-k
+kind-k-requires-in-loop-k c =
+    let turn = c.loop-k in
+    let part = rest c.requires.sound turn.at turn.invariant.1.part (omega arith) in
+    here c.requires.sound c.right-at.result (rw c.right-at.ensures.0 part)
+
+pub loop-k-smaller : goal.loop-k-smaller
+loop-k-smaller c =
+    let turn = c.loop-k in
+    let low = lower c.requires.sound turn.at turn.invariant.1.part (omega arith) in
+    omega (arith, low.1, c.right-at.ensures.0)
+
+pub loop-k-preserved : goal.loop-k-preserved
+loop-k-preserved c =
+    let turn = c.loop-k in
+    let again = onward c.requires.sound turn.invariant.1 c.requires.nest_bound.0 c.requires.nest_bound.1.0 (omega arith) in (
+      c.kind-k-in-loop-k.ensures.0,
+      rw (c.put.ensures, c.left.ensures.0, c.right-at.ensures.0) again,
     )
 
-add-n : tie.Need-overflow-add-n invariant-loop decreases-loop
-add-n c =
-    let start = c.before.before.before.before.before.before.before in
-    let turn = c.before.before.before.before.loop in
-    let n = inside start.requires.0 turn.invariant.1 start.requires.1.1.0 start.requires.1.1.1.0 (omega arith) in search rules
-
-right-requires : tie.Need-right-requires invariant-loop decreases-loop
-right-requires c κs =
-    let start = c.before.before.before.before.before.before.before in
-    let turn = c.before.before.before.before.loop in
-    here start.requires.0 turn.at turn.invariant.1.part
-
-kind-requires-2 : tie.Need-kind-requires-2 invariant-loop decreases-loop
-kind-requires-2 c κs =
-    let start = c.before.before.before.before.before.before.before.before in
-    let turn = c.before.before.before.before.before.loop in
-    let part = rest start.requires.0 turn.at turn.invariant.1.part (omega arith) in
-    here start.requires.0 c.right.result (rw c.right.ensures.0 part)
-
-loop-less : tie.Need-loop-smaller invariant-loop decreases-loop
-loop-less c =
-    let start = c.before.before.before.before.before.before.before.before.before in
-    let turn = c.before.before.before.before.before.before.loop in
-    let low = lower start.requires.0 turn.at turn.invariant.1.part (omega arith) in
-    omega (arith, low.1, c.before.right.ensures.0)
-
-loop-again : tie.Need-loop-preserved invariant-loop decreases-loop
-loop-again c =
-    let start = c.before.before.before.before.before.before.before.before.before in
-    let turn = c.before.before.before.before.before.before.loop in
-    let again = onward start.requires.0 turn.invariant.1 start.requires.1.1.0 start.requires.1.1.1.0 (omega arith) in (
-      c.kind2.ensures.0,
-      rw (c.before.before.put.ensures, c.before.before.before.left.ensures.0, c.before.right.ensures.0) again,
-    )
-
-returns : tie.Need-returns invariant-loop decreases-loop
+pub returns : goal.returns
 returns c =
-    let start = c.before.before.before.before in
-    let turn = c.before.loop in
-    pushes start.requires.0 turn.invariant.1 start.requires.1.1.0 start.requires.1.1.1.0 (λ k. omega arith)
-
-pub push_spec : {M : Type 1} → statement M
-push_spec =
-    tie.close
-    (tie.spec
-    invariant-loop
-    decreases-loop
-    kind-requires
-    loop-holds
-    left-requires
-    put-requires
-    add-n
-    right-requires
-    kind-requires-2
-    loop-less
-    loop-again
-    returns)
+    let turn = c.loop-k in
+    pushes c.requires.sound turn.invariant.1 c.requires.nest_bound.0 c.requires.nest_bound.1.0 (λ k. omega arith)
