@@ -301,6 +301,8 @@ class Turn:
                     return ".".join([var] + found + fields[n:])
             if (norm(first),) in arms and fields and (fields[0] == "rest" or fields[0].startswith("keys")):
                 return ".".join([var] + arms[(norm(first),)] + fields)
+            low = first[:1].lower() + first[1:]
+            first = low if norm(first) not in steps and norm(low) in steps else first
             bare = re.sub(r"\d+$", "", norm(first))
             if norm(first) not in steps and first[-1:].isdigit() and bare in steps:
                 first = bare

@@ -52,7 +52,7 @@ loop-b-init c =
 
 -- in a turn there is a line left
 some : (c : lts.Then2 tie.the-claims reads.Pre reads.Post goal.the-invariant-loop-b goal.the-decreases-loop-b) → is_empty_l c.loop-b.hand ≡ false
-some c = sym c.is_empty.ensures ∙ not-true _ c.loop-b-test.true
+some c = sym c.is_empty.ensures ∙ c.loop-b-test.true
 
 pub lowest-requires : goal.lowest-requires
 lowest-requires c = some c.before
@@ -107,7 +107,7 @@ returns-then-not-on c =
     let few = (sound_front c.args.card.now c.requires.0.sound).lines in
     line_reached _ _ _ _ _ c.loop-b.invariant c.requires.1 (some c.before.before.before.before.before.before.before) _ (omega (arith, c.lowest.ensures, p))
     (omega (arith, c.if-end-e.false, p, t)) few c.requires.0.scoped
-    (c.Passes-line.ensures.usable c.if-not-on.true)
+    (c.passes_line-on.ensures.usable c.if-not-on.true)
 
 pub without_lowest-hand-requires : goal.without_lowest-hand-requires
 without_lowest-hand-requires c = some c.before.before.before.before.before.before.before
@@ -124,12 +124,12 @@ loop-b-preserved c =
     rw c.without_lowest-hand.ensures
     (line_passed _ _ _ _ _ c.loop-b.invariant c.requires.1 (some c.before.before.before.before.before.before.before.before) _ (omega (arith, c.lowest.ensures, p))
     (omega (arith, c.if-end-e.false, p, t)) few c.requires.0.scoped
-    (c.Passes-line.ensures.unusable c.if-not-on.false))
+    (c.passes_line-on.ensures.unusable c.if-not-on.false))
 
 pub returns : goal.returns
 returns c =
     let p = c.byte-rules.ensures.0 in
     let t = c.byte.ensures.0 in
-    let none = sym c.is_empty.ensures ∙ not-false _ c.loop-b-test.false in
+    let none = sym c.is_empty.ensures ∙ c.loop-b-test.false in
     lines_end _ _ _ _ _ c.loop-b.invariant c.requires.1 _ (omega (arith, p, t)) (omega (arith, c.if-end-from.false))
     (λ x h k. left_none _ _ _ _ _ c.loop-b.invariant c.requires.1 none x h (omega (arith, k, p, t)))

@@ -27,7 +27,7 @@ pub returns-then-not-good : goal.returns-then-not-good
 unfolding takable_by
 returns-then-not-good c =
     let in_scope = lt-ltb c.args.e c.args.b.count c.if-b-e.false in
-    let none = sym c.fits2.ensures ∙ c.if-not-good.true in
+    let none = sym c.fits-good.ensures ∙ c.if-not-good.true in
     rw (in_scope, none) refl
 
 pub open-requires : goal.open-requires
@@ -38,5 +38,5 @@ pub returns : goal.returns
 unfolding takable_by
 returns c =
     let in_scope = lt-ltb c.args.e c.args.b.count c.if-b-e.false in
-    let some = sym c.fits2.ensures ∙ c.if-not-good.false in
+    let some = sym c.fits-good.ensures ∙ c.if-not-good.false in
     rw (in_scope, some) c.open.ensures
