@@ -8,6 +8,7 @@ use mathlib.Core.Logic.{⊎_elim}
 use Rattle.bounds.specs.Inner.Doom.{lent_stock}
 use Rattle.lines.specs.Count.{bit, number}
 use Rattle.bounds.proofs.doom.lent_stock.Goals as goal
+use Rattle.bounds.proofs.doom.lent_stock.Goals.{then-held, else-held}
 
 pub loop-k-init : goal.loop-k-init
 unfolding lent_stock number
@@ -75,11 +76,14 @@ loop-k-preserved c =
     let nd = c.args.nodes.now in
     let k = c.loop-k.k in
     let e = ap (lent_stock ns nd c.args.s c.args.lines c.args.first c.args.c) (add-one k) in
-    let b = ap bit c.held.ensures in (
-      omega arith,
-      ⊎_elim (λ w. (omega (arith, e, b, ap bit w.0.taken), omega arith))
-          (λ w. (omega (arith, e, b, ap bit w.0.left), omega arith)) c.if-held.branch,
-    )
+    let b = ap bit c.held.ensures in
+    let next : (c.if-held.sum ≡ lent_stock ns nd c.args.s c.args.lines c.args.first c.args.c (k + 1)) × (c.if-held.sum ≤ k + 1) =
+    elim c.if-held.branch [
+      | then-held w ↦ (omega (arith, e, b, ap bit w.if-held.true), omega arith)
+      | else-held w ↦ (omega (arith, e, b, ap bit w.if-held.false), omega arith)
+    ]
+    in
+    (omega arith, next)
 
 pub returns : goal.returns
 returns c =
