@@ -344,8 +344,8 @@ class Turn:
                     return m[1] + "." + ".".join([label] + rest) if label else x[0]
                 text = re.sub(rf"(?<![^\s(,\[]){re.escape(m[1])}((?:\.\d)+)", of, text)
         # a test `!x` tells of x itself
-        text = re.sub(r"\(not-(?:true|false) _ ([^\s(),]+\.if-not-[^\s(),.]+\.(?:true|false))\)", r"\1", text)
-        text = re.sub(r"not-(?:true|false) _ ([^\s(),]+\.if-not-[^\s(),.]+\.(?:true|false))(?=[\s),;]|$)", r"\1", text)
+        text = re.sub(r"\(not-(?:true|false) [^\s()]+ ([^\s(),]+\.if-not-[^\s(),.]+\.(?:true|false))\)", r"\1", text)
+        text = re.sub(r"not-(?:true|false) [^\s()]+ ([^\s(),]+\.if-not-[^\s(),.]+\.(?:true|false))(?=[\s),;]|$)", r"\1", text)
         return text
 
 
