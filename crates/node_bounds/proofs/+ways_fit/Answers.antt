@@ -1,20 +1,8 @@
 -- A clause of the card, and the ways past it.
-use Prim.Native.Nat.{ℕ, ◌+◌, ◌<◌}
 use native.Mathlib.Omega.{arith}
-use mathlib.Core.Bool.{not}
-use mathlib.Core.Path.{ap, ◌≡◌, refl, sym, ◌∙◌}
-use mathlib.Core.Logic.{◌↔◌, ⊎_elim}
-use mathlib.Core.Bool.{Bool, true, false}
-use mathlib.Core.List.{List}
-use borrow.Author.Rules.{rules}
-use borrow.Author.Tests.{not-false, eqb-true, eq-eqb}
-use Rattle.card.specs.Format.{node_count, kind_at, left_at, right_at}
-use Rattle.card.specs.Fault.{clause_part}
-use Rattle.card.specs.Decode.{clause_of, scope_of}
-use Rattle.card.proofs.NodesDecoded.{reads_name, reads_rest}
-use Rattle.card.proofs.SoundNodes.{clause_lower, clause_kind, clause_above, recipe_parts, menu_parts, sound_recipe, sound_menu}
-use Rattle.bounds.proofs.WaysSmall.{clause_node, way_on}
-use Rattle.bounds.specs.Inner.Table.{TableHeld, Node, HeadFits, WaysFit, least_at, low_at, high_at}
+use mathlib.Core.Path.{sym, ◌∙◌}
+use Rattle.card.proofs.SoundNodes.{recipe_parts, menu_parts}
+use Rattle.bounds.proofs.WaysSmall.{way_on}
 use Rattle.node_bounds.proofs.ChecksDecide.{holds, unmet}
 use Rattle.node_bounds.proofs.WaysByKind.{below, node, part_lower, part_clause, name_ways, rest_ways, recipe_ways, menu_ways, menu_fails}
 use Rattle.node_bounds.proofs.+ways_fit.Goals as goal
@@ -101,7 +89,7 @@ ways_fit-requires-then-k-eq10 t c =
 pub returns-then-not-ways_fit : goal.returns-then-not-ways_fit
 returns-then-not-ways_fit t c =
     menu_fails c.requires.table_held c.args.i c.requires.i_value.0 _ _ _ _ (sym c.kind_at-k.ensures ∙ c.if-k-eq10.true)
-    c.left_part-d.ensures.0 (unmet c.ways_fit-then-k-eq10.ensures (ap not c.if-not-ways_fit.true))
+    c.left_part-d.ensures.0 (unmet c.ways_fit-then-k-eq10.ensures c.if-not-ways_fit.true)
 
 pub right_part-e-requires : goal.right_part-e-requires
 right_part-e-requires t c =

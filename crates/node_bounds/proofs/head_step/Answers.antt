@@ -1,7 +1,6 @@
 -- One case for each kind.
 use native.Mathlib.Omega.{arith}
 use mathlib.Core.Path.{sym, ◌∙◌, ap, ap₂}
-use borrow.Author.Rules.{rules}
 use Rattle.node_bounds.proofs.StepsByKind.{head_name, head_recipe, head_menu, head_none, same_above, same_not_above}
 use Rattle.bounds.specs.Inner.Table.{head_at, menu_code}
 use Rattle.node_bounds.proofs.head_step.Goals as goal

@@ -1,7 +1,6 @@
 -- One case for each kind.
 use Prim.Native.Nat.{max}
 use mathlib.Core.Path.{sym, ◌∙◌, ap, ap₂}
-use borrow.Author.Rules.{rules}
 use Rattle.node_bounds.proofs.StepsByKind.{high_one_of, high_never, max_small, zero_small, left_never}
 use Rattle.bounds.specs.Inner.Table.{high_at}
 use Rattle.node_bounds.proofs.high_choice.Goals as goal

@@ -1,6 +1,5 @@
 use native.Mathlib.Omega.{arith}
 use mathlib.Core.Path.{refl, sym, ◌∙◌}
-use borrow.Author.Rules.{rules}
 use Rattle.bounds.specs.Inner.Table.{if_recipe}
 use borrow.Author.Tests.{ne_eqb}
 use Rattle.node_bounds.proofs.if_recipe.Goals as goal

@@ -1,7 +1,6 @@
 -- One case for each kind.
 use Prim.Native.Nat.{◌+◌, min}
 use mathlib.Core.Path.{sym, ◌∙◌, ap, ap₂}
-use borrow.Author.Rules.{rules}
 use Rattle.node_bounds.proofs.StepsByKind.{least_one_of, least_never, least_menu, choice_small, zero_small, top_small, left_menu}
 use Rattle.bounds.specs.Inner.Table.{least_at}
 use Rattle.node_bounds.proofs.least_choice.Goals as goal

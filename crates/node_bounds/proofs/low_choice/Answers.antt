@@ -1,7 +1,6 @@
 -- One case for each kind.
 use Prim.Native.Nat.{min}
 use mathlib.Core.Path.{sym, ◌∙◌, ap, ap₂}
-use borrow.Author.Rules.{rules}
 use Rattle.node_bounds.proofs.StepsByKind.{low_one_of, low_never, low_menu, min_small, zero_small, top_small, left_menu}
 use Rattle.bounds.specs.Inner.Table.{low_at}
 use Rattle.node_bounds.proofs.low_choice.Goals as goal

@@ -1,5 +1,4 @@
 use native.Mathlib.Omega.{arith}
-use borrow.Author.Rules.{rules}
 use borrow.Author.Tests.{leb-true, le-leb}
 use Rattle.node_bounds.proofs.StepsByKind.{some_greatest}
 use Rattle.node_bounds.proofs.ChecksDecide.{holds, fails}

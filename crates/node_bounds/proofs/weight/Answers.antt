@@ -1,9 +1,7 @@
 use native.Mathlib.Omega.{arith}
 use mathlib.Core.Path.{refl, sym, ap₂, ◌∙◌}
-use borrow.Author.Rules.{rules}
 use Rattle.bounds.specs.Inner.Table.{takes_in, in_class}
 use Rattle.lines.specs.Count.{bit}
-use borrow.Author.Tests.{not-true, not-false}
 use Rattle.node_bounds.proofs.weight.Goals as goal
 
 pub returns-then-not-linear : goal.returns-then-not-linear
