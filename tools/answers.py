@@ -86,6 +86,25 @@ def label_path(labels, numbers):
         at += 1
 
 
+def clauses_left(labels, numbers, path, before):
+    """The tuple of the clauses that a path names together: all from the n-th on, where the numbers behind it are n times 1. Else None.
+    In a tactic's list, which the text before shows, they stand one by one."""
+    left = labels[len(numbers) :]
+    if len(labels) < 2 or len(left) < 2 or any(n != "1" for n in numbers):
+        return None
+    depth = 0
+    for i in range(len(before) - 1, -1, -1):
+        depth += (before[i] in ")]}") - (before[i] in "([{")
+        if depth < 0:
+            if before[i] == "(" and re.search(r"(?<![^\s(,])(omega|search|grind|cc) $", before[:i]):
+                return ", ".join(f"{path}.{label}" for label in left)
+            break
+    text = f"{path}.{left[-1]}"
+    for label in reversed(left[:-1]):
+        text = f"({path}.{label}, {text})"
+    return text
+
+
 # declarations of a proof file
 
 class Decl:
@@ -229,6 +248,7 @@ class Turn:
     made = None
     at = None  # the record that the present declaration takes
     cycle = False
+    text = None  # the crate's source, once read
 
     def __init__(self, crate, function, names, contracts):
         self.crate, self.function, self.names, self.contracts = crate, function, names, contracts
@@ -237,6 +257,24 @@ class Turn:
         self.left = []
         self.helpers = {}  # name -> old place of its first argument
         self.aliases = set()
+
+    def source(self):
+        """The crate's source."""
+        if self.text is None:
+            self.text = ""
+            for folder, _, files in os.walk(os.path.join("crates", self.crate, "src")):
+                self.text += "".join(read(os.path.join(folder, name)) for name in sorted(files) if name.endswith(".rt"))
+        return self.text
+
+    def behind_call(self, callee, fields):
+        """The fields behind a call, where .new goes by the callee's parameters."""
+        params = self.names.get("params", {}).get(callee)
+        n = 1
+        while n < len(fields) and fields[n] == "1":
+            n += 1
+        if params and n < len(fields) and fields[n] == "0" and n - 1 < len(params):
+            return ["new", params[n - 1]] + fields[n + 1 :]
+        return fields
 
     def body(self, text, place, variables=("c",)):
         """The text of a body at a place: paths at place variables are turned."""
@@ -311,6 +349,8 @@ class Turn:
                 first = new
                 if fields and fields[0] == "rest":
                     fields.insert(0, first + "-own")
+                if fields[:1] == ["new"]:
+                    fields = self.behind_call(callee, fields)
                 if fields and fields[0] == "ensures" and callee in self.contracts:
                     n = 1
                     while n < len(fields) and fields[n].isdigit():
@@ -318,6 +358,10 @@ class Turn:
                     label, rest_numbers = label_path(self.contracts[callee][1], fields[1:n])
                     if label:
                         fields = ["ensures", label] + rest_numbers + fields[n:]
+                    elif n > 1 and n == len(fields):
+                        several = clauses_left(self.contracts[callee][1], fields[1:n], f"{var}.{first}.ensures", m.string[: m.start()])
+                        if several:
+                            return several
             elif first == "requires" and self.cycle and fields[:1] == ["0"]:
                 first, fields = "decreases", fields[1:]
             elif first == "requires":
@@ -329,6 +373,10 @@ class Turn:
                 label, rest_numbers = label_path(self.own[0], fields[:n])
                 if label:
                     fields = [label] + rest_numbers + fields[n:]
+                elif n == len(fields) and (n > 0 or self.cycle and not re.search(r"= $", m.string[: m.start()])):
+                    several = clauses_left(self.own[0], fields[:n], f"{var}.requires", m.string[: m.start()])
+                    if several:
+                        return several
             elif norm(first) in FIELDS:
                 first = FIELDS[norm(first)]
             return ".".join([var, first] + fields)
@@ -343,9 +391,25 @@ class Turn:
                     label, rest = label_path(labels, x[1].strip(".").split("."))
                     return m[1] + "." + ".".join([label] + rest) if label else x[0]
                 text = re.sub(rf"(?<![^\s(,\[]){re.escape(m[1])}((?:\.\d)+)", of, text)
-        # a test `!x` tells of x itself
-        text = re.sub(r"\(not-(?:true|false) [^\s()]+ ([^\s(),]+\.if-not-[^\s(),.]+\.(?:true|false))\)", r"\1", text)
-        text = re.sub(r"not-(?:true|false) [^\s()]+ ([^\s(),]+\.if-not-[^\s(),.]+\.(?:true|false))(?=[\s),;]|$)", r"\1", text)
+        # a call that a `let` names
+        for m in list(re.finditer(rf"let ({WORD}) = c\.([^\s.]+) in\s", text)):
+            callee = by_new.get(m[2])
+            def behind(x):
+                fields = x[1].strip(".").split(".")
+                if fields[0] == "new":
+                    return ".".join([m[1]] + self.behind_call(callee, fields))
+                label, rest = label_path(self.contracts.get(callee, ([], []))[1], fields[1:])
+                return ".".join([m[1], "ensures", label] + rest) if label else x[0]
+            if callee:
+                text = re.sub(rf"(?<![^\s(,\[]){re.escape(m[1])}(\.(?:new|ensures)(?:\.\d)+)", behind, text)
+        # a test `!x` tells of x itself, and so does a test of `let y = !..`; a test `!x.f` does not
+        def plain(x):
+            word = re.search(r"\.if-(not-)?([^.]+)\.(?:true|false)$", x[1])
+            if re.search(rf"!{re.escape(word[2])}\.\w+(?![\w(])", self.source()) if word[1] else not re.search(rf"let {re.escape(word[2])} = !", self.source()):
+                return x[0]
+            return x[1]
+        text = re.sub(r"\(not-(?:true|false) _ ([^\s(),]+\.if-[^\s(),.]+\.(?:true|false))\)", plain, text)
+        text = re.sub(r"(?<!\()not-(?:true|false) _ ([^\s(),]+\.if-[^\s(),.]+\.(?:true|false))(?=[\s),;]|$)", plain, text)
         return text
 
 
@@ -432,7 +496,7 @@ def as_record(body, labels, own=()):
     lead, last = body[:at], body[at:].strip()
     if last == "c.requires" and len(own) == len(labels):
         return f"{lead} record {{ " + "; ".join(f"{l} = c.requires.{o}" for l, o in zip(labels, own)) + " }"
-    parts = pair_parts(last, labels)
+    parts = [last] * len(labels) if re.match(r"(omega|search|grind|cc)\b", last) else pair_parts(last, labels)
     if parts is None:
         m = re.match(r"(rw (?:\((?:[^()]|\((?:[^()]|\([^()]*\))*\))*\)|\S+)) ", last)
         inner = m and pair_parts(last[m.end() :], labels)
@@ -624,17 +688,21 @@ def turn_cycle(crate, folder, rel, names_all, contracts, commit, made):
     dotted = rel.replace("/", ".")
     module = f"Rattle.{crate}.proofs.{dotted}"
     old_path = path
-    old_text = subprocess.run(["git", "show", f"{commit}:{path}"], capture_output=True, text=True).stdout
-    if not old_text:
-        listed = subprocess.run(["git", "ls-tree", "-r", "--name-only", commit, f"crates/{crate}/proofs"], capture_output=True, text=True).stdout
-        files = [f for f in listed.split("\n") if "/+" in f and "+".join(sorted(f.split("/")[-2].strip("+").split("+"))) and f.endswith("Proof.antt")]
-        wanted = {norm(x) for x in names_all if f".{cycle}." in x}
-        old_text = "".join(subprocess.run(["git", "show", f"{commit}:{f}"], capture_output=True, text=True).stdout for f in files)
     functions = {}
     for k in names_all:
         m = re.match(rf"Rattle-{crate}-proofs\.{re.escape(dotted)}\.Lts-(\S+)$", k)
         if m:
             functions[norm(m[1])] = (m[1], k)
+    old_text = subprocess.run(["git", "show", f"{commit}:{path}"], capture_output=True, text=True).stdout
+    if not old_text:
+        # the old folder was named after the cycle's functions
+        listed = subprocess.run(["git", "ls-tree", "-r", "--name-only", commit, f"crates/{crate}/proofs"], capture_output=True, text=True).stdout
+        for f in listed.split("\n"):
+            of = f.split("/")[-2] if f.endswith("/Proof.antt") else ""
+            if of.startswith("+") and {norm(x) for x in of.strip("+").split("+")} == set(functions):
+                old_text = subprocess.run(["git", "show", f"{commit}:{f}"], capture_output=True, text=True).stdout
+        if not old_text:
+            said.append(f"{path}: no old file of {sorted(functions)}")
     pattern = re.compile(r"^(?:pub )?(\S+) : \(t : ℕ\) → (\S+?)-lts ?\.Need-(\S+) ", re.M)
     old = pattern.findall(old_text)
     new = pattern.findall(text)
@@ -663,7 +731,12 @@ def turn_cycle(crate, folder, rel, names_all, contracts, commit, made):
             rest = re.sub(r"(?<![\w.])a((?:\.1)*)\.0(?=[.\s)]|$)", lambda x: f"l.{params[x[1].count('1')]}", rest)
             measures.append(f"abbrev pub decreases-{name} : goal.decreases-{name}\ndecreases-{name} l ={rest}")
             continue
-        if re.match(r"abbrev (\S+-(at|below)|callees) : ", sig) or re.match(r"pub \+", sig):
+        m = re.match(r"abbrev \S+ : (\S+?)-lts\.(invariant|decreases)-", sig)
+        if m and norm(m[1]) in turns:
+            turn = turns[norm(m[1])]
+            measures.append(turn_invariant(d, turn.names, turn, said, path))
+            continue
+        if re.match(r"abbrev \S+ : (\(t : ℕ\) → |ℕ → )?(In \d+ |\S+[-_]lts\.Claims$)", sig) or re.match(r"pub \+", sig):
             continue
         if d.name in need_of:
             f, need = need_of[d.name]
@@ -681,7 +754,7 @@ def turn_cycle(crate, folder, rel, names_all, contracts, commit, made):
             if need not in goal_of:
                 said.append(f"{path}: {f}: no new name for {need}")
                 continue
-            goal = ("" if len(functions) == 1 else functions[f][0] + "-") + goal_of[need]
+            goal = names.get("stem", "") + goal_of[need]
             place = place_of[need]
             out = d.lines[: d.head] + [f"pub {goal} : goal.{goal}"]
             body = []
@@ -750,13 +823,14 @@ def published(d):
 def turn_invariant(d, names, turn, said, path):
     """An invariant or a measure, over the live variables: all of them as the loop begins, and then those that change as they are."""
     lines = d.lines[d.head :]
-    m = re.match(r"abbrev (?:pub )?(\S+) : tie\.(\S+)", lines[0])
+    m = re.match(r"abbrev (?:pub )?(\S+) : (?:tie|\S+?-lts)\.(\S+)", lines[0])
     kind, _, old = m[2].partition("-")
     loops = {norm(l[0][0]): (l[0][1], l[1], c) for l, c in zip(names["loops"], names["changed"])}
     if norm(old) not in loops:
         said.append(f"{path}: no loop {old}: {sorted(loops)}")
         return d.text()
     new, variables, changed = loops[norm(old)]
+    new = names.get("stem", "") + new
     body = "\n".join(lines[1:])
     head, _, rest = body.partition("=")
     arguments = head.split()[1:]
