@@ -55,43 +55,43 @@ use borrow.Fn.Kinds.{In}
 use borrow.Fn.PlainCycle.{Measures, is, falls, and}
 use Rattle.engine.proofs.behind.Reads as behind
 use Rattle.engine.proofs.behind.Kinds as behind-kinds
-use Rattle.engine.proofs.+behind_both_ways_choose_enter_last_lent_need_one_of_others_part_side_solve_use_clause.Lts-behind as behind-lts
+use Rattle.engine.proofs.+engine_search.Lts-behind as behind-lts
 use Rattle.engine.proofs.both_ways.Reads as both_ways
 use Rattle.engine.proofs.both_ways.Kinds as both-ways-kinds
-use Rattle.engine.proofs.+behind_both_ways_choose_enter_last_lent_need_one_of_others_part_side_solve_use_clause.Lts-both_ways as both-ways-lts
+use Rattle.engine.proofs.+engine_search.Lts-both_ways as both-ways-lts
 use Rattle.engine.proofs.choose.Reads as choose
 use Rattle.engine.proofs.choose.Kinds as choose-kinds
-use Rattle.engine.proofs.+behind_both_ways_choose_enter_last_lent_need_one_of_others_part_side_solve_use_clause.Lts-choose as choose-lts
+use Rattle.engine.proofs.+engine_search.Lts-choose as choose-lts
 use Rattle.engine.proofs.enter.Reads as enter
 use Rattle.engine.proofs.enter.Kinds as enter-kinds
-use Rattle.engine.proofs.+behind_both_ways_choose_enter_last_lent_need_one_of_others_part_side_solve_use_clause.Lts-enter as enter-lts
+use Rattle.engine.proofs.+engine_search.Lts-enter as enter-lts
 use Rattle.engine.proofs.last.Reads as last
 use Rattle.engine.proofs.last.Kinds as last-kinds
-use Rattle.engine.proofs.+behind_both_ways_choose_enter_last_lent_need_one_of_others_part_side_solve_use_clause.Lts-last as last-lts
+use Rattle.engine.proofs.+engine_search.Lts-last as last-lts
 use Rattle.engine.proofs.lent.Reads as lent
 use Rattle.engine.proofs.lent.Kinds as lent-kinds
-use Rattle.engine.proofs.+behind_both_ways_choose_enter_last_lent_need_one_of_others_part_side_solve_use_clause.Lts-lent as lent-lts
+use Rattle.engine.proofs.+engine_search.Lts-lent as lent-lts
 use Rattle.engine.proofs.need.Reads as goal
 use Rattle.engine.proofs.need.Kinds as need-kinds
-use Rattle.engine.proofs.+behind_both_ways_choose_enter_last_lent_need_one_of_others_part_side_solve_use_clause.Lts-need as need-lts
+use Rattle.engine.proofs.+engine_search.Lts-need as need-lts
 use Rattle.engine.proofs.one_of.Reads as one_of_lem
 use Rattle.engine.proofs.one_of.Kinds as one-of-kinds
-use Rattle.engine.proofs.+behind_both_ways_choose_enter_last_lent_need_one_of_others_part_side_solve_use_clause.Lts-one_of as one-of-lts
+use Rattle.engine.proofs.+engine_search.Lts-one_of as one-of-lts
 use Rattle.engine.proofs.others.Reads as others
 use Rattle.engine.proofs.others.Kinds as others-kinds
-use Rattle.engine.proofs.+behind_both_ways_choose_enter_last_lent_need_one_of_others_part_side_solve_use_clause.Lts-others as others-lts
+use Rattle.engine.proofs.+engine_search.Lts-others as others-lts
 use Rattle.engine.proofs.part.Reads as part
 use Rattle.engine.proofs.part.Kinds as part-kinds
-use Rattle.engine.proofs.+behind_both_ways_choose_enter_last_lent_need_one_of_others_part_side_solve_use_clause.Lts-part as part-lts
+use Rattle.engine.proofs.+engine_search.Lts-part as part-lts
 use Rattle.engine.proofs.side.Reads as side
 use Rattle.engine.proofs.side.Kinds as side-kinds
-use Rattle.engine.proofs.+behind_both_ways_choose_enter_last_lent_need_one_of_others_part_side_solve_use_clause.Lts-side as side-lts
+use Rattle.engine.proofs.+engine_search.Lts-side as side-lts
 use Rattle.engine.proofs.solve.Reads as solve
 use Rattle.engine.proofs.solve.Kinds as solve-kinds
-use Rattle.engine.proofs.+behind_both_ways_choose_enter_last_lent_need_one_of_others_part_side_solve_use_clause.Lts-solve as solve-lts
+use Rattle.engine.proofs.+engine_search.Lts-solve as solve-lts
 use Rattle.engine.proofs.use_clause.Reads as use-clause
 use Rattle.engine.proofs.use_clause.Kinds as use-clause-kinds
-use Rattle.engine.proofs.+behind_both_ways_choose_enter_last_lent_need_one_of_others_part_side_solve_use_clause.Lts-use_clause as use-clause-lts
+use Rattle.engine.proofs.+engine_search.Lts-use_clause as use-clause-lts
 use Rattle.branch.proofs.Branch.chose.Reads as chose-reads
 use Rattle.branch.proofs.Branch.closed.Reads as closed-reads
 use Rattle.branch.proofs.Branch.dropped.Reads as dropped-reads
@@ -132,10 +132,10 @@ use Rattle.segment.proofs.tasks.node.Reads as node-reads
 use Rattle.segment.proofs.tasks.push.Reads as push-reads
 use Rattle.segment.proofs.tasks.put.Reads as tasks-put-reads
 use Rattle.segment.proofs.tasks.unwind.Reads as unwind-reads
-use Rattle.engine.proofs.+behind_both_ways_choose_enter_last_lent_need_one_of_others_part_side_solve_use_clause.{
+use Rattle.engine.proofs.+engine_search.{
   statement,
 }
-use Rattle.engine.proofs.+behind_both_ways_choose_enter_last_lent_need_one_of_others_part_side_solve_use_clause.Tie.{
+use Rattle.engine.proofs.+engine_search.Tie.{
   close,
 }
 
