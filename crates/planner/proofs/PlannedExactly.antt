@@ -26,7 +26,7 @@ use Rattle.planning.specs.Plan.{room_for_any, NeverShort, PlanDecided, is_planne
 
 -- The first list is the only one.
 before_apart : {l m n k : List ℕ} → Before l m → Before n k → l ≡ k → m ≡ n → ⊥
-before_apart (here {x} {y} p) (here {z} {w} q) e f = let a : x ≡ w = cc in let b : y ≡ z = cc in omega arith
+before_apart (here {x} {y} p) (here {x = z} {y = w} q) e f = let a : x ≡ w = cc in let b : y ≡ z = cc in omega arith
 before_apart (here {x} {y} p) (there {x = z} q) e f = let a : x ≡ z = cc in let b : y ≡ z = cc in omega arith
 before_apart (there {x = z} p) (here {x} {y} q) e f = let a : z ≡ y = cc in let b : z ≡ x = cc in omega arith
 before_apart (there {x = z} {l = l} {m = m} p) (there {x = w} {l = n} {m = k} q) e f =
