@@ -8,12 +8,12 @@ use mathlib.Core.Bool.{Bool, true, false, cond, not, ◌||◌, ◌&&◌, false�
 use mathlib.Core.List.{List, [], ◌∷◌, ◌++◌, append-nil, head-eq_of_cons-eq, tail-eq_of_cons-eq}
 use lib.ListN.{length, length-append}
 use Rattle.calculus.specs.Formula.{Goal, Clause, atomᴳ, topᴳ, with, oplus, lolliᴳ, usable}
-use Rattle.calculus.specs.Items.{Items, ∅, ◌∪◌, ◌∩◌, ◌∖◌, only, Empty, Within}
+use Rattle.calculus.specs.Items.{Items, ◌∪◌, ◌∩◌, ◌∖◌, only, Empty, Within}
 use Rattle.calculus.specs.Derivation.{Scope, Entry, size, clause_at, linear_at, residual_at, lend}
 use Rattle.calculus.specs.Steps.{left_choice, right_choice, Before, here, there}
 use Rattle.calculus.specs.Inner.Summary.{Without, spare, Covers, Sum, sum_⊸, Bounded}
-use Rattle.calculus.proofs.SetLaws.{all_used, spare_lend, within_covers, within_trans, empty_∅, empty_within, ∪_joins, join_left, join_right, only_without, only_plus}
-use Rattle.calculus.proofs.SetLaws.{table, ◌≐◌, ◌⟹◌, ◌⊑◌, ∪_swap, ∖_spread, ∖_gather, lent_within, lent_covers, lent_used}
+use Rattle.calculus.proofs.SetLaws.{all_used, spare_lend, within_covers, within_trans, empty_within, ∪_joins, join_left, only_without, only_plus}
+use Rattle.calculus.proofs.SetLaws.{table, ◌⟹◌, ◌⊑◌, ∪_swap, ∖_spread, ∖_gather, lent_within, lent_covers, lent_used}
 use Rattle.calculus.proofs.SetLaws.{relend_within, relend_covers, used_out, used_within, used_covers, before_use_at}
 use Rattle.calculus.proofs.SetLaws.{before_use_within, before_use_covers}
 use Rattle.calculus.proofs.SummaryExact.{bounded_within, fresh}

@@ -1,7 +1,7 @@
 -- Small cases of Figure 1, straight from the definitions: each falls if a rule is changed (see must-fail/).
 use Prim.Native.Nat.{ℕ, zero, suc}
 use mathlib.Core.Path.{◌≡◌, refl}
-use mathlib.Core.Bool.{Bool, true, false, not, ◌&&◌, ◌||◌, true≢false, false≢true}
+use mathlib.Core.Bool.{Bool, true, false, not, ◌&&◌, true≢false, false≢true}
 use mathlib.Core.List.{List, [], ◌∷◌}
 use lib.Dec.{eqb}
 use Rattle.calculus.specs.Formula.{Goal, atomᴳ, oneᴳ, zeroᴳ, tensor, oplus, lolliᴳ, atomᴰ, lolliᴰ, withᴰ, matched, residual, usable}

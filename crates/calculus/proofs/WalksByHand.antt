@@ -1,7 +1,7 @@
 -- Small walks, computed: what each number of 02, #102, looks like, and how the choices of #103 are walked.
 use Prim.Native.Nat.{ℕ}
 use mathlib.Core.Path.{◌≡◌, refl}
-use mathlib.Core.Bool.{false, true, ◌&&◌, ◌||◌}
+use mathlib.Core.Bool.{false, true}
 use mathlib.Core.List.{List, [], ◌∷◌}
 use lib.Dec.{eqb}
 use Rattle.calculus.specs.Formula.{Clause, atomᴳ, oneᴳ, zeroᴳ, tensor, oplus, lolliᴳ, atomᴰ, lolliᴰ, withᴰ, usable}

@@ -1,14 +1,14 @@
 -- Laws of the tables: the scope that they stand for, and how it grows.
-use Prim.Native.Nat.{ℕ, zero, suc, ◌+◌, ◌<◌, ◌≤◌}
+use Prim.Native.Nat.{ℕ, zero, suc, ◌<◌, ◌≤◌}
 use native.Mathlib.Nat.{eq-or-lt_of_le}
 use native.Mathlib.Omega.{arith}
 use mathlib.Core.Path.{◌≡◌, refl, sym, ◌∙◌, ap, ap₂}
 use mathlib.Core.Logic.{⊎_elim}
 use mathlib.Core.Bool.{Bool, true, false}
 use mathlib.Core.List.{List, [], ◌∷◌, ◌++◌}
-use lib.ListN.{length, get_or, take, set, length-set, get_or-eq_default}
+use lib.ListN.{length, get_or, take, set, length-set}
 use lib.Seq.{get_or-take, get_or-set_same, get_or-set_other, take-set-le, take-take}
-use Rattle.calculus.specs.Derivation.{Entry, no_entry, Scope, size, entry_at, clause_at, linear_at, extend, lend}
+use Rattle.calculus.specs.Derivation.{Entry, no_entry, size, entry_at, clause_at, linear_at, extend, lend}
 use Rattle.card.specs.Format.{rule_count, line_count, node_count, listing}
 use Rattle.card.specs.Fault.{clause_part}
 use Rattle.card.specs.Decode.{clause_of, rule_entry, line_entry, scope_of, job_of}

@@ -1,5 +1,5 @@
 -- What a search seeks at an agenda, and what it may say: that there is no such list, or which is the least.
-use Rattle.std.specs.Prelude.{ℕ, suc, ◌-◌, ◌+◌, ◌≤◌, ◌≡◌, ◌⊎◌, Bool, true, false, cond, List, [], ◌∷◌, ◌++◌, length}
+use Rattle.std.specs.Prelude.{ℕ, ◌-◌, ◌+◌, ◌≤◌, ◌≡◌, ◌⊎◌, Bool, true, false, cond, List, [], ◌∷◌, ◌++◌, length}
 use Rattle.calculus.specs.Formula.{atomᴳ}
 use Rattle.calculus.specs.Items.{Items, ∅, ◌∪◌, ◌∩◌, ◌∖◌, only, Within}
 use Rattle.calculus.specs.Derivation.{Scope, size, linear_at}

@@ -1,5 +1,4 @@
 use mathlib.Core.Path.{refl}
-use mathlib.Core.Bool.{true, false}
 use Rattle.branch.specs.Inner.Values.{flag_of}
 use Rattle.branch.proofs.flag.Goals as goal
 

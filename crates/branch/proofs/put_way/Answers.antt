@@ -1,16 +1,15 @@
 -- The words say the way again.
 use Prim.Native.Nat.{ℕ}
-use mathlib.Core.Path.{◌≡◌, refl, ◌∙◌, ap}
+use mathlib.Core.Path.{◌≡◌, refl, ap}
 use mathlib.Core.Bool.{Bool, true, false}
 use lib.Dec.{eqb}
-use borrow.Author.Rules.{rules}
 use Rattle.branch.specs.Inner.Values.{flag_of, way_in}
 use Rattle.branch.proofs.put_way.Goals as goal
 
-flag-back : (b : Bool) (n : ℕ) → n ≡ flag_of b → eqb n 1 ≡ b
+flag_back : (b : Bool) (n : ℕ) → n ≡ flag_of b → eqb n 1 ≡ b
 unfolding flag_of
-flag-back true n e = ap (λ m. eqb m 1) e
-flag-back false n e = ap (λ m. eqb m 1) e
+flag_back true n e = ap (λ m. eqb m 1) e
+flag_back false n e = ap (λ m. eqb m 1) e
 
 pub returns : goal.returns
 unfolding way_in
@@ -20,8 +19,8 @@ returns c =
         at = w.at;
         used = w.used;
         seen = w.seen;
-        slack = flag-back w.slack _ c.flag.ensures i;
-        kept = flag-back w.kept _ c.flag-2.ensures i;
+        slack = flag_back w.slack _ c.flag.ensures i;
+        kept = flag_back w.kept _ c.flag-2.ensures i;
       },
       refl,
     )

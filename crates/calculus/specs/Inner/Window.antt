@@ -1,6 +1,6 @@
 -- Windows: strict items must be taken, lax items may be (RM3 of 000).
-use Rattle.std.specs.Prelude.{ℕ, ◌≡◌, Bool, true, false, cond, List}
-use Rattle.calculus.specs.Formula.{Goal, with}
+use Rattle.std.specs.Prelude.{ℕ, Bool, false, cond, List}
+use Rattle.calculus.specs.Formula.{Goal}
 use Rattle.calculus.specs.Items.{Items, ◌∪◌, ◌∖◌, Within}
 use Rattle.calculus.specs.Derivation.{Scope}
 use Rattle.calculus.specs.Inner.Summary.{spare, Covers, Sum, ByList}

@@ -131,8 +131,8 @@ behind-returns-in_default t c =
     let q = c.requires.part_next in
     let turn = c.loop-r.invariant.0 in
     let large = c.loop-r.invariant.1.1 in
-    let same-agenda = agenda_same q c.node-goal.ensures c.nest-n.ensures in
-    let R = searched_at c.lead.ensures.value c.part-r.ensures.alone in record { solving = searched_as (same-agenda) (behind_unsolved _ _ turn _ R (unsolved _ c.in_default.not-Solved _)); stays = stays_back large c.part-r.ensures.stays }
+    let same_agenda = agenda_same q c.node-goal.ensures c.nest-n.ensures in
+    let R = searched_at c.lead.ensures.value c.part-r.ensures.alone in record { solving = searched_as (same_agenda) (behind_unsolved _ _ turn _ R (unsolved _ c.in_default.not-Solved _)); stays = stays_back large c.part-r.ensures.stays }
 
 pub behind-way_in-w-requires : goal.behind-way_in-w-requires
 behind-way_in-w-requires t c =
@@ -190,11 +190,11 @@ behind-returns-in-Solved-s t c =
     let turn = c.loop-r.invariant.0 in
     let large = c.loop-r.invariant.1.1 in
     let large₂ = large_on large c.part-r.ensures.stays in
-    let same-agenda = agenda_same q c.node-goal.ensures c.nest-n.ensures in
+    let same_agenda = agenda_same q c.node-goal.ensures c.nest-n.ensures in
     let R = searched_at c.lead.ensures.value c.part-r.ensures.alone in
     let solved = solved_said c.in-Solved.is _ ∙ ap Solved (sym c.way_in-w.ensures) in
     let Q₁ = rest_told _ _ turn _ R _ solved _ _ _ c.past-h.ensures c.past_tensor.ensures.value c.solve-s.ensures.solving in
-    let done = behind_solved _ _ turn _ R _ solved _ Q₁ _ (solved_said c.in-Solved-s.is _) in record { solving = rw (c.follow.ensures.way_after, c.both.ensures) (searched_as (same-agenda) done); stays = stays_from large₂ c.solve-s.ensures.stays _ c.follow.ensures.way_len (weary_solved _) }
+    let done = behind_solved _ _ turn _ R _ solved _ Q₁ _ (solved_said c.in-Solved-s.is _) in record { solving = rw (c.follow.ensures.way_after, c.both.ensures) (searched_as (same_agenda) done); stays = stays_from large₂ c.solve-s.ensures.stays _ c.follow.ensures.way_len (weary_solved _) }
 
 pub behind-shape_of-codes-then-w-b : goal.behind-shape_of-codes-then-w-b
 behind-shape_of-codes-then-w-b t c =
@@ -215,11 +215,11 @@ behind-returns-then-w-b t c =
     let turn = c.loop-r.invariant.0 in
     let large = c.loop-r.invariant.1.1 in
     let large₂ = large_on large c.part-r.ensures.stays in
-    let same-agenda = agenda_same q c.node-goal.ensures c.nest-n.ensures in
+    let same_agenda = agenda_same q c.node-goal.ensures c.nest-n.ensures in
     let R = searched_at c.lead.ensures.value c.part-r.ensures.alone in
     let solved = solved_said c.in-Solved.is _ ∙ ap Solved (sym c.way_in-w.ensures) in
     let Q₁ = rest_told _ _ turn _ R _ solved _ _ _ c.past-h.ensures c.past_tensor.ensures.value c.solve-s.ensures.solving in record {
-      solving = searched_as (same-agenda) (behind_nosteps _ _ turn _ R _ solved _ Q₁ (stuck_said c.in-Stuck.is _)
+      solving = searched_as (same_agenda) (behind_nosteps _ _ turn _ R _ solved _ Q₁ (stuck_said c.in-Stuck.is _)
           c.if-w-b.true);
       stays = stays_from large₂ c.solve-s.ensures.stays _ c.solve-s.ensures.stays.way_room (weary_stuck _);
     }
@@ -276,10 +276,10 @@ behind-returns-in-Tired t c =
     let turn = c.loop-r.invariant.0 in
     let large = c.loop-r.invariant.1.1 in
     let large₂ = large_on large c.part-r.ensures.stays in
-    let same-agenda = agenda_same q c.node-goal.ensures c.nest-n.ensures in
+    let same_agenda = agenda_same q c.node-goal.ensures c.nest-n.ensures in
     let R = searched_at c.lead.ensures.value c.part-r.ensures.alone in
     let solved = solved_said c.in-Solved.is _ ∙ ap Solved (sym c.way_in-w.ensures) in
-    let Q₁ = rest_told _ _ turn _ R _ solved _ _ _ c.past-h.ensures c.past_tensor.ensures.value c.solve-s.ensures.solving in record { solving = searched_as (same-agenda) (behind_tired _ _ turn _ R _ solved _ Q₁); stays = stays_tired c.in-Tired.is large₂ c.solve-s.ensures.stays }
+    let Q₁ = rest_told _ _ turn _ R _ solved _ _ _ c.past-h.ensures c.past_tensor.ensures.value c.solve-s.ensures.solving in record { solving = searched_as (same_agenda) (behind_tired _ _ turn _ R _ solved _ Q₁); stays = stays_tired c.in-Tired.is large₂ c.solve-s.ensures.stays }
 
 pub both_ways-loop-first-init : goal.both_ways-loop-first-init
 both_ways-loop-first-init t c =
@@ -753,11 +753,11 @@ last-returns t c =
     let solved = solved_said c.in-Solved.is _ ∙ ap Solved (sym c.way_in-w.ensures) in record { alone = rw (c.put_way.ensures.0, c.joined.ensures) (own_solved _ (searched_at c.own.ensures.value c.part-r.ensures.alone) solved); stays = stays_from large_self c.part-r.ensures.stays _ c.put_way.ensures.1 (weary_solved _) }
 
 -- the prunings stay stocked past the entering
-opened-equipped : {bs waits tape nodes heads nodes' heads' agenda agenda' names table masks codes words way : List ℕ} {f : Floor} {goal n : ℕ}
+opened_equipped : {bs waits tape nodes heads nodes' heads' agenda agenda' names table masks codes words way : List ℕ} {f : Floor} {goal n : ℕ}
     {b d : Branch} → Ready bs waits tape nodes heads f b → GoalReady bs goal n b → Fresh b → kind_at bs goal ≡ 6
     → Equipped bs names table masks codes words way nodes b.count → InsideOpened bs nodes nodes' heads heads' agenda agenda' goal n b d
     → Equipped bs names table masks codes words way nodes' d.count
-opened-equipped rd gr fb kd eq (lends k en hd ea ec) =
+opened_equipped rd gr fb kd eq (lends k en hd ea ec) =
     equipped_at (ap (λ (x : Branch). x.count) ec)
     (equipped_lent eq (goal_low rd.sound gr) k (lent_count rd gr fb kd) rd.entered.node_room rd.scoped refl en)
 
@@ -778,7 +778,7 @@ lent-solve-r-requires t c =
     let number_is = c.decreases in
     let o = c.open-c.ensures in
     let asked = opened_asks rd gr fb kd (replicate 104 0) refl o in
-    (omega (arith, asked.0, number_is), (asked.1.0, (asked.1.1, (opened-equipped rd gr fb kd eq o, count_is_scan asked.1.0))))
+    (omega (arith, asked.0, number_is), (asked.1.0, (asked.1.1, (opened_equipped rd gr fb kd eq o, count_is_scan asked.1.0))))
 
 pub lent-shape_of-codes-in_default : goal.lent-shape_of-codes-in_default
 lent-shape_of-codes-in_default t c = c.solve-r.ensures.stays.code_same

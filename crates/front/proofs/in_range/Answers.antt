@@ -9,29 +9,29 @@ use Rattle.front.proofs.in_range.Tie as tie
 use Rattle.front.proofs.in_range.Goals as goal
 
 -- the card, where the first test has passed, then the second, the third and the fourth
-abbrev bs-1 : lts.Else1 tie.the-claims reads.Pre reads.Post → List ℕ
-bs-1 c = c.args.card.now
+abbrev bs_1 : lts.Else1 tie.the-claims reads.Pre reads.Post → List ℕ
+bs_1 c = c.args.card.now
 
-abbrev bs-2 : lts.Else2 tie.the-claims reads.Pre reads.Post → List ℕ
-bs-2 c = bs-1 c.before.before
+abbrev bs_2 : lts.Else2 tie.the-claims reads.Pre reads.Post → List ℕ
+bs_2 c = bs_1 c.before.before
 
-abbrev bs-3 : lts.Else3 tie.the-claims reads.Pre reads.Post → List ℕ
-bs-3 c = bs-2 c.before.before
+abbrev bs_3 : lts.Else3 tie.the-claims reads.Pre reads.Post → List ℕ
+bs_3 c = bs_2 c.before.before
 
-abbrev bs-4 : lts.Else4 tie.the-claims reads.Pre reads.Post → List ℕ
-bs-4 c = bs-3 c.before
+abbrev bs_4 : lts.Else4 tie.the-claims reads.Pre reads.Post → List ℕ
+bs_4 c = bs_3 c.before
 
 -- what each test says where it has passed
-rules : (c : lts.Else1 tie.the-claims reads.Pre reads.Post) → rule_count (bs-1 c) ≤ 64
+rules : (c : lts.Else1 tie.the-claims reads.Pre reads.Post) → rule_count (bs_1 c) ≤ 64
 rules c = omega (arith, c.if-p-gt64.false, c.byte-p.ensures.0)
 
-lines : (c : lts.Else2 tie.the-claims reads.Pre reads.Post) → line_count (bs-2 c) ≤ 64
+lines : (c : lts.Else2 tie.the-claims reads.Pre reads.Post) → line_count (bs_2 c) ≤ 64
 lines c = omega (arith, c.if-t-gt64.false, c.byte-t.ensures.0)
 
-some : (c : lts.Else3 tie.the-claims reads.Pre reads.Post) → 1 ≤ node_count (bs-3 c)
+some : (c : lts.Else3 tie.the-claims reads.Pre reads.Post) → 1 ≤ node_count (bs_3 c)
 some c = omega (arith, c.if-n-lt1.false, c.word-n.ensures.0)
 
-nodes : (c : lts.Else4 tie.the-claims reads.Pre reads.Post) → node_count (bs-4 c) ≤ 512
+nodes : (c : lts.Else4 tie.the-claims reads.Pre reads.Post) → node_count (bs_4 c) ≤ 512
 nodes c = omega (arith, c.if-n-gt512.false, c.word-n.ensures.0)
 
 pub byte-p-requires : goal.byte-p-requires

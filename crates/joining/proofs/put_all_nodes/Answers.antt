@@ -48,7 +48,7 @@ returns c =
     let l = length_moved_nodes 0 first in
     let r = length_moved_nodes (node_count first) second in
     let both = length-append (moved_nodes 0 first) (moved_nodes (node_count first) second) in
-    let nodes-put = written_behind c.put_nodes.ensures (11 + 5 * node_count first) (omega (arith, l)) (omega (arith, room))
+    let nodes_put = written_behind c.put_nodes.ensures (11 + 5 * node_count first) (omega (arith, l)) (omega (arith, room))
     (rw n at c.put_nodes-2.ensures) in
-    written_behind nodes-put (11 + 5 * node_count first + 5 * node_count second) (omega (arith, both, l, r)) (omega (arith, room))
+    written_behind nodes_put (11 + 5 * node_count first + 5 * node_count second) (omega (arith, both, l, r)) (omega (arith, room))
     (rw (n, m) at c.put_both.ensures)

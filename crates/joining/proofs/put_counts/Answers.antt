@@ -49,7 +49,7 @@ pub returns : goal.returns
 returns c =
     let s = c.args in
     let room = c.requires.in_bounds in
-    let one-put = one_written s.out.now 2 1 (omega (arith, room)) in
-    let rules-put = written_byte one-put 3 (joined_rules s.first.now s.second.now) refl (omega (arith, room)) in
+    let one_put = one_written s.out.now 2 1 (omega (arith, room)) in
+    let rules_put = written_byte one_put 3 (joined_rules s.first.now s.second.now) refl (omega (arith, room)) in
     rw (c.byte.ensures.0, c.byte-2.ensures.0, c.byte-3.ensures.0, c.byte-4.ensures.0)
-    (written_byte rules-put 4 (joined_lines s.first.now s.second.now) refl (omega (arith, room)))
+    (written_byte rules_put 4 (joined_lines s.first.now s.second.now) refl (omega (arith, room)))

@@ -10,14 +10,14 @@ use Rattle.joining.proofs.put_joined.Tie as tie
 use Rattle.joining.proofs.put_joined.Goals as goal
 
 -- the joined N and P
-nodes-read : (c : lts.After-byte2 tie.the-claims reads.Pre reads.Post tie.handed_clauses) →
+nodes_read : (c : lts.After-byte2 tie.the-claims reads.Pre reads.Post tie.handed_clauses) →
     c.word.result + c.word-2.result + 1
     ≡ joined_nodes c.args.first.now c.args.second.now
-nodes-read c = omega (arith, c.word.ensures.0, c.word-2.ensures.0)
+nodes_read c = omega (arith, c.word.ensures.0, c.word-2.ensures.0)
 
-rules-read : (c : lts.After-byte2 tie.the-claims reads.Pre reads.Post tie.handed_clauses) →
+rules_read : (c : lts.After-byte2 tie.the-claims reads.Pre reads.Post tie.handed_clauses) →
     c.byte.result + c.byte-2.result ≡ joined_rules c.args.first.now c.args.second.now
-rules-read c = omega (arith, c.byte.ensures.0, c.byte-2.ensures.0)
+rules_read c = omega (arith, c.byte.ensures.0, c.byte-2.ensures.0)
 
 pub word-requires : goal.word-requires
 word-requires c = omega (arith, front_here c.requires.sound)
@@ -35,7 +35,7 @@ pub put_all_nodes-requires : goal.put_all_nodes-requires
 put_all_nodes-requires c = record { sound = c.requires.sound; sound_2 = c.requires.sound_2; second_in_bounds = omega (arith, c.put_front.auto, c.requires.second_in_bounds) }
 
 pub put_all_rules-requires : goal.put_all_rules-requires
-put_all_rules-requires c = record { sound = c.requires.sound; sound_2 = c.requires.sound_2; second_in_bounds = omega (arith, nodes-read c.before.before.before.before.before.before.before.before.before.before, c.put_all_nodes.auto, c.put_front.auto, c.requires.second_in_bounds) }
+put_all_rules-requires c = record { sound = c.requires.sound; sound_2 = c.requires.sound_2; second_in_bounds = omega (arith, nodes_read c.before.before.before.before.before.before.before.before.before.before, c.put_all_nodes.auto, c.put_front.auto, c.requires.second_in_bounds) }
 
 pub overflow_mul-rules : goal.overflow_mul-rules
 overflow_mul-rules c = omega (arith, c.byte.ensures.1, c.byte-2.ensures.1)
@@ -46,8 +46,8 @@ overflow_add-at-2 c =
 
 pub put_all_lines-requires : goal.put_all_lines-requires
 put_all_lines-requires c =
-    let n = nodes-read c.before.before.before.before.before.before.before.before.before.before.before.before.before.before in
-    let p = rules-read c.before.before.before.before.before.before.before.before.before.before.before.before.before.before in record { sound = c.requires.sound; sound_2 = c.requires.sound_2; second_in_bounds = omega (arith, n, p, c.put_all_rules.auto, c.put_all_nodes.auto, c.put_front.auto, c.requires.second_in_bounds) }
+    let n = nodes_read c.before.before.before.before.before.before.before.before.before.before.before.before.before.before in
+    let p = rules_read c.before.before.before.before.before.before.before.before.before.before.before.before.before.before in record { sound = c.requires.sound; sound_2 = c.requires.sound_2; second_in_bounds = omega (arith, n, p, c.put_all_rules.auto, c.put_all_nodes.auto, c.put_front.auto, c.requires.second_in_bounds) }
 
 pub shape_of-out : goal.shape_of-out
 shape_of-out c =
@@ -56,5 +56,5 @@ shape_of-out c =
 pub returns : goal.returns
 returns c =
     card_written c.args.first.now c.args.second.now c.requires.second_in_bounds c.put_front.ensures
-    c.put_all_nodes.ensures (rw (nodes-read c.before.before.before.before.before.before.before.before.before.before.before.before.before.before.before.before.before) at c.put_all_rules.ensures)
-    (rw (nodes-read c.before.before.before.before.before.before.before.before.before.before.before.before.before.before.before.before.before, rules-read c.before.before.before.before.before.before.before.before.before.before.before.before.before.before.before.before.before) at c.put_all_lines.ensures)
+    c.put_all_nodes.ensures (rw (nodes_read c.before.before.before.before.before.before.before.before.before.before.before.before.before.before.before.before.before) at c.put_all_rules.ensures)
+    (rw (nodes_read c.before.before.before.before.before.before.before.before.before.before.before.before.before.before.before.before.before, rules_read c.before.before.before.before.before.before.before.before.before.before.before.before.before.before.before.before.before) at c.put_all_lines.ensures)

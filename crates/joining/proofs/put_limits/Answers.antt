@@ -8,6 +8,6 @@ pub returns : goal.returns
 returns c =
     let s = c.args in
     let room = c.requires.in_bounds in
-    let depth-put = one_written s.out.now 9 (joined_depth s.first.now s.second.now) (omega (arith, room)) in
+    let depth_put = one_written s.out.now 9 (joined_depth s.first.now s.second.now) (omega (arith, room)) in
     rw (c.depth.ensures, c.steps.ensures)
-    (written_byte depth-put 10 (joined_steps s.first.now s.second.now) refl (omega (arith, room)))
+    (written_byte depth_put 10 (joined_steps s.first.now s.second.now) refl (omega (arith, room)))

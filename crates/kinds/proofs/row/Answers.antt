@@ -2,7 +2,6 @@ use Prim.Native.Nat.{ℕ, ◌≤◌, ◌<◌}
 use native.Mathlib.Omega.{arith}
 use native.Mathlib.Decide.{dec_lt}
 use mathlib.Core.Path.{◌≡◌, sym, subst}
-use borrow.Author.Rules.{rules}
 use Rattle.kinds.specs.declared.Kind.{Kind as Row}
 use Rattle.card.specs.Kinds.{Kind, unknown, kinds, kind_of}
 use Rattle.card.specs.Fault.{given, is_goal, is_clause}
@@ -21,9 +20,9 @@ next k n h e = omega arith
 told : (k n : ℕ) {x : Row} → k ≡ n → Told x (kind_of n) → Told x (kind_of k)
 told k n {x} e p = subst (λ (m : ℕ). Told x (kind_of m)) (sym e) p
 
-not-told : (k : ℕ) (x : Row) → (1 ≤ k → 10 < k) → Told x unknown → Told x (kind_of k)
+not_told : (k : ℕ) (x : Row) → (1 ≤ k → 10 < k) → Told x unknown → Told x (kind_of k)
 unfolding kind_of kinds
-not-told k x n p = by_size (dec_lt 0 k)
+not_told k x n p = by_size (dec_lt 0 k)
   where
     by_size : Dec (0 < k) → Told x (kind_of k)
     by_size (yes h) = subst (Told x) (sym (past_last k (n h))) p
@@ -74,6 +73,6 @@ unfolding kind_of kinds is_goal is_clause given
 returns-in_default c =
     let none = c.in_default.in_default-own.rest in
     let k = c.args.k in
-    not-told k _
+    not_told k _
     (λ h. next k 10 (next k 9 (next k 8 (next k 7 (next k 6 (next k 5 (next k 4 (next k 3 (next k 2 (next k 1 h none.0.0.0.0.0.0.0.0.0.1) none.0.0.0.0.0.0.0.0.1) none.0.0.0.0.0.0.0.1) none.0.0.0.0.0.0.1) none.0.0.0.0.0.1) none.0.0.0.0.1) none.0.0.0.1) none.0.0.1) none.0.1) none.1)
     c.new-in_default.ensures

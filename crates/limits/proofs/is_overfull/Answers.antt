@@ -12,35 +12,35 @@ use Rattle.limits.proofs.is_overfull.Tie as tie
 use Rattle.limits.proofs.is_overfull.Goals as goal
 
 -- the front of both cards stands there
-first-front : (c : lts.Start tie.the-claims reads.Pre reads.Post tie.handed_clauses) → 11 ≤ length c.args.first.now
-first-front c = let f = sound_front c.args.first.now c.requires.sound in omega (arith, f.whole)
+first_front : (c : lts.Start tie.the-claims reads.Pre reads.Post tie.handed_clauses) → 11 ≤ length c.args.first.now
+first_front c = let f = sound_front c.args.first.now c.requires.sound in omega (arith, f.whole)
 
-second-front : (c : lts.Start tie.the-claims reads.Pre reads.Post tie.handed_clauses) → 11 ≤ length c.args.second.now
-second-front c = let f = sound_front c.args.second.now c.requires.sound_2 in omega (arith, f.whole)
+second_front : (c : lts.Start tie.the-claims reads.Pre reads.Post tie.handed_clauses) → 11 ≤ length c.args.second.now
+second_front c = let f = sound_front c.args.second.now c.requires.sound_2 in omega (arith, f.whole)
 
 pub byte-requires : goal.byte-requires
-byte-requires c = omega (arith, first-front c.before.before.before)
+byte-requires c = omega (arith, first_front c.before.before.before)
 
 pub byte-requires-2 : goal.byte-requires-2
-byte-requires-2 c = omega (arith, second-front c.before.before.before.before)
+byte-requires-2 c = omega (arith, second_front c.before.before.before.before)
 
 pub overflow_add-rules : goal.overflow_add-rules
 overflow_add-rules c = omega (arith, c.byte-2.ensures.1, c.byte.ensures.1)
 
 pub byte-requires-3 : goal.byte-requires-3
-byte-requires-3 c = omega (arith, first-front c.before.before.before.before.before)
+byte-requires-3 c = omega (arith, first_front c.before.before.before.before.before)
 
 pub byte-requires-4 : goal.byte-requires-4
-byte-requires-4 c = omega (arith, second-front c.before.before.before.before.before.before)
+byte-requires-4 c = omega (arith, second_front c.before.before.before.before.before.before)
 
 pub overflow_add-lines : goal.overflow_add-lines
 overflow_add-lines c = omega (arith, c.byte-4.ensures.1, c.byte-3.ensures.1)
 
 pub word-requires : goal.word-requires
-word-requires c = omega (arith, first-front c.before.before.before.before.before.before.before)
+word-requires c = omega (arith, first_front c.before.before.before.before.before.before.before)
 
 pub word-requires-2 : goal.word-requires-2
-word-requires-2 c = omega (arith, second-front c.before.before.before.before.before.before.before.before)
+word-requires-2 c = omega (arith, second_front c.before.before.before.before.before.before.before.before)
 
 pub overflow_add-nodes : goal.overflow_add-nodes
 overflow_add-nodes c = omega (arith, c.word-2.ensures.1, c.word.ensures.1)

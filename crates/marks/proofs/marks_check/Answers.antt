@@ -56,8 +56,8 @@ loop-i-smaller c = omega (arith, c.loop-i-test.true)
 pub loop-i-preserved : goal.loop-i-preserved
 loop-i-preserved c =
     let below : c.loop-i.i < line_count c.args.card.now = omega (arith, c.loop-i-test.true, c.byte-t.ensures.0) in
-    let sound-so-far = c.loop-i.invariant.1 in
-    (omega (arith, c.loop-i-test.true), passed_at _ _ sound-so-far c.in-Sound.is (fault c.args.sure c.args.marks.now _ c.requires.framed below c.byte-p.ensures.0 c.listed-used.ensures c.mark_check-mark.ensures))
+    let sound_so_far = c.loop-i.invariant.1 in
+    (omega (arith, c.loop-i-test.true), passed_at _ _ sound_so_far c.in-Sound.is (fault c.args.sure c.args.marks.now _ c.requires.framed below c.byte-p.ensures.0 c.listed-used.ensures c.mark_check-mark.ensures))
 
 pub returns : goal.returns
 unfolding told

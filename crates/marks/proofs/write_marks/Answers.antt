@@ -51,8 +51,8 @@ loop-i-preserved c =
     let gathered : Gathers (take s.k s.steps.now) (rule_count s.card.now) c.listed-used.result = rw c.byte-p.ensures.0 at c.listed-used.ensures in
     let more = listing_more (mark_of s.card.now (word_items s.card.now s.sure) (take s.k s.steps.now)) i s.marks.now (omega (arith, below, c.requires.card_in_bounds)) in
     let few : i < 64 = omega (arith, below, c.requires.framed.lines) in
-    let true-mark = c.mark.ensures ∙ mark_by_lem s.card.now gathered s.sure i few in
-    (omega (arith, c.loop-i-test.true), rw (c.loop-i.invariant.1, true-mark, add-one) more)
+    let true_mark = c.mark.ensures ∙ mark_by_lem s.card.now gathered s.sure i few in
+    (omega (arith, c.loop-i-test.true), rw (c.loop-i.invariant.1, true_mark, add-one) more)
 
 pub shape_of-marks : goal.shape_of-marks
 shape_of-marks c =

@@ -16,13 +16,13 @@ use Rattle.moved.proofs.put_moved.Tie as tie
 use Rattle.moved.proofs.put_moved.Goals as goal
 
 -- a shifted value has two bytes: a part is below its node
-shifted-low : (n i v : ℕ) (f : Field) → n ≤ 512 → i < 512 → v < 65536 → PartBelow i f v → shifted n f v < 65536
+shifted_low : (n i v : ℕ) (f : Field) → n ≤ 512 → i < 512 → v < 65536 → PartBelow i f v → shifted n f v < 65536
 unfolding shifted PartBelow
-shifted-low n i v Unused few below two p = two
-shifted-low n i v Name few below two p = two
-shifted-low n i v GoalPart few below two p = omega arith
-shifted-low n i v ClausePart few below two p = omega arith
-shifted-low n i v Unknown few below two p = two
+shifted_low n i v Unused few below two p = two
+shifted_low n i v Name few below two p = two
+shifted_low n i v GoalPart few below two p = omega arith
+shifted_low n i v ClausePart few below two p = omega arith
+shifted_low n i v Unknown few below two p = two
 
 -- the fields as they are written
 left_is : (c : lts.After-shift tie.the-claims reads.Pre reads.Post tie.handed_clauses) →
@@ -53,9 +53,9 @@ put_node-requires c =
     let k = kind_of (kind_at bs s.i) in
     let below : s.i < 512 = omega (arith, c.requires.i_bound, (sound_front bs c.requires.sound).few) in
     let built = sound_built c.requires.sound s.i c.requires.i_bound in record {
-      left_bound = rw (left_is c.before.before.before.before) (shifted-low s.n s.i (left_at bs s.i) k.left c.requires.n_bound below
+      left_bound = rw (left_is c.before.before.before.before) (shifted_low s.n s.i (left_at bs s.i) k.left c.requires.n_bound below
           (rw c.left.ensures.0 at c.left.ensures.1) (left_below bs s.i built));
-      right_bound = rw (right_is c.before.before) (shifted-low s.n s.i (right_at bs s.i) k.right c.requires.n_bound below
+      right_bound = rw (right_is c.before.before) (shifted_low s.n s.i (right_at bs s.i) k.right c.requires.n_bound below
           (rw c.right.ensures.0 at c.right.ensures.1) (right_below bs s.i built));
       at_in_bounds = c.requires.at_in_bounds;
     }

@@ -34,7 +34,7 @@ pub returns : goal.returns
 unfolding node_bytes word
 returns c =
     let s = c.args in
-    let kind-put = one_written s.out.now s.at s.kind (omega (arith, c.requires.at_in_bounds)) in
-    let left-put = written_behind kind-put (s.at + 1) refl (omega (arith, c.requires.at_in_bounds))
+    let kind_put = one_written s.out.now s.at s.kind (omega (arith, c.requires.at_in_bounds)) in
+    let left_put = written_behind kind_put (s.at + 1) refl (omega (arith, c.requires.at_in_bounds))
     c.put_word.ensures in
-    written_behind left-put (s.at + 3) (omega arith) (omega (arith, c.requires.at_in_bounds)) c.put_word-2.ensures
+    written_behind left_put (s.at + 3) (omega arith) (omega (arith, c.requires.at_in_bounds)) c.put_word-2.ensures

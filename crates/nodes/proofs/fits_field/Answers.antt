@@ -2,7 +2,6 @@ use Prim.Native.Nat.{ℕ}
 use mathlib.Core.Path.{◌≡◌, refl, sym, ap, ◌∙◌}
 use mathlib.Core.Bool.{Bool}
 use mathlib.Core.List.{List}
-use borrow.Author.Rules.{rules}
 use Rattle.card.specs.declared.kinds.Field.{Field}
 use Rattle.card.specs.Fault.{fits_field}
 use Rattle.nodes.proofs.fits_field.Goals as goal

@@ -1,8 +1,6 @@
 use native.Mathlib.Omega.{arith}
 use mathlib.Core.Path.{◌≡◌, sym, ◌∙◌, ap}
 use mathlib.Core.Bool.{true}
-use borrow.Author.Tests.{not-true, not-false}
-use borrow.Author.Rules.{rules}
 use Rattle.card.specs.Fault.{well_built}
 use Rattle.nodes.specs.declared.Built.TheVariants.{Height}
 use Rattle.nodes.proofs.NodesChecked.{faulty, too_high, as_high}

@@ -1,13 +1,13 @@
-use Prim.Native.Nat.{◌+◌, ◌-◌, ◌<◌, ◌≤◌}
+use Prim.Native.Nat.{◌+◌, ◌<◌, ◌≤◌}
 use native.Mathlib.Omega.{arith}
 use native.Mathlib.Numerals.{add-one}
 use mathlib.Core.Path.{◌≡◌, refl, sym, ◌∙◌}
-use lib.ListN.{length-set, length, take}
+use lib.ListN.{length-set}
 use Rattle.nodes.specs.declared.Built.TheVariants.{Faulty}
 use Rattle.nodes.specs.Inner.Nodes.{built_at}
 use Rattle.card.specs.Format.{node_count, grow}
-use Rattle.card.specs.Verdict.{first_of, sound, told, where_of}
-use Rattle.card.specs.Fault.{node_fault, height_step}
+use Rattle.card.specs.Verdict.{first_of, told, where_of}
+use Rattle.card.specs.Fault.{node_fault}
 use Rattle.nodes.proofs.NodesChecked.{fault_of, height_of, table_more}
 use Rattle.card.proofs.FaultsInOrder.{first_stops, first_goes}
 use Rattle.nodes.proofs.nodes_check.Lts as lts

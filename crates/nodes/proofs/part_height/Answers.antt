@@ -2,7 +2,6 @@ use Prim.Native.Nat.{ℕ, ◌<◌}
 use native.Mathlib.Omega.{arith}
 use mathlib.Core.Path.{◌≡◌, refl, sym, ap, ◌∙◌, subst}
 use mathlib.Core.List.{List}
-use borrow.Author.Rules.{rules}
 use Rattle.card.specs.declared.kinds.Field.{Field}
 use Rattle.card.specs.Fault.{part_height}
 use Rattle.card.specs.Inner.Checks.{PartBelow}

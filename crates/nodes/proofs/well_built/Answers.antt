@@ -1,7 +1,6 @@
 use native.Mathlib.Omega.{arith}
 use mathlib.Core.Path.{◌∙◌, ap, ap₂}
 use mathlib.Core.Bool.{◌&&◌}
-use borrow.Author.Rules.{rules}
 use Rattle.card.specs.Kinds.{kind_of}
 use Rattle.card.specs.Fault.{fits_field, well_built}
 use Rattle.nodes.proofs.well_built.Goals as goal

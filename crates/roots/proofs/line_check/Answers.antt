@@ -2,7 +2,6 @@
 use mathlib.Core.Path.{◌∙◌, ap, ap₂}
 use mathlib.Core.Bool.{not, ◌&&◌}
 use lib.Dec.{leb}
-use borrow.Author.Rules.{rules}
 use Rattle.card.specs.Verdict.{line, refuse, where_of}
 use Rattle.card.specs.Fault.{clause_part, line_fault, line_good}
 use Rattle.roots.proofs.line_check.Goals as goal

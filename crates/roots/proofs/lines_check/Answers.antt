@@ -1,10 +1,9 @@
 -- `lines_check` meets its contract: the lines before the present one have passed.
-use Prim.Native.Nat.{◌<◌, ◌≤◌, ◌-◌}
+use Prim.Native.Nat.{◌<◌}
 use native.Mathlib.Omega.{arith}
 use mathlib.Core.Path.{◌≡◌, refl, sym}
 use Rattle.card.specs.Format.{line_count}
-use Rattle.card.specs.Verdict.{first_of, sound, told}
-use Rattle.card.specs.Fault.{line_fault}
+use Rattle.card.specs.Verdict.{first_of, told}
 use Rattle.card.proofs.CardChecked.{refused_at, passed_at}
 use Rattle.roots.proofs.lines_check.Lts as lts
 use Rattle.roots.proofs.lines_check.Reads as reads
@@ -38,8 +37,8 @@ loop-i-smaller c = omega (arith, c.loop-i-test.true)
 
 pub loop-i-preserved : goal.loop-i-preserved
 loop-i-preserved c =
-    let sound-so-far = c.loop-i.invariant.1 in
-    (omega (arith, c.loop-i-test.true), passed_at _ _ sound-so-far c.in-Sound.is c.line_check-line.ensures)
+    let sound_so_far = c.loop-i.invariant.1 in
+    (omega (arith, c.loop-i-test.true), passed_at _ _ sound_so_far c.in-Sound.is c.line_check-line.ensures)
 
 pub returns : goal.returns
 unfolding told

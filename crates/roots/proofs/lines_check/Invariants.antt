@@ -1,10 +1,7 @@
-use Prim.Native.Nat.{◌<◌, ◌≤◌, ◌-◌}
-use native.Mathlib.Omega.{arith}
-use mathlib.Core.Path.{◌≡◌, refl, sym}
-use Rattle.card.specs.Format.{line_count}
-use Rattle.card.specs.Verdict.{first_of, sound, told}
+use Prim.Native.Nat.{◌≤◌, ◌-◌}
+use mathlib.Core.Path.{◌≡◌}
+use Rattle.card.specs.Verdict.{first_of, sound}
 use Rattle.card.specs.Fault.{line_fault}
-use Rattle.card.proofs.CardChecked.{refused_at, passed_at}
 use Rattle.roots.proofs.lines_check.Given as goal
 
 abbrev pub invariant-loop-i : goal.invariant-loop-i

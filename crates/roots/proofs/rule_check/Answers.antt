@@ -1,7 +1,6 @@
 -- `rule_check` meets its contract: 8 is told of a rule whose test fails.
 use mathlib.Core.Path.{◌∙◌, ap, ap₂}
 use mathlib.Core.Bool.{not}
-use borrow.Author.Rules.{rules}
 use Rattle.card.specs.Verdict.{rule, refuse, where_of}
 use Rattle.card.specs.Fault.{clause_part, rule_fault}
 use Rattle.roots.proofs.rule_check.Goals as goal

@@ -8,7 +8,6 @@ use Rattle.card.specs.Format.{kind_at, left_at, right_at}
 use Rattle.card.specs.Decode.{clause_of, scope_of}
 use Rattle.card.proofs.SoundNodes.{menu_parts, usable_menu, usable_name}
 use Rattle.scope.proofs.PartsOfClauses.{below, here, part_lower, part_clause, right_part, right_same, headless}
-use Prim.Native.Nat.{ℕ, ◌<◌}
 use Rattle.scope.proofs.+some_head.Goals as goal
 
 pub kind-k-requires : goal.kind-k-requires

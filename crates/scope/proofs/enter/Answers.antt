@@ -1,5 +1,5 @@
 -- The rules and the first i lines are entered.
-use Prim.Native.Nat.{suc, ◌+◌, ◌-◌, ◌≤◌}
+use Prim.Native.Nat.{suc, ◌+◌}
 use mathlib.Core.Path.{◌≡◌, sym, ap, ◌∙◌}
 use mathlib.Core.Bool.{true}
 use mathlib.Core.List.{List, [], ◌∷◌, ◌++◌, append-nil, append_assoc}
@@ -11,7 +11,6 @@ use Rattle.calculus.specs.Derivation.{Entry, Scope, extend}
 use Rattle.card.specs.Format.{rule_count, line_count, line_node, listing}
 use Rattle.card.specs.Decode.{rule_entry, line_entry}
 use Rattle.card.proofs.CardChecked.{sound_front}
-use Rattle.scope.specs.Inner.Tables.{table_scope, TableEntered}
 use Rattle.card.proofs.SoundNodes.{line_here, sound_line_node}
 use Rattle.scope.proofs.TablesAreScopes.{scope_more, job_scope, entered_more}
 use Rattle.scope.proofs.enter.Goals as goal

@@ -1,5 +1,4 @@
 -- The first i rules are entered.
-use Prim.Native.Nat.{◌-◌, ◌≤◌}
 use mathlib.Core.Path.{◌≡◌, refl, ap, ◌∙◌}
 use mathlib.Core.Bool.{false, false≢true}
 use mathlib.Core.List.{List, [], ◌∷◌, ◌++◌}
@@ -10,7 +9,7 @@ use Rattle.calculus.specs.Derivation.{Entry, Scope, extend}
 use Rattle.card.specs.Format.{rule_count, rule_node, listing}
 use Rattle.card.specs.Decode.{rule_entry}
 use Rattle.card.proofs.CardChecked.{sound_front}
-use Rattle.scope.specs.Inner.Tables.{table_scope, TableEntered}
+use Rattle.scope.specs.Inner.Tables.{table_scope}
 use Rattle.card.proofs.SoundNodes.{rule_here, sound_rule_node}
 use Rattle.scope.proofs.TablesAreScopes.{scope_more, entered_none, entered_more}
 use Rattle.scope.proofs.enter_rules.Goals as goal

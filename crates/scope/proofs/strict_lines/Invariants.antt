@@ -1,16 +1,7 @@
-use Prim.Native.Nat.{ℕ, suc, ◌-◌, ◌≤◌}
-use native.Mathlib.Numerals.{add-one}
-use native.Mathlib.Omega.{arith}
-use mathlib.Core.Path.{◌≡◌, refl, sym, ◌∙◌, ap}
-use mathlib.Core.Logic.{⊎_elim}
-use mathlib.Core.List.{List}
-use borrow.Author.Rules.{rules}
-use borrow.Author.Tests.{eq-eqb, ne_eqb}
-use Rattle.card.specs.Format.{line_count, line_byte}
-use Rattle.card.proofs.CardChecked.{sound_front}
-use Rattle.lines.specs.Set.{add_s}
-use Rattle.scope.specs.Inner.Sets.{strict_below, strict_of}
-use Rattle.card.proofs.SoundNodes.{line_here}
+use Prim.Native.Nat.{◌-◌, ◌≤◌}
+use mathlib.Core.Path.{◌≡◌}
+use Rattle.card.specs.Format.{line_count}
+use Rattle.scope.specs.Inner.Sets.{strict_below}
 use Rattle.scope.proofs.strict_lines.Given as goal
 
 abbrev pub invariant-loop-i : goal.invariant-loop-i

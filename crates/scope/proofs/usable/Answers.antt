@@ -1,12 +1,9 @@
 -- The node goes down the right parts of recipes: it stays a clause of the card and can be used for the same names.
 use mathlib.Core.Path.{◌≡◌, refl, sym, ◌∙◌, ap}
-use mathlib.Core.Bool.{true}
 use native.Mathlib.Omega.{arith}
 use lib.Dec.{eqb}
-use Rattle.calculus.specs.Formula.{usable}
-use Rattle.card.specs.Format.{node_count, kind_at}
-use Rattle.card.specs.Fault.{clause_part}
-use Rattle.card.specs.Decode.{clause_of, scope_of}
+use Rattle.card.specs.Format.{kind_at}
+use Rattle.card.specs.Decode.{scope_of}
 use Rattle.card.proofs.SoundNodes.{usable_name}
 use Rattle.scope.proofs.PartsOfClauses.{here, part_lower, part_clause, right_part, right_same, headless}
 use Rattle.scope.proofs.usable.Goals as goal

@@ -150,16 +150,16 @@ recipe-returns t c =
 pub use_clause-offset_bounds-nodes-e : goal.use_clause-offset_bounds-nodes-e
 use_clause-offset_bounds-nodes-e t c =
     let few = c.requires.walk_ready.few in
-    let in-it = c.requires.step_usable.inside in
+    let in_it = c.requires.step_usable.inside in
     let f = sound_front _ c.requires.walk_ready.sound in
-    omega (arith, few, in-it, f.rules, f.lines)
+    omega (arith, few, in_it, f.rules, f.lines)
 
 pub use_clause-bounds-nodes-e : goal.use_clause-bounds-nodes-e
 use_clause-bounds-nodes-e t c =
     let few = c.requires.walk_ready.few in
-    let in-it = c.requires.step_usable.inside in
+    let in_it = c.requires.step_usable.inside in
     let f = sound_front _ c.requires.walk_ready.sound in
-    omega (arith, few, in-it, f.rules, f.lines)
+    omega (arith, few, in_it, f.rules, f.lines)
 
 pub use_clause-overflow_cast-node : goal.use_clause-overflow_cast-node
 use_clause-overflow_cast-node t c =
@@ -170,9 +170,9 @@ use_clause-overflow_cast-node t c =
 pub use_clause-bounds-linear-e : goal.use_clause-bounds-linear-e
 use_clause-bounds-linear-e t c =
     let few = c.requires.walk_ready.few in
-    let in-it = c.requires.step_usable.inside in
+    let in_it = c.requires.step_usable.inside in
     let f = sound_front _ c.requires.walk_ready.sound in
-    omega (arith, few, in-it, f.rules, f.lines)
+    omega (arith, few, in_it, f.rules, f.lines)
 
 pub use_clause-stepped-requires : goal.use_clause-stepped-requires
 use_clause-stepped-requires t c =

@@ -1,7 +1,6 @@
 -- By the count: 0 exactly where no strict item is left.
-use mathlib.Core.Path.{◌≡◌, refl, ap}
-use mathlib.Core.Bool.{true, false}
-use Rattle.lines.specs.Set.{is_empty_s, Words}
+use mathlib.Core.Path.{refl, ap}
+use Rattle.lines.specs.Set.{Words}
 use Rattle.branch.specs.Inner.Values.{Solved, answer_in, Awake, closed_a}
 use Rattle.branch.proofs.CountsKept.{none_due, one_due}
 use borrow.Author.Rules.{rules}

@@ -1,6 +1,5 @@
 -- What `empty` and `join` answer, put together.
 use mathlib.Core.Path.{ap₂}
-use borrow.Author.Rules.{rules}
 use Rattle.branch.proofs.CountsKept.{kept, counted_freed}
 use Rattle.branch.proofs.Branch.freed.Goals as goal
 

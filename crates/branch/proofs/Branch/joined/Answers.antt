@@ -1,6 +1,5 @@
 -- What `join` and `either` answer, put together.
 use mathlib.Core.Path.{ap₂}
-use borrow.Author.Rules.{rules}
 use Rattle.branch.proofs.Branch.joined.Goals as goal
 
 pub returns : goal.returns

@@ -2,7 +2,6 @@
 use mathlib.Core.Path.{ap, ◌∙◌}
 use Rattle.branch.specs.declared.Branch.{Branch}
 use Rattle.branch.specs.Inner.Values.{own_b, lead_b}
-use borrow.Author.Rules.{rules}
 use Rattle.branch.proofs.CountsKept.{kept, counted_freed}
 use Rattle.branch.proofs.Branch.lead.Goals as goal
 

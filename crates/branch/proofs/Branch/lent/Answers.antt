@@ -1,7 +1,6 @@
 -- What `add` answers, put in its place.
 use Prim.Native.Nat.{◌+◌}
 use mathlib.Core.Path.{ap, sym, ◌∙◌}
-use native.Mathlib.Omega.{arith}
 use borrow.Author.Rules.{rules}
 use Rattle.lines.specs.Count.{count_s}
 use Rattle.lines.proofs.CountLaws.{count_most}

@@ -1,7 +1,6 @@
 -- The empty set, put in its place.
 use mathlib.Core.Path.{ap}
 use mathlib.Core.Bool.{false}
-use borrow.Author.Rules.{rules}
 use Rattle.branch.proofs.Branch.own.Goals as goal
 
 pub returns : goal.returns

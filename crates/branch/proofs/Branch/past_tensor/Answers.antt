@@ -5,8 +5,7 @@ use mathlib.Core.Bool.{◌||◌}
 use Rattle.lines.specs.Set.{cut_s}
 use Rattle.lines.specs.Count.{count_s}
 use Rattle.branch.specs.Inner.Values.{Counted, past_tensor_b}
-use Rattle.branch.proofs.CountsKept.{kept, counted_tensor}
-use borrow.Author.Rules.{rules}
+use Rattle.branch.proofs.CountsKept.{counted_tensor}
 use Rattle.branch.proofs.Branch.past_tensor.Goals as goal
 
 pub returns-then-w-clause-value : goal.returns-then-w-clause-value

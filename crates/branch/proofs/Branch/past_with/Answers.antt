@@ -2,8 +2,7 @@
 use Rattle.branch.specs.Inner.Values.{Counted, past_with_b}
 use mathlib.Core.Path.{subst, sym, ap, ◌∙◌}
 use Rattle.lines.specs.Count.{count_s}
-use Rattle.branch.proofs.CountsKept.{kept, counted_with}
-use borrow.Author.Rules.{rules}
+use Rattle.branch.proofs.CountsKept.{counted_with}
 use Rattle.branch.proofs.Branch.past_with.Goals as goal
 
 pub returns-then-w-clause-value : goal.returns-then-w-clause-value

@@ -13,7 +13,6 @@ use Rattle.lines.proofs.MemberLaws.{member_past, add_past, take_past}
 use Rattle.branch.specs.declared.Branch.{Branch}
 use Rattle.branch.specs.Inner.Values.{item_of, spent_b, using_b}
 use Rattle.branch.proofs.CountsKept.{kept, counted_using}
-use borrow.Author.Rules.{rules}
 use Rattle.branch.proofs.Branch.using.Goals as goal
 
 -- what is done with the item is done with e - P, and nothing for a rule
@@ -34,9 +33,9 @@ module _ (P e : ℕ) where
       go true = add_past s 192 (omega arith)
       go false = refl
 
-  left-due : (b : Branch) → spent_b b (item_of P e) ≡ cond (ltb e P) b.due (spent_b b (e - P))
+  left_due : (b : Branch) → spent_b b (item_of P e) ≡ cond (ltb e P) b.due (spent_b b (e - P))
   unfolding item_of spent_b
-  left-due b = go (ltb e P)
+  left_due b = go (ltb e P)
     where
       go : (v : Bool) → spent_b b (cond v 192 (e - P)) ≡ cond v b.due (spent_b b (e - P))
       go true = ap (λ (x : Bool). cond x (b.due - 1) b.due) (member_past b.strict 192 (omega arith))
@@ -46,9 +45,9 @@ module _ (P e : ℕ) where
     abbrev lit : Bool → LineWord
     lit v = cond v seen (cond (ltb (e - P) T) (add_l seen (e - P)) seen)
 
-    line-seen : T ≤ 64 → item_of P e < T → add_l seen (item_of P e) ≡ lit (ltb e P)
+    line_seen : T ≤ 64 → item_of P e < T → add_l seen (item_of P e) ≡ lit (ltb e P)
     unfolding item_of
-    line-seen few h = go (ltb e P) h
+    line_seen few h = go (ltb e P) h
       where
         go : (v : Bool) → cond v 192 (e - P) < T → add_l seen (cond v 192 (e - P)) ≡ lit v
         go true k = absurd (omega arith)
@@ -75,11 +74,11 @@ returns-then-item-lines c =
             count = b.count;
             len = a.len;
             limit = b.limit;
-            due = (c.spent.ensures ∙ ap (spent_b b) item ∙ left-due a.rules a.e b) i;
+            due = (c.spent.ensures ∙ ap (spent_b b) item ∙ left_due a.rules a.e b) i;
             strict = (c.take-b.ensures ∙ ap (take_s b.strict) item ∙ taken a.rules a.e b.strict) i;
             lax = (c.take-b-2.ensures ∙ ap (take_s b.lax) item ∙ taken a.rules a.e b.lax) i;
             used = (c.add-b.ensures ∙ ap (add_s b.used) item ∙ added a.rules a.e b.used) i;
-            seen = (c.add-b-then-item-lines.ensures ∙ ap (add_l b.seen) item ∙ line-seen a.rules a.e a.lines b.seen c.requires.at_bound.1 low) i;
+            seen = (c.add-b-then-item-lines.ensures ∙ ap (add_l b.seen) item ∙ line_seen a.rules a.e a.lines b.seen c.requires.at_bound.1 low) i;
             slack = b.slack;
           })).0;
       counted_2 = (kept (counted_using b a.rules a.lines a.e a.len c.requires.counted)
@@ -88,11 +87,11 @@ returns-then-item-lines c =
             count = b.count;
             len = a.len;
             limit = b.limit;
-            due = (c.spent.ensures ∙ ap (spent_b b) item ∙ left-due a.rules a.e b) i;
+            due = (c.spent.ensures ∙ ap (spent_b b) item ∙ left_due a.rules a.e b) i;
             strict = (c.take-b.ensures ∙ ap (take_s b.strict) item ∙ taken a.rules a.e b.strict) i;
             lax = (c.take-b-2.ensures ∙ ap (take_s b.lax) item ∙ taken a.rules a.e b.lax) i;
             used = (c.add-b.ensures ∙ ap (add_s b.used) item ∙ added a.rules a.e b.used) i;
-            seen = (c.add-b-then-item-lines.ensures ∙ ap (add_l b.seen) item ∙ line-seen a.rules a.e a.lines b.seen c.requires.at_bound.1 low) i;
+            seen = (c.add-b-then-item-lines.ensures ∙ ap (add_l b.seen) item ∙ line_seen a.rules a.e a.lines b.seen c.requires.at_bound.1 low) i;
             slack = b.slack;
           })).1;
     }
@@ -110,7 +109,7 @@ returns-else-item-lines c =
             count = b.count;
             len = a.len;
             limit = b.limit;
-            due = (c.spent.ensures ∙ ap (spent_b b) item ∙ left-due a.rules a.e b) i;
+            due = (c.spent.ensures ∙ ap (spent_b b) item ∙ left_due a.rules a.e b) i;
             strict = (c.take-b.ensures ∙ ap (take_s b.strict) item ∙ taken a.rules a.e b.strict) i;
             lax = (c.take-b-2.ensures ∙ ap (take_s b.lax) item ∙ taken a.rules a.e b.lax) i;
             used = (c.add-b.ensures ∙ ap (add_s b.used) item ∙ added a.rules a.e b.used) i;
@@ -123,7 +122,7 @@ returns-else-item-lines c =
             count = b.count;
             len = a.len;
             limit = b.limit;
-            due = (c.spent.ensures ∙ ap (spent_b b) item ∙ left-due a.rules a.e b) i;
+            due = (c.spent.ensures ∙ ap (spent_b b) item ∙ left_due a.rules a.e b) i;
             strict = (c.take-b.ensures ∙ ap (take_s b.strict) item ∙ taken a.rules a.e b.strict) i;
             lax = (c.take-b-2.ensures ∙ ap (take_s b.lax) item ∙ taken a.rules a.e b.lax) i;
             used = (c.add-b.ensures ∙ ap (add_s b.used) item ∙ added a.rules a.e b.used) i;

@@ -1,6 +1,5 @@
 -- What `take` answers, put in its place.
 use mathlib.Core.Path.{ap}
-use borrow.Author.Rules.{rules}
 use Rattle.branch.proofs.Way.without.Goals as goal
 
 pub returns : goal.returns

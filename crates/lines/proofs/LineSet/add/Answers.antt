@@ -1,6 +1,5 @@
 -- `lines::LineSet::add` meets its contract, from those of `one` and `join`. Assumes nothing.
 use mathlib.Core.Path.{ap, ◌∙◌}
-use borrow.Author.Rules.{rules}
 use Rattle.lines.specs.Set.{add_s, join_s}
 use Rattle.lines.proofs.LineSet.add.Goals as goal
 

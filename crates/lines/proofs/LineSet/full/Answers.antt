@@ -2,7 +2,6 @@
 use mathlib.Core.Path.{sym, ap}
 use native.Mathlib.Omega.{arith}
 use lib.Pow.{pow_pos}
-use borrow.Author.Rules.{rules}
 use Rattle.lines.specs.Set.{empty_s, full_s}
 use Rattle.lines.proofs.Word.{shl_one}
 use Rattle.lines.proofs.LineSet.full.Goals as goal

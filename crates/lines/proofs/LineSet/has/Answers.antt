@@ -3,7 +3,6 @@ use mathlib.Core.Path.{ap, ◌∙◌}
 use Prim.Native.Nat.{ℕ, ◌/◌, ◌%◌, ◌^◌}
 use lib.Dec.{eqb}
 use lib.Bits.{and_mask}
-use borrow.Author.Rules.{rules}
 use Rattle.lines.specs.Set.{member, bit_at}
 use Rattle.lines.proofs.LineSet.has.Goals as goal
 

@@ -1,7 +1,6 @@
 -- `lines::LineSet::one` meets its contract: an item's word is its quotient by 64. Assumes nothing.
 use mathlib.Core.Path.{sym, ◌∙◌}
 use native.Mathlib.Omega.{arith}
-use borrow.Author.Rules.{rules}
 use Rattle.lines.specs.Set.{empty_s, word_s, keep}
 use Rattle.lines.proofs.Place.{one_at, one_past}
 use Rattle.lines.proofs.LineSet.one.Goals as goal

@@ -1,6 +1,5 @@
 -- `lines::LineSet::take` meets its contract, from those of `one` and `cut`. Assumes nothing.
 use mathlib.Core.Path.{ap, ◌∙◌}
-use borrow.Author.Rules.{rules}
 use Rattle.lines.specs.Set.{take_s, cut_s}
 use Rattle.lines.proofs.LineSet.take.Goals as goal
 

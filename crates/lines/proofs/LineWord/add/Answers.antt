@@ -1,6 +1,5 @@
 -- `lines::LineWord::add` meets its contract, from those of `one`, `lines` and `join`. Assumes nothing.
 use mathlib.Core.Path.{ap, ◌∙◌}
-use borrow.Author.Rules.{rules}
 use Rattle.lines.specs.Inner.Word.{add_l, join_l, lines_of}
 use Rattle.lines.proofs.LineWord.add.Goals as goal
 
