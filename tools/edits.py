@@ -21,10 +21,20 @@ import subprocess
 import sys
 
 WORD = re.compile(r"[^\s(){}\[\],;.`\"⌜⌝]+")
-# path of an edit: its pairs, where its lines were laid out anew
+# path of an edit: its file and pairs, where its lines were laid out anew, or where a definition that follows the edited one goes with it
+LEFT = "Derives es (I ∖ only e) (residual_at es a e)"
+RUN = "RunOf es (I ∖ only e) (residual_at es a e) d U"
 HAND = {
     # the arguments of the call stand on one line
-    "crates/engine/must-fail/right_before_left.edit": [("node, name, n, 254, first, f, b,", "node, name, n, 255, first, f, b,")],
+    "crates/engine/must-fail/right_before_left.edit": [
+        ("src/lib.rt", "node, name, n, 254, first, f, b,", "node, name, n, 255, first, f, b,"),
+    ],
+    # the runs of a derivation are indexed by it, so their items are the ones that it now has
+    "crates/calculus/must-fail/used_item_stays.edit": [
+        ("specs/Derivation.antt", f"      → {LEFT} → Derives", f"      → {LEFT} → Derives".replace("∖", "∪")),
+        ("specs/Runs.antt", f"      {{d : {LEFT}}}", f"      {{d : {LEFT}}}".replace("∖", "∪")),
+        ("specs/Runs.antt", f"      → {RUN}", f"      → {RUN}".replace("∖", "∪")),
+    ],
 }
 
 
@@ -104,7 +114,7 @@ def names(before, after):
 
 def respelled(text, known):
     text = WORD.sub(lambda m: known.get(m[0], m[0]), text)
-    # a projection stands tight: `x .list` is `x.list`, and `f x .list` of a whole application `(f x).list` is left to HAND
+    # a projection stands tight
     return re.sub(r"(?<=[\w′'ᴳᴰ)]) \.(?=[a-z])", ".", text)
 
 
@@ -117,9 +127,9 @@ def turned(edit, origin, scripts):
         return None, "is not of the old spelling's commit"
     pairs = parsed(text)
     why = fault(pairs, crate)
-    if why:
+    if why or path in HAND:
         if path in HAND:
-            given = [(pairs[0][0], old, new) for old, new in HAND[path]]
+            given = HAND[path]
         else:
             given = []
             for file, old, new in pairs:
