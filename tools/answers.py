@@ -86,6 +86,25 @@ def label_path(labels, numbers):
         at += 1
 
 
+def clauses_left(labels, numbers, path, before):
+    """The tuple of the clauses that a path names together: all from the n-th on, where the numbers behind it are n times 1. Else None.
+    In a tactic's list, which the text before shows, they stand one by one."""
+    left = labels[len(numbers) :]
+    if len(labels) < 2 or len(left) < 2 or any(n != "1" for n in numbers):
+        return None
+    depth = 0
+    for i in range(len(before) - 1, -1, -1):
+        depth += (before[i] in ")]}") - (before[i] in "([{")
+        if depth < 0:
+            if before[i] == "(" and re.search(r"(?<![^\s(,])(omega|search|grind|cc) $", before[:i]):
+                return ", ".join(f"{path}.{label}" for label in left)
+            break
+    text = f"{path}.{left[-1]}"
+    for label in reversed(left[:-1]):
+        text = f"({path}.{label}, {text})"
+    return text
+
+
 # declarations of a proof file
 
 class Decl:
@@ -131,7 +150,7 @@ def split(text):
         # a block may hold several declarations
         part = []
         for line in b[k:]:
-            starts = line != "" and not line.startswith((" ", "--", "unfolding", "infix"))
+            starts = line != "" and not line.startswith((" ", ")", "}", "]", "--", "unfolding", "infix"))
             if starts and part and any(not p.startswith("--") for p in part):
                 sig = next((p for p in part if not p.startswith("--")), "")
                 name = re.match(r"(?:(?:abbrev|pub|unfoldable|opaque) )*(\S+)", sig)[1]
@@ -228,6 +247,8 @@ class Made:
 class Turn:
     made = None
     at = None  # the record that the present declaration takes
+    cycle = False
+    text = None  # the crate's source, once read
 
     def __init__(self, crate, function, names, contracts):
         self.crate, self.function, self.names, self.contracts = crate, function, names, contracts
@@ -236,6 +257,24 @@ class Turn:
         self.left = []
         self.helpers = {}  # name -> old place of its first argument
         self.aliases = set()
+
+    def source(self):
+        """The crate's source."""
+        if self.text is None:
+            self.text = ""
+            for folder, _, files in os.walk(os.path.join("crates", self.crate, "src")):
+                self.text += "".join(read(os.path.join(folder, name)) for name in sorted(files) if name.endswith(".rt"))
+        return self.text
+
+    def behind_call(self, callee, fields):
+        """The fields behind a call, where .new goes by the callee's parameters."""
+        params = self.names.get("params", {}).get(callee)
+        n = 1
+        while n < len(fields) and fields[n] == "1":
+            n += 1
+        if params and n < len(fields) and fields[n] == "0" and n - 1 < len(params):
+            return ["new", params[n - 1]] + fields[n + 1 :]
+        return fields
 
     def body(self, text, place, variables=("c",)):
         """The text of a body at a place: paths at place variables are turned."""
@@ -300,11 +339,18 @@ class Turn:
                     return ".".join([var] + found + fields[n:])
             if (norm(first),) in arms and fields and (fields[0] == "rest" or fields[0].startswith("keys")):
                 return ".".join([var] + arms[(norm(first),)] + fields)
+            low = first[:1].lower() + first[1:]
+            first = low if norm(first) not in steps and norm(low) in steps else first
+            bare = re.sub(r"\d+$", "", norm(first))
+            if norm(first) not in steps and first[-1:].isdigit() and bare in steps:
+                first = bare
             if norm(first) in steps:
                 new, callee = steps[norm(first)]
                 first = new
                 if fields and fields[0] == "rest":
                     fields.insert(0, first + "-own")
+                if fields[:1] == ["new"]:
+                    fields = self.behind_call(callee, fields)
                 if fields and fields[0] == "ensures" and callee in self.contracts:
                     n = 1
                     while n < len(fields) and fields[n].isdigit():
@@ -312,21 +358,58 @@ class Turn:
                     label, rest_numbers = label_path(self.contracts[callee][1], fields[1:n])
                     if label:
                         fields = ["ensures", label] + rest_numbers + fields[n:]
+                    elif n > 1 and n == len(fields):
+                        several = clauses_left(self.contracts[callee][1], fields[1:n], f"{var}.{first}.ensures", m.string[: m.start()])
+                        if several:
+                            return several
+            elif first == "requires" and self.cycle and fields[:1] == ["0"]:
+                first, fields = "decreases", fields[1:]
             elif first == "requires":
+                if self.cycle and fields[:1] == ["1"]:
+                    fields = fields[1:]
                 n = 0
                 while n < len(fields) and fields[n].isdigit():
                     n += 1
                 label, rest_numbers = label_path(self.own[0], fields[:n])
                 if label:
                     fields = [label] + rest_numbers + fields[n:]
+                elif n == len(fields) and (n > 0 or self.cycle and not re.search(r"= $", m.string[: m.start()])):
+                    several = clauses_left(self.own[0], fields[:n], f"{var}.requires", m.string[: m.start()])
+                    if several:
+                        return several
             elif norm(first) in FIELDS:
                 first = FIELDS[norm(first)]
             return ".".join([var, first] + fields)
 
         text = re.sub(rf"(?<![^\s(,\[])({'|'.join(re.escape(v) for v in known)})((?:\.[^.\s(){{}}\[\],;]+)+)", path, text)
-        # a test `!x` tells of x itself
-        text = re.sub(r"\(not-(?:true|false) _ ([^\s(),]+\.if-not-[^\s(),.]+\.(?:true|false))\)", r"\1", text)
-        text = re.sub(r"not-(?:true|false) _ ([^\s(),]+\.if-not-[^\s(),.]+\.(?:true|false))(?=[\s),;]|$)", r"\1", text)
+        # a value that a `let` gives to all that a call ensures, or to all that is required
+        by_new = {new: callee for new, callee in steps.values()}
+        for m in list(re.finditer(rf"let ({WORD}) = c\.(?:(\S+)\.ensures|requires) in\s", text)):
+            labels = self.contracts.get(by_new.get(m[2]), ([], []))[1] if m[2] else self.own[0]
+            if len(labels) > 1:
+                def of(x):
+                    label, rest = label_path(labels, x[1].strip(".").split("."))
+                    return m[1] + "." + ".".join([label] + rest) if label else x[0]
+                text = re.sub(rf"(?<![^\s(,\[]){re.escape(m[1])}((?:\.\d)+)", of, text)
+        # a call that a `let` names
+        for m in list(re.finditer(rf"let ({WORD}) = c\.([^\s.]+) in\s", text)):
+            callee = by_new.get(m[2])
+            def behind(x):
+                fields = x[1].strip(".").split(".")
+                if fields[0] == "new":
+                    return ".".join([m[1]] + self.behind_call(callee, fields))
+                label, rest = label_path(self.contracts.get(callee, ([], []))[1], fields[1:])
+                return ".".join([m[1], "ensures", label] + rest) if label else x[0]
+            if callee:
+                text = re.sub(rf"(?<![^\s(,\[]){re.escape(m[1])}(\.(?:new|ensures)(?:\.\d)+)", behind, text)
+        # a test `!x` tells of x itself, and so does a test of `let y = !..`; a test `!x.f` does not
+        def plain(x):
+            word = re.search(r"\.if-(not-)?([^.]+)\.(?:true|false)$", x[1])
+            if re.search(rf"!{re.escape(word[2])}\.\w+(?![\w(])", self.source()) if word[1] else not re.search(rf"let {re.escape(word[2])} = !", self.source()):
+                return x[0]
+            return x[1]
+        text = re.sub(r"\(not-(?:true|false) _ ([^\s(),]+\.if-[^\s(),.]+\.(?:true|false))\)", plain, text)
+        text = re.sub(r"(?<!\()not-(?:true|false) _ ([^\s(),]+\.if-[^\s(),.]+\.(?:true|false))(?=[\s),;]|$)", plain, text)
         return text
 
 
@@ -381,11 +464,39 @@ def pair_parts(text, labels):
     return parts + [rest]
 
 
-def as_record(body, labels):
+def own_names(decls, made):
+    """The new spelling of the names that a function's proof file gives itself: lemmas, fields of records, local names."""
+    found = set()
+    for d in decls:
+        text = d.text()
+        if d.name not in made:
+            found.add(d.name)
+        if re.match(r"(?:pub )?record ", d.lines[d.head]):
+            found.add(re.match(r"(?:pub )?record (\S+)", d.lines[d.head])[1])
+            found.update(f for l in d.lines for m in [re.match(r"  (?:pub )?(\S+(?: [^\s:(){}]+)*) :", l)] if m for f in m[1].split())
+        for line in d.lines:
+            for pattern in (spell.BOUND, spell.LAMBDA):
+                for m in pattern.finditer(line):
+                    found.update(m[1].split())
+            found.update(m[1] for m in spell.LET.finditer(line))
+        # names of a where or a module
+        found.update(m[1] for m in re.finditer(r"^ +([^\s:(){}=]+) : ", text, re.M))
+        for m in re.finditer(r"^(\S+)((?: [^\s=(){}]+)+) =", text, re.M):
+            found.update(m[2].split())
+    return {n: spell.snake(n) for n in found if spell.needs(n)}
+
+
+def named_anew(text, names):
+    return spell.TOKEN.sub(lambda m: names.get(m[0], m[0]), text)
+
+
+def as_record(body, labels, own=()):
     """A body whose last term proves several clauses as a nested pair, as a record of the clauses."""
     at = last_term(body)
     lead, last = body[:at], body[at:].strip()
-    parts = pair_parts(last, labels)
+    if last == "c.requires" and len(own) == len(labels):
+        return f"{lead} record {{ " + "; ".join(f"{l} = c.requires.{o}" for l, o in zip(labels, own)) + " }"
+    parts = [last] * len(labels) if re.match(r"(omega|search|grind|cc)\b", last) else pair_parts(last, labels)
     if parts is None:
         m = re.match(r"(rw (?:\((?:[^()]|\((?:[^()]|\([^()]*\))*\))*\)|\S+)) ", last)
         inner = m and pair_parts(last[m.end() :], labels)
@@ -393,7 +504,11 @@ def as_record(body, labels):
             parts = [f"{m[1]} ({p})" for p in inner]
         else:
             n = len(labels)
-            parts = [f"({last})" + ".1" * k + (".0" if k < n - 1 else "") for k in range(n)]
+            if m and last[m.end() :].startswith("at "):
+                m = None
+            lead_in = m[1] + " " if m else ""
+            last = last[m.end() :] if m else last
+            parts = [f"{lead_in}(({last})" + ".1" * k + (".0" if k < n - 1 else "") + ")" for k in range(n)] if m else [f"({last})" + ".1" * k + (".0" if k < n - 1 else "") for k in range(n)]
     return f"{lead} record {{ " + "; ".join(f"{l} = {p}" for l, p in zip(labels, parts)) + " }"
 
 
@@ -401,7 +516,7 @@ def turn_file(crate, folder, names_all, contracts, commit, made):
     path = os.path.join(folder, "Proof.antt")
     rel = os.path.relpath(folder, os.path.join("crates", crate, "proofs"))
     if "+" in rel:
-        return [f"{path}: a cycle, left"]
+        return turn_cycle(crate, folder, rel, names_all, contracts, commit, made)
     dotted = rel.replace("/", ".")
     key = f"Rattle-{crate}-proofs.{dotted}.Lts"
     if key not in names_all:
@@ -486,13 +601,13 @@ def turn_file(crate, folder, names_all, contracts, commit, made):
                 if m:
                     callee = None
                     # the call that follows the place
-                    for o, (n, parent, step, c) in turn.places.by_old.items():
-                        if parent == place and c and step[1] == m[1]:
-                            callee = c
+                    after = {c for o, (n, parent, step, c) in turn.places.by_old.items() if parent == place and c}
+                    if len(after) == 1:
+                        callee = after.pop()
                     if callee in contracts:
                         labels = contracts[callee][0]
             if labels and len(labels) > 1:
-                rec = as_record(btext, labels)
+                rec = as_record(btext, labels, turn.own[0])
                 if rec:
                     btext = rec
                 else:
@@ -527,13 +642,24 @@ def turn_file(crate, folder, names_all, contracts, commit, made):
         v = re.search(r"\((\w+) : tie\.", d.lines[d.head])
         t = turn.body(t, place, (v[1],) if v else ("c",))
         answers.append(t)
+    said_names = own_names(decls, need_of)
+    answers = [named_anew(a, said_names) for a in answers]
     if invariants:
         inv = []
+        texts = " ".join(d.text() for d in invariants)
+        shared = [d for d in decls if d not in invariants and re.search(rf"(?<![^\s(]){re.escape(kept_name(d))}(?![^\s)])", texts)]
+        for d in shared:
+            inv.append(named_anew(published(d), said_names))
+        if shared:
+            answers = [a for a in answers if a not in {named_anew(turn_shared(d, turn), said_names) for d in shared}]
+            names_of = ", ".join(said_names.get(kept_name(d), kept_name(d)) for d in shared)
+            uses.append(f"use {module}.Invariants.{{{names_of}}}")
         for d in invariants:
-            inv.append(turn_invariant(d, names, turn, said, path))
+            inv.append(named_anew(turn_invariant(d, names, turn, said, path), said_names))
         with open(os.path.join(folder, "Invariants.antt"), "w", encoding="utf-8") as f:
             f.write("\n".join(plain_uses + [f"use {module}.Given as goal", "", "\n\n".join(inv)]) + "\n")
     answers = [a for a in answers if a]
+    comments = comments if answers else []
     if answers:
         with open(os.path.join(folder, "Answers.antt"), "w", encoding="utf-8") as f:
             f.write("\n".join(comments + uses + [f"use {module}.Goals as goal", "", "\n\n".join(answers)]) + "\n")
@@ -541,16 +667,170 @@ def turn_file(crate, folder, names_all, contracts, commit, made):
     return said + [f"{path}: {l}" for l in turn.left]
 
 
+def parameters(crate, function):
+    """The names of a function's parameters."""
+    for folder, _, files in os.walk(os.path.join("crates", crate, "src")):
+        for name in files:
+            if name.endswith(".rt"):
+                m = re.search(rf"\bfn {function}\b[^(]*\(((?:[^()]|\([^()]*\))*)\)", read(os.path.join(folder, name)))
+                if m:
+                    return [p.split(":")[0].strip().replace("mut ", "").lstrip("&") for p in m[1].split(",") if p.strip()]
+    return []
+
+
+def turn_cycle(crate, folder, rel, names_all, contracts, commit, made):
+    """A cycle's file: the goals of each of its functions, and a measure for each."""
+    path = os.path.join(folder, "Proof.antt")
+    text = read(path)
+    said = []
+    cycle = rel.split("/")[-1]
+    mods = rel.split("/")[:-1]
+    dotted = rel.replace("/", ".")
+    module = f"Rattle.{crate}.proofs.{dotted}"
+    old_path = path
+    functions = {}
+    for k in names_all:
+        m = re.match(rf"Rattle-{crate}-proofs\.{re.escape(dotted)}\.Lts-(\S+)$", k)
+        if m:
+            functions[norm(m[1])] = (m[1], k)
+    old_text = subprocess.run(["git", "show", f"{commit}:{path}"], capture_output=True, text=True).stdout
+    if not old_text:
+        # the old folder was named after the cycle's functions
+        listed = subprocess.run(["git", "ls-tree", "-r", "--name-only", commit, f"crates/{crate}/proofs"], capture_output=True, text=True).stdout
+        for f in listed.split("\n"):
+            of = f.split("/")[-2] if f.endswith("/Proof.antt") else ""
+            if of.startswith("+") and {norm(x) for x in of.strip("+").split("+")} == set(functions):
+                old_text = subprocess.run(["git", "show", f"{commit}:{f}"], capture_output=True, text=True).stdout
+        if not old_text:
+            said.append(f"{path}: no old file of {sorted(functions)}")
+    pattern = re.compile(r"^(?:pub )?(\S+) : \(t : ℕ\) → (\S+?)-lts ?\.Need-(\S+) ", re.M)
+    old = pattern.findall(old_text)
+    new = pattern.findall(text)
+    if len(old) != len(new):
+        said.append(f"{path}: {len(old)} goals in the old form and {len(new)} now")
+    need_of = {n[0]: (norm(o[1]), norm(o[2])) for o, n in zip(old, new)}
+    turns = {}
+    for f, (name, key) in functions.items():
+        t = Turn(crate, "::".join([crate] + mods + [name]), names_all[key], contracts)
+        t.cycle = True
+        turns[f] = t
+    head, decls = split(text)
+    uses = [l for l in head if not l.startswith("--")]
+    comments = [l for l in head if l.startswith("--")]
+    dropped = re.compile(r"\.Reads as |\.Kinds as |\.Lts-\S+ as |borrow\.Fn\.(Kinds|PlainCycle)|proofs\.\+\S+\.\{|^  statement,|^  close,|^\}")
+    uses = [u for u in uses if not dropped.search(u)]
+    answers, measures = [], []
+    for d in decls:
+        sig = d.lines[d.head]
+        m = re.match(r"abbrev μ-(\S+) : Measures", sig)
+        if m:
+            f = norm(m[1])
+            name = functions[f][0] if f in functions else m[1]
+            params = parameters(crate, name)
+            rest = "\n".join(d.lines[d.head + 1 :]).partition("=")[2]
+            rest = re.sub(r"(?<![\w.])a((?:\.1)*)\.0(?=[.\s)]|$)", lambda x: f"l.{params[x[1].count('1')]}", rest)
+            measures.append(f"abbrev pub decreases-{name} : goal.decreases-{name}\ndecreases-{name} l ={rest}")
+            continue
+        m = re.match(r"abbrev \S+ : (\S+?)-lts\.(invariant|decreases)-", sig)
+        if m and norm(m[1]) in turns:
+            turn = turns[norm(m[1])]
+            measures.append(turn_invariant(d, turn.names, turn, said, path))
+            continue
+        if re.match(r"abbrev \S+ : (\(t : ℕ\) → |ℕ → )?(In \d+ |\S+[-_]lts\.Claims$)", sig) or re.match(r"pub \+", sig):
+            continue
+        if d.name in need_of:
+            f, need = need_of[d.name]
+            turn = turns.get(f)
+            if not turn:
+                said.append(f"{path}: {d.name}: no function {f}")
+                continue
+            names = turn.names
+            goal_of = {norm(o): n for o, n in names["needs"]}
+            place_of = {norm(o): norm(p[0]) for (o, _), p in zip(names["needs"], names["asked_at"])}
+            new_place = {norm(o): p[1] for (o, _), p in zip(names["needs"], names["asked_at"])}
+            for ending, now in (("holds", "init"), ("again", "preserved"), ("less", "smaller")):
+                if need not in goal_of:
+                    need = re.sub(rf"_{ending}(?=$|_\d)", "_" + now, need)
+            if need not in goal_of:
+                said.append(f"{path}: {f}: no new name for {need}")
+                continue
+            goal = names.get("stem", "") + goal_of[need]
+            place = place_of[need]
+            out = d.lines[: d.head] + [f"pub {goal} : goal.{goal}"]
+            body = []
+            for l in d.lines[d.head + 1 :]:
+                (out if l.startswith("unfolding") else body).append(l)
+            btext = "\n".join(body)
+            if re.fullmatch(rf"{re.escape(d.name)} t c( κs)? = (search rules|tt)", btext.strip()) and not any(l.startswith("unfolding") for l in out):
+                continue
+            if re.search(r" = c\.match\d*\.keys\d+$", btext.strip()):
+                continue
+            btext = re.sub(rf"^{re.escape(d.name)} t c κs", f"{goal} t c", btext)
+            btext = re.sub(rf"^{re.escape(d.name)}(?=\s)", goal, btext)
+            btext = turn.body(btext, place)
+            labels = None
+            if goal_of[need].startswith("returns"):
+                labels = turn.own[1]
+            else:
+                m = re.match(r"(.*)-requires", goal_of[need])
+                callee = None
+                after = {c for o, (n, parent, step, c) in turn.places.by_old.items() if m and parent == place and c}
+                if len(after) == 1:
+                    callee = after.pop()
+                if callee in contracts and norm(callee.split("::")[-1]) not in functions:
+                    labels = contracts[callee][0]
+            if labels and len(labels) > 1:
+                btext = as_record(btext, labels, turn.own[0])
+            answers.append("\n".join(out + [btext]))
+            continue
+        m = re.search(r"\((\w+) : (\S+?)-lts\.(\S+)", sig)
+        if m:
+            turn = turns.get(norm(m[2]))
+            said.append(f"{path}: {d.name}: a lemma over a record of {m[2]}")
+            answers.append(turn.body(d.text(), norm(m[3]), (m[1],)) if turn else d.text())
+            continue
+        answers.append(d.text())
+    with open(os.path.join(folder, "Invariants.antt"), "w", encoding="utf-8") as f:
+        f.write("\n".join(uses + [f"use {module}.Given as goal", "", "\n\n".join(measures)]) + "\n")
+    with open(os.path.join(folder, "Answers.antt"), "w", encoding="utf-8") as f:
+        f.write("\n".join(comments + uses + [f"use {module}.Goals as goal", "", "\n\n".join(answers)]) + "\n")
+    os.remove(path)
+    return said + [f"{path}: {l}" for t in turns.values() for l in t.left]
+
+
+def kept_name(d):
+    m = re.match(r"(?:(?:pub|abbrev|unfoldable|record|data) )*(\S+)", d.lines[d.head])
+    return m[1]
+
+
+def turn_shared(d, turn):
+    """A declaration without records of facts, as it stands among the answers."""
+    return turn.body(d.text(), None)
+
+
+def published(d):
+    """A declaration of the invariants' file that the answers cite too."""
+    lines = list(d.lines)
+    head = lines[d.head]
+    if re.match(r"(pub )?record ", head):
+        lines = [re.sub(r"^  (?!pub )(?=\S+(?: \S+)* :)", "  pub ", l) for l in lines]
+        lines[d.head] = head if head.startswith("pub ") else "pub " + head
+    elif "pub " not in head:
+        lines[d.head] = re.sub(r"^((?:abbrev |unfoldable )?)", r"\1pub ", head)
+    return "\n".join(lines)
+
+
 def turn_invariant(d, names, turn, said, path):
     """An invariant or a measure, over the live variables: all of them as the loop begins, and then those that change as they are."""
     lines = d.lines[d.head :]
-    m = re.match(r"abbrev (?:pub )?(\S+) : tie\.(\S+)", lines[0])
+    m = re.match(r"abbrev (?:pub )?(\S+) : (?:tie|\S+?-lts)\.(\S+)", lines[0])
     kind, _, old = m[2].partition("-")
     loops = {norm(l[0][0]): (l[0][1], l[1], c) for l, c in zip(names["loops"], names["changed"])}
     if norm(old) not in loops:
         said.append(f"{path}: no loop {old}: {sorted(loops)}")
         return d.text()
     new, variables, changed = loops[norm(old)]
+    new = names.get("stem", "") + new
     body = "\n".join(lines[1:])
     head, _, rest = body.partition("=")
     arguments = head.split()[1:]

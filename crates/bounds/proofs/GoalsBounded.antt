@@ -270,3 +270,8 @@ module _ (P : Kin) (fits : Fits) where
       keeps_left s h w (sum_⊗ p d q x y) (left_recipe z) = way_⊗ K t p d q (keeps_left s h.0 w x z) (keeps s h.1 y)
       keeps_left s h w (sum_⊕₁ p x) (left_menu y z) = way_⊕ K t p (keeps_left s h.0 w.0 x y)
       keeps_left s h w (sum_⊕₂ p x) (left_menu y z) = way_⊕ K t p (keeps_left s h.1 w.1 x z)
+      keeps_left {a = a} {D = D} {i = i} {j = j} {k = k} s h w (sum_⊤ _) x64 = elim x64 [ ]
+      keeps_left {a = a} {D = D} {i = i} {j = j} {k = k} s h w (sum_& {G = G} {H = H} {l₁ = l₁} {l₂ = l₂} {U₁ = U₁} {U₂ = U₂} {v₁ = v₁} {v₂ = v₂} _ _ _ _ _ _ _) x107 = elim x107 [ ]
+      keeps_left {a = a} {i = i} {j = j} {k = k} s h w (sum_⊸ {D = D} {G = G} {W = W} _ _ _) x80 = elim x80 [ ]
+      keeps_left {D = D} {i = i} {j = j} {k = k} s h w (sum_rule {n = n} {a = a} {e = e} {l = l} _ _) x74 = elim x74 [ ]
+      keeps_left {D = D} {i = i} {j = j} {k = k} s h w (sum_item {n = n} {a = a} {e = e} {l = l} {W = W} _ _ _ _) x89 = elim x89 [ ]

@@ -6,7 +6,6 @@ use mathlib.Core.Logic.{◌⊎◌, inl, inr}
 use mathlib.Core.Bool.{Bool, true, false}
 use mathlib.Core.List.{List, [], ◌∷◌}
 use lib.ListN.{length, set}
-use types.Run.{OneOf}
 use denote.Enum.Declared.{tag_of}
 use Rattle.card.specs.Format.{rule_count, line_count, node_count, kind_at, left_at}
 use Rattle.scope.specs.Inner.Tables.{Kept}
@@ -35,20 +34,18 @@ unfolding answer_in
 tired_said e ws = ap (λ o. answer_in o ws) e
 
 -- an outcome with no way
-pub unsolved : (r : Outcome) → OneOf (1 ∷ 2 ∷ []) (tag_of the_type r) → (ws : List ℕ) → (answer_in r ws ≡ Stuck) ⊎ (answer_in r ws ≡ Tired)
+pub unsolved : (r : Outcome) → (r ≡ IsSolved → ⊥) → (ws : List ℕ) → (answer_in r ws ≡ Stuck) ⊎ (answer_in r ws ≡ Tired)
 unfolding answer_in
-unsolved IsSolved (inl k) ws = absurd (omega (arith, k))
-unsolved IsSolved (inr k) ws = absurd (omega (arith, k))
-unsolved IsStuck k ws = inl refl
-unsolved IsTired k ws = inr refl
+unsolved IsSolved n ws = absurd (n refl)
+unsolved IsStuck n ws = inl refl
+unsolved IsTired n ws = inr refl
 
 -- an outcome that is not stuck
-pub unstuck : (r : Outcome) → OneOf (0 ∷ 2 ∷ []) (tag_of the_type r) → (ws : List ℕ) → answer_in r ws ≡ Stuck → ⊥
+pub unstuck : (r : Outcome) → (r ≡ IsStuck → ⊥) → (ws : List ℕ) → answer_in r ws ≡ Stuck → ⊥
 unfolding answer_in
-unstuck IsSolved k ws e = let z : ◌≡◌ {A = ℕ} 0 1 = cc in omega arith
-unstuck IsStuck (inl k) ws e = omega (arith, k)
-unstuck IsStuck (inr k) ws e = omega (arith, k)
-unstuck IsTired k ws e = let z : ◌≡◌ {A = ℕ} 0 1 = cc in omega arith
+unstuck IsSolved n ws e = let z : ◌≡◌ {A = ℕ} 0 1 = cc in omega arith
+unstuck IsStuck n ws e = n refl
+unstuck IsTired n ws e = let z : ◌≡◌ {A = ℕ} 0 1 = cc in omega arith
 
 -- Stock and room
 

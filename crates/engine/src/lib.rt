@@ -22,7 +22,7 @@ use segment::tasks::{nest, node, push, put, unwind};
 // The agenda in the branch, its lists not below the floor. The floor is handed over by its numbers: as a struct it would be laid down in memory at
 // every step.
 // What the lent agenda holds afterwards is free: 104 places as before, and no caller looks at them.
-#[cycle(behind_both_ways_choose_enter_last_lent_need_one_of_others_part_side_solve_use_clause)]
+#[cycle(engine_search)]
 pub fn solve(
     card: &[u8],
     waits: &[u64; 64],
@@ -73,7 +73,7 @@ pub fn solve(
 }
 
 // The next task is a name.
-#[cycle(behind_both_ways_choose_enter_last_lent_need_one_of_others_part_side_solve_use_clause)]
+#[cycle(engine_search)]
 fn need(
     card: &[u8],
     waits: &[u64; 64],
@@ -119,7 +119,7 @@ fn need(
 }
 
 // The entries from the given one on. The given step goes on with the floor, and those above it with none.
-#[cycle(behind_both_ways_choose_enter_last_lent_need_one_of_others_part_side_solve_use_clause)]
+#[cycle(engine_search)]
 fn others(
     card: &[u8],
     waits: &[u64; 64],
@@ -196,7 +196,7 @@ fn others(
 }
 
 // The next task is ⊕ or 0.
-#[cycle(behind_both_ways_choose_enter_last_lent_need_one_of_others_part_side_solve_use_clause)]
+#[cycle(engine_search)]
 fn one_of(
     card: &[u8],
     waits: &[u64; 64],
@@ -252,7 +252,7 @@ fn one_of(
 }
 
 // The use of an entry: what is left of its clause, with one nesting less, before the rest.
-#[cycle(behind_both_ways_choose_enter_last_lent_need_one_of_others_part_side_solve_use_clause)]
+#[cycle(engine_search)]
 fn use_clause(
     card: &[u8],
     waits: &[u64; 64],
@@ -303,7 +303,7 @@ fn use_clause(
 }
 
 // A part before the tasks of the agenda: a goal, or what is left of a clause that is used for the name.
-#[cycle(behind_both_ways_choose_enter_last_lent_need_one_of_others_part_side_solve_use_clause)]
+#[cycle(engine_search)]
 fn enter(
     card: &[u8],
     waits: &[u64; 64],
@@ -369,7 +369,7 @@ fn enter(
 }
 
 // ⊕, or a menu that is used for the name, before the tasks of the agenda: its left side; where that finds nothing, its right side.
-#[cycle(behind_both_ways_choose_enter_last_lent_need_one_of_others_part_side_solve_use_clause)]
+#[cycle(engine_search)]
 fn choose(
     card: &[u8],
     waits: &[u64; 64],
@@ -418,7 +418,7 @@ fn choose(
 }
 
 // One side, by its choice: none below the given step, and none that is shut.
-#[cycle(behind_both_ways_choose_enter_last_lent_need_one_of_others_part_side_solve_use_clause)]
+#[cycle(engine_search)]
 fn side(
     card: &[u8],
     waits: &[u64; 64],
@@ -490,7 +490,7 @@ fn side(
 }
 
 // The next task is & or ⊸, a segment of its own: the rest behind its first list; where that finds nothing, behind its next.
-#[cycle(behind_both_ways_choose_enter_last_lent_need_one_of_others_part_side_solve_use_clause)]
+#[cycle(engine_search)]
 fn behind(
     card: &[u8],
     waits: &[u64; 64],
@@ -586,7 +586,7 @@ fn behind(
 }
 
 // The last task of the agenda is & or ⊸.
-#[cycle(behind_both_ways_choose_enter_last_lent_need_one_of_others_part_side_solve_use_clause)]
+#[cycle(engine_search)]
 fn last(
     card: &[u8],
     waits: &[u64; 64],
@@ -640,7 +640,7 @@ fn last(
 }
 
 // & or ⊸ in a segment of its own.
-#[cycle(behind_both_ways_choose_enter_last_lent_need_one_of_others_part_side_solve_use_clause)]
+#[cycle(engine_search)]
 fn part(
     card: &[u8],
     waits: &[u64; 64],
@@ -680,7 +680,7 @@ fn part(
 }
 
 // G & H: H behind the first list of G; where that finds nothing, behind its next.
-#[cycle(behind_both_ways_choose_enter_last_lent_need_one_of_others_part_side_solve_use_clause)]
+#[cycle(engine_search)]
 fn both_ways(
     card: &[u8],
     waits: &[u64; 64],
@@ -773,7 +773,7 @@ fn both_ways(
 }
 
 // A part with a scope or window of its own.
-#[cycle(behind_both_ways_choose_enter_last_lent_need_one_of_others_part_side_solve_use_clause)]
+#[cycle(engine_search)]
 fn lent(
     card: &[u8],
     waits: &[u64; 64],

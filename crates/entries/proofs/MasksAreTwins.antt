@@ -27,7 +27,7 @@ use Rattle.entries.specs.Inner.Twins.{waits, every, is_line, met, eligible}
 use Rattle.entries.specs.Inner.Masks.{with_line, passing, has_node, must_node, wider, mask_at, Waiting, ready_by, Seen}
 use Rattle.calculus.proofs.SetLaws.{or_right}
 use Rattle.scope.proofs.SetsAreItems.{same_line}
-use Rattle.entries.proofs.TestLaws.{and-true, same_test, every_at, every_all}
+use Rattle.entries.proofs.TestLaws.{and_true, same_test, every_at, every_all}
 
 -- The lines of a mask
 
@@ -283,7 +283,7 @@ module _ {bs masks : List ℕ} {seen : LineWord} {done : List ℕ} (w : Waiting 
   module _ (i : ℕ) (h : i < line_count bs) where
     waits_low : (x : ℕ) → waits bs i x ≡ true → x < i
     unfolding waits
-    waits_low x p = ltb-true x i (and-true (ltb x i) _ p).0
+    waits_low x p = ltb-true x i (and_true (ltb x i) _ p).0
 
     all_met : holds_l seen (mask_at masks i) ≡ true → every (met bs done i) i ≡ true
     unfolding met

@@ -1,8 +1,7 @@
 -- A check answers true exactly where something holds.
 use mathlib.Core.Path.{◌≡◌, refl, sym, ◌∙◌}
-use mathlib.Core.Bool.{Bool, true, false, not, false≢true}
+use mathlib.Core.Bool.{Bool, true, false, false≢true}
 use mathlib.Core.Logic.{◌↔◌}
-use borrow.Author.Tests.{not-true}
 
 pub holds : {P : Type 0} → P → (true ≡ true) ↔ P
 holds p = (λ q. p, λ _. refl)
@@ -11,5 +10,5 @@ pub fails : {P : Type 0} → (P → ⊥) → (false ≡ true) ↔ P
 fails n = (λ q. absurd (false≢true q), λ p. absurd (n p))
 
 -- where a check answered false
-pub unmet : {r : Bool} {P : Type 0} → (r ≡ true) ↔ P → not r ≡ true → P → ⊥
-unmet {r} w q p = false≢true (sym (not-true r q) ∙ w.1 p)
+pub unmet : {r : Bool} {P : Type 0} → (r ≡ true) ↔ P → r ≡ false → P → ⊥
+unmet w q p = false≢true (sym q ∙ w.1 p)

@@ -25,11 +25,17 @@ use Rattle.planning.specs.Plan.{PlanVerdict, planned, refused, told_plan, room_o
 use Rattle.planning.specs.Plan.{room_for_any, NeverShort, PlanDecided, is_planned, is_refused, Carries}
 
 -- The first list is the only one.
+before_apart : {l m n k : List ℕ} → Before l m → Before n k → l ≡ k → m ≡ n → ⊥
+before_apart (here {x} {y} p) (here {x = z} {y = w} q) e f = let a : x ≡ w = cc in let b : y ≡ z = cc in omega arith
+before_apart (here {x} {y} p) (there {x = z} q) e f = let a : x ≡ z = cc in let b : y ≡ z = cc in omega arith
+before_apart (there {x = z} p) (here {x} {y} q) e f = let a : z ≡ y = cc in let b : z ≡ x = cc in omega arith
+before_apart (there {x = z} {l = l} {m = m} p) (there {x = w} {l = n} {m = k} q) e f =
+    let a : l ≡ k = cc in
+    let b : m ≡ n = cc in
+    before_apart p q a b
+
 before_not_both : {l m : List ℕ} → Before l m → Before m l → ⊥
-before_not_both (here p) (here q) = omega arith
-before_not_both (here p) (there q) = omega arith
-before_not_both (there p) (here q) = omega arith
-before_not_both (there p) (there q) = before_not_both p q
+before_not_both p q = before_apart p q refl refl
 
 pub first_unique : (j : Job) (l m : List ℕ) → First j l → First j m → l ≡ m
 first_unique j l m f g = at (f.least m g.listed) (g.least l f.listed)

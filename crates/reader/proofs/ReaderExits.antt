@@ -41,6 +41,9 @@ pub record Fits (bs sh : List ℕ) (k : ℕ) : Type 0 where
   pub fits : sheet_fault bs sh ≡ sound
   pub count : k ≡ step_count sh
 
+pub fits_so : {bs sh : List ℕ} {k : ℕ} → Sound bs → sheet_fault bs sh ≡ sound → k ≡ step_count sh → Fits bs sh k
+fits_so s f e = record { card = s; fits = f; count = e }
+
 module _ {bs sh : List ℕ} {k : ℕ} (c : Fits bs sh k) where
   fit : Fitting bs sh
   fit = fitting bs sh c.fits

@@ -103,9 +103,9 @@ module _ {bs : List ℕ} (s : Sound bs) where
         counted = refl;
       }
 
-      start_place : place_at (rule_count bs) no_floor (start_b bs) tape ≡ start_place (job_of bs)
+      start_place_lem : place_at (rule_count bs) no_floor (start_b bs) tape ≡ start_place (job_of bs)
       unfolding place_at start_b job_of given_at from_at
-      start_place = λ i. record {
+      start_place_lem = λ i. record {
         done = [];
         given = [];
         from = low i;
@@ -135,7 +135,7 @@ module _ {bs : List ℕ} (s : Sound bs) where
             = subst (Told bs (job_of bs).scope (task (job_of bs).goal (job_of bs).depth ∷ []) no_floor (start_b bs) tape tape') e told in
             let l = start_least (eligible bs) (job_of bs) (lines_bounded bs)
             (subst (λ (p : Place). Least (eligible bs) (job_of bs).scope (task (job_of bs).goal (job_of bs).depth ∷ []) p
-            (slice 0 w.at tape') t.items_used t.slack_left) start_place t.least) in
+            (slice 0 w.at tape') t.items_used t.slack_left) start_place_lem t.least) in
             record {
               room = let b = t.bounded in omega arith;
               first = first_eligible bs (take w.at tape') no_choices l.0 l.2;
@@ -148,7 +148,7 @@ module _ {bs : List ℕ} (s : Sound bs) where
             (place_at (rule_count bs) no_floor (start_b bs) tape)
             = subst (Told bs (job_of bs).scope (task (job_of bs).goal (job_of bs).depth ∷ []) no_floor (start_b bs) tape tape') e told in
             none_eligible bs no_choices (start_none (eligible bs) (job_of bs) (lines_bounded bs)
-            (subst (None (eligible bs) (job_of bs).scope (task (job_of bs).goal (job_of bs).depth ∷ [])) start_place t))
+            (subst (None (eligible bs) (job_of bs).scope (task (job_of bs).goal (job_of bs).depth ∷ [])) start_place_lem t))
 
 -- The same of the values at hand: the branch is the one at the goal, and the array holds the goal.
 pub start_count : (bs : List ℕ) {b : Branch} → b ≡ start_b bs → b.count ≡ rule_count bs + line_count bs

@@ -2,52 +2,55 @@
 // then its bytes), the lengths of a card and of a sheet (two bytes each), the card and the sheet.
 #![tactic(auto)]
 
-ghost use Rattle.std.specs.Prelude.{◌≤◌, ◌<◌, length};
+ghost use Rattle.std.specs.Prelude.{◌≤◌, ◌<◌, length, IfOk};
 
 use card::format::{byte, word};
 use reader::Answer;
 use show::part_end;
+use std::io;
+use std::io::Write;
 
-fn outcome(card: &[u8], sheet: &[u8]) {
+fn outcome(out: &mut impl Write, card: &[u8], sheet: &[u8]) -> io::Result<()> {
     let answer = reader::read(card, sheet);
     match answer {
         Answer::Accepted(k) => {
-            show::print_word(b"accepted");
-            show::print_number(k as usize);
+            show::print_word(out, b"accepted")?;
+            show::print_number(out, k as usize)?;
         }
-        Answer::Refused(refusal) => show::print_refusal(refusal),
+        Answer::Refused(refusal) => show::print_refusal(out, refusal)?,
     }
-    show::print_word(b"\n");
+    show::print_word(out, b"\n")
 }
 
 // Runs one record and tells where the next begins.
-fn record(input: &[u8], at: usize) -> usize
+fn record(out: &mut impl Write, input: &[u8], at: usize) -> io::Result<usize>
     requires { at < length input.now }
-    ensures { (at < result) × (result ≤ length input.now) }
+    ensures { IfOk result (λ end. (at < end) × (end ≤ length input.now)) }
 {
     let label = at + 1;
     let head = part_end(input, label, byte(input, at));
     if input.len() - head < 4 {
-        return input.len();
+        return Ok(input.len());
     }
     let start = head + 4;
     let middle = part_end(input, start, word(input, head));
     let end = part_end(input, middle, word(input, head + 2));
-    show::print_word(&input[label..head]);
-    show::print_word(b": ");
-    outcome(&input[start..middle], &input[middle..end]);
-    end
+    show::print_word(out, &input[label..head])?;
+    show::print_word(out, b": ")?;
+    outcome(out, &input[start..middle], &input[middle..end])?;
+    Ok(end)
 }
 
-fn run(input: &[u8]) {
+fn run(out: &mut impl Write, input: &[u8]) -> io::Result<()> {
     let mut at = 0;
     while at < input.len() {
-        at = record(input, at);
+        at = record(out, input, at)?;
     }
+    Ok(())
 }
 
-fn main() {
-    let mut buffer = io::large_buffer();
-    let n = io::read_full(libc::STDIN_FILENO, &mut buffer);
-    run(&buffer[..n]);
+fn main(rt: HostRuntime) -> io::Result<()> {
+    let mut buffer = [0u8; 65536];
+    let n = show::read_full(&mut rt.stdin(), &mut buffer)?;
+    run(&mut rt.stdout(), &buffer[..n])
 }

@@ -1,86 +1,104 @@
-// What the test programs share: printing refusals, sheets and bytes, and the parts of a record of the input.
+// What the programs share: reading the input, printing refusals, sheets and bytes, and the parts of a record of the input.
 #![tactic(auto)]
 
-ghost use Rattle.std.specs.Prelude.{◌≡◌, ◌+◌, ◌≤◌, length};
+ghost use Rattle.std.specs.Prelude.{◌≡◌, ◌+◌, ◌≤◌, ◌<◌, length, take, IfOk};
+ghost use Rattle.std.specs.Io.KnownBytes.{Consumes, IsAtEnd};
 ghost use Rattle.show.specs.Parts.{lesser, part_end};
 
 use card::format::byte;
 use card::{Place, Refusal};
-use libc::STDOUT_FILENO;
+use std::io;
+use std::io::{Read, Write};
 
-pub fn print_word(text: &[u8]) {
-    io::write_all(STDOUT_FILENO, text);
+// Reads until the buffer is full or the input ends, and tells how many bytes it put at the buffer's start. What the input has behind
+// them is left alone.
+pub fn read_full<R: Read>(input: &mut R, buffer: &mut [u8]) -> io::Result<usize>
+    ensures within { IfOk result (λ n. n ≤ length buffer.new) }
+    ensures bytes { IfOk result (λ n. Consumes (R.remaining input.old) (R.remaining input.new) (take n buffer.new)) }
+    ensures end { IfOk result (λ n. n < length buffer.new → IsAtEnd (R.remaining input.new)) }
+{
+    let mut done = 0;
+    while done < buffer.len() {
+        let n = input.read(&mut buffer[done..])?;
+        if n == 0 {
+            return Ok(done);
+        }
+        done += n;
+    }
+    Ok(done)
 }
 
-fn print_indexed(text: &[u8], i: u16) {
-    print_word(text);
-    io::print_decimal(STDOUT_FILENO, i as u64);
+pub fn print_word<W: Write>(out: &mut W, text: &[u8]) -> io::Result<()> {
+    out.write_all(text)
+}
+
+fn print_indexed<W: Write>(out: &mut W, text: &[u8], i: u16) -> io::Result<()> {
+    print_word(out, text)?;
+    write!(out, "{i}")
 }
 
 // A place's word, and its index where it has one.
-fn print_place(place: Place) {
+fn print_place<W: Write>(out: &mut W, place: Place) -> io::Result<()> {
     match place {
-        Place::Card => print_word(b"card"),
-        Place::Node(i) => print_indexed(b"node ", i),
-        Place::Rule(i) => print_indexed(b"rule ", i),
-        Place::Line(i) => print_indexed(b"line ", i),
-        Place::Sheet => print_word(b"sheet"),
-        Place::Steps => print_word(b"steps"),
-        Place::Mark(i) => print_indexed(b"mark ", i),
-        Place::Step(i) => print_indexed(b"step ", i),
+        Place::Card => print_word(out, b"card"),
+        Place::Node(i) => print_indexed(out, b"node ", i),
+        Place::Rule(i) => print_indexed(out, b"rule ", i),
+        Place::Line(i) => print_indexed(out, b"line ", i),
+        Place::Sheet => print_word(out, b"sheet"),
+        Place::Steps => print_word(out, b"steps"),
+        Place::Mark(i) => print_indexed(out, b"mark ", i),
+        Place::Step(i) => print_indexed(out, b"step ", i),
     }
 }
 
 // "refused", the number and the place.
-pub fn print_refusal(refusal: Refusal) {
+pub fn print_refusal<W: Write>(out: &mut W, refusal: Refusal) -> io::Result<()> {
     let number = refusal.number;
     let place = refusal.place;
-    print_word(b"refused ");
-    io::print_decimal(STDOUT_FILENO, number as u64);
-    print_word(b" ");
-    print_place(place);
+    write!(out, "refused {number} ")?;
+    print_place(out, place)
 }
 
-pub fn print_number(n: usize) {
-    print_word(b" ");
-    io::print_decimal(STDOUT_FILENO, n as u64);
+pub fn print_number<W: Write>(out: &mut W, n: usize) -> io::Result<()> {
+    write!(out, " {n}")
 }
 
-pub fn print_numbers(numbers: &[u8]) {
+pub fn print_numbers<W: Write>(out: &mut W, numbers: &[u8]) -> io::Result<()> {
     let mut i = 0;
     while i < numbers.len() {
-        print_number(byte(numbers, i));
+        print_number(out, byte(numbers, i))?;
         i += 1;
     }
+    Ok(())
 }
 
-fn print_byte(n: usize) {
-    print_word(b" ");
-    io::print_hex(STDOUT_FILENO, n as u64, 2);
+fn print_byte<W: Write>(out: &mut W, n: usize) -> io::Result<()> {
+    write!(out, " {n:02x}")
 }
 
 // Each byte as two hexadecimal digits.
-pub fn print_bytes(bytes: &[u8]) {
+pub fn print_bytes<W: Write>(out: &mut W, bytes: &[u8]) -> io::Result<()> {
     let mut i = 0;
     while i < bytes.len() {
-        print_byte(byte(bytes, i));
+        print_byte(out, byte(bytes, i))?;
         i += 1;
     }
+    Ok(())
 }
 
 // A sheet of k steps and t marks; tells where it ends.
-pub fn print_sheet(sheet: &[u8], k: usize, t: usize) -> usize
+pub fn print_sheet<W: Write>(out: &mut W, sheet: &[u8], k: usize, t: usize) -> io::Result<usize>
     requires { 5 + k + t ≤ length sheet.now }
-    ensures { result ≡ 5 + k + t }
+    ensures { IfOk result (λ end. end ≡ 5 + k + t) }
 {
     let marks = 5 + k;
     let end = marks + t;
-    print_word(b"plan");
-    print_number(k);
-    print_numbers(&sheet[5..marks]);
-    print_word(b" marks");
-    print_numbers(&sheet[marks..end]);
-    end
+    print_word(out, b"plan")?;
+    print_number(out, k)?;
+    print_numbers(out, &sheet[5..marks])?;
+    print_word(out, b" marks")?;
+    print_numbers(out, &sheet[marks..end])?;
+    Ok(end)
 }
 
 // The lesser of two.

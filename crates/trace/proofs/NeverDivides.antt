@@ -100,6 +100,23 @@ undivided {es} (trace_rule q s c) (never_use {n} {a} {l} u x) =
 undivided {es} (trace_item q s c) (never_use {n} {a} {l} u x) =
     by_step s.lists (λ v. (s.alives.0 v).0) c
     (λ e. undivided c (subst (λ f. PassesNever n es (meet a (clause_at es f)) l) (sym e) x))
+undivided {n = n} {l = l} (trace_0 {es = es} {w = w} e) (never_first {k = k} {m = m} b q x y) = elim b [ ]
+undivided {n = n} {l = l} (trace_0 {es = es} {w = w} e) (never_second {k = k} {m = m} b q x y) = elim b [ ]
+undivided {n = n} (trace_0 {es = es} {w = w} e) (never_side {c = c} {l = l} o x) = elim o [ ]
+undivided {n = n} (trace_⊗ {es = es} {G = G} {H = H} {w = w} {y = y} s c d) (never_side {l = l} o x) = elim o [ ]
+undivided {n = n} (trace_& {es = es} {G = G} {H = H} {w = w} {y = y} s c d) (never_side {l = l} o x) = elim o [ ]
+undivided {n = n} {l = l} (trace_⊸ {es = es} {D = D} {G = G} {w = w} s c) (never_first {k = k} {m = m} b q x y) = elim b [ ]
+undivided {n = n} {l = l} (trace_⊸ {es = es} {D = D} {G = G} {w = w} s c) (never_second {k = k} {m = m} b q x y) = elim b [ ]
+undivided {n = n} (trace_⊸ {es = es} {D = D} {G = G} {w = w} s c) (never_side {l = l} o x) = elim o [ ]
+undivided {n = n} {l = l} (trace_side {es = es} {q = q} {w = w} o s c) (never_lent {D = D} {G = G} x) = elim o [ ]
+undivided (trace_side {es = es} {q = q} {w = w} o s c) (never_use {n = n} {a = a} {e = e} {l = l} u x) = elim o [ ]
+undivided {n = n} {l = l} (trace_rule {es = es} {a = a} {e = e} {w = w} q s c) (never_first {k = k} {m = m} b _ x y) = elim b [ ]
+undivided {n = n} {l = l} (trace_rule {es = es} {a = a} {e = e} {w = w} q s c) (never_second {k = k} {m = m} b _ x y) = elim b [ ]
+undivided {n = n} (trace_rule {es = es} {a = a} {e = e} {w = w} q s c) (never_side {l = l} o x) = elim o [ ]
+undivided {n = n} {l = l} (trace_item {es = es} {a = a} {e = e} {w = w} q s c) (never_first {k = k} {m = m} b _ x y) = elim b [ ]
+undivided {n = n} {l = l} (trace_item {es = es} {a = a} {e = e} {w = w} q s c) (never_second {k = k} {m = m} b _ x y) = elim b [ ]
+undivided {n = n} (trace_item {es = es} {a = a} {e = e} {w = w} q s c) (never_side {l = l} o x) = elim o [ ]
+undivided {n = n} (trace_recipe {es = es} {a = a} {G = G} {D = D} {w = w} {y = y} s c d) (never_side {l = l} o x) = elim o [ ]
 
 -- THEOREM. Where the walk passes "never", 19: it is right, and the items do not divide.
 pub never_divides : (bs l : List ℕ) → NeverPassed bs l → (steps_fault bs l ≡ sound) × (ItemsDivide (job_of bs) l → ⊥)

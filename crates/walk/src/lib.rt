@@ -14,7 +14,7 @@ use card::format::{byte, kind, left, line_byte, right};
 use summary::{Position, Step, Walked, astray, next_side, next_step};
 
 // A goal.
-#[cycle(clause_conditions_menu_recipe_use_clause_walk_walk_atom_walk_lend_walk_one_of_walk_tensor_walk_with)]
+#[cycle(walk_list)]
 pub fn walk(
     card: &[u8],
     steps: &[u8],
@@ -42,7 +42,7 @@ pub fn walk(
 }
 
 // G ⊗ H.
-#[cycle(clause_conditions_menu_recipe_use_clause_walk_walk_atom_walk_lend_walk_one_of_walk_tensor_walk_with)]
+#[cycle(walk_list)]
 fn walk_tensor(
     card: &[u8],
     steps: &[u8],
@@ -71,7 +71,7 @@ fn walk_tensor(
 }
 
 // G & H.
-#[cycle(clause_conditions_menu_recipe_use_clause_walk_walk_atom_walk_lend_walk_one_of_walk_tensor_walk_with)]
+#[cycle(walk_list)]
 fn walk_with(
     card: &[u8],
     steps: &[u8],
@@ -100,7 +100,7 @@ fn walk_with(
 }
 
 // D ⊸ G.
-#[cycle(clause_conditions_menu_recipe_use_clause_walk_walk_atom_walk_lend_walk_one_of_walk_tensor_walk_with)]
+#[cycle(walk_list)]
 fn walk_lend(
     card: &[u8],
     steps: &[u8],
@@ -127,7 +127,7 @@ fn walk_lend(
 }
 
 // G ⊕ H: the part that the next step chooses.
-#[cycle(clause_conditions_menu_recipe_use_clause_walk_walk_atom_walk_lend_walk_one_of_walk_tensor_walk_with)]
+#[cycle(walk_list)]
 fn walk_one_of(
     card: &[u8],
     steps: &[u8],
@@ -150,7 +150,7 @@ fn walk_one_of(
 }
 
 // A name.
-#[cycle(clause_conditions_menu_recipe_use_clause_walk_walk_atom_walk_lend_walk_one_of_walk_tensor_walk_with)]
+#[cycle(walk_list)]
 fn walk_atom(
     card: &[u8],
     steps: &[u8],
@@ -185,7 +185,7 @@ fn due(card: &[u8], item: usize) -> usize
 }
 
 // The use of an entry for a name.
-#[cycle(clause_conditions_menu_recipe_use_clause_walk_walk_atom_walk_lend_walk_one_of_walk_tensor_walk_with)]
+#[cycle(walk_list)]
 fn use_clause(
     card: &[u8],
     steps: &[u8],
@@ -215,7 +215,7 @@ fn use_clause(
 }
 
 // A clause in use for a name. Most are a head alone, which is met here: it has no conditions to go to.
-#[cycle(clause_conditions_menu_recipe_use_clause_walk_walk_atom_walk_lend_walk_one_of_walk_tensor_walk_with)]
+#[cycle(walk_list)]
 fn clause(
     card: &[u8],
     steps: &[u8],
@@ -237,7 +237,7 @@ fn clause(
 }
 
 // The conditions of a clause in use for a name: a head has none, a menu those of the part chosen.
-#[cycle(clause_conditions_menu_recipe_use_clause_walk_walk_atom_walk_lend_walk_one_of_walk_tensor_walk_with)]
+#[cycle(walk_list)]
 fn conditions(
     card: &[u8],
     steps: &[u8],
@@ -263,7 +263,7 @@ fn conditions(
 }
 
 // G ⊸ D in use for a name: the conditions of D, which are nearer the head, then G.
-#[cycle(clause_conditions_menu_recipe_use_clause_walk_walk_atom_walk_lend_walk_one_of_walk_tensor_walk_with)]
+#[cycle(walk_list)]
 fn recipe(
     card: &[u8],
     steps: &[u8],
@@ -293,7 +293,7 @@ fn recipe(
 }
 
 // D & E in use for a name: the part that the next step chooses, one with a head that is the name.
-#[cycle(clause_conditions_menu_recipe_use_clause_walk_walk_atom_walk_lend_walk_one_of_walk_tensor_walk_with)]
+#[cycle(walk_list)]
 fn menu(
     card: &[u8],
     steps: &[u8],

@@ -37,11 +37,11 @@ departed ws h = λ i. record {
     other j l = get_or-set_other ws 6 j 0 0 (λ e. omega (arith, e, l))
 
 pub returns-then-kept : goal.returns-then-kept
-returns-then-kept c = record { way_after = rw c.if-kept.true (kept (way_in c.args.way.now)); way_len = rw c.if-kept.true (c.requires) }
+returns-then-kept c = record { way_after = rw c.if-kept.true (kept (way_in c.args.way.now)); way_len = c.requires }
 
 pub bounds-way-6 : goal.bounds-way-6
 bounds-way-6 c = let r = c.requires in omega (arith, r)
 
 pub returns : goal.returns
 returns c =
-    let ws = c.args.way.now in record { way_after = rw c.if-kept.false (departed ws c.requires); way_len = rw c.if-kept.false (length-set ws 6 0 ∙ c.requires) }
+    let ws = c.args.way.now in record { way_after = rw c.if-kept.false (departed ws c.requires); way_len = length-set ws 6 0 ∙ c.requires }

@@ -30,7 +30,7 @@ loop-i-init c =
     let bs = c.args.card.now in
     let o = c.enter_rules.ensures in
     let p = c.byte-p in
-    (search rules, rw (add-zero p.result, p.ensures.0) (o.0, o.1 ∙ sym (append-nil (listing (rule_count bs) (rule_entry bs)))))
+    (search rules, rw (add-zero p.result, p.ensures.0) (o.fact, o.bs_after ∙ sym (append-nil (listing (rule_count bs) (rule_entry bs)))))
 
 pub line_node-requires : goal.line_node-requires
 line_node-requires c =

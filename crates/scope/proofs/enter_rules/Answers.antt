@@ -53,4 +53,4 @@ loop-i-preserved c =
 
 pub returns : goal.returns
 returns c =
-    let e : c.loop-i.i ≡ rule_count c.args.card.now = omega arith in rw e at c.loop-i.invariant.1
+    let e : c.loop-i.i ≡ rule_count c.args.card.now = omega arith in record { fact = (rw e at c.loop-i.invariant.1).0; bs_after = (rw e at c.loop-i.invariant.1).1 }

@@ -12,15 +12,17 @@ use Rattle.card.proofs.CardChecked.{sound_front}
 use Rattle.lines.specs.Set.{add_s}
 use Rattle.scope.specs.Inner.Sets.{strict_below, strict_of}
 use Rattle.card.proofs.SoundNodes.{line_here}
-  may : (line_byte bs i ≡ 1 → ⊥) → strict_below bs (suc i) ≡ strict_below bs i
-  unfolding strict_below
-  may h = rw (ne_eqb (line_byte bs i) 1 h, strict_below) refl
 use Rattle.scope.proofs.strict_lines.Goals as goal
+use Rattle.scope.proofs.strict_lines.Goals.{then-b-eq1, else-b-eq1}
 
 module _ (bs : List ℕ) (i : ℕ) where
   must : line_byte bs i ≡ 1 → strict_below bs (suc i) ≡ add_s (strict_below bs i) i
   unfolding strict_below
   must h = rw (eq-eqb (line_byte bs i) 1 h, strict_below) refl
+
+  may : (line_byte bs i ≡ 1 → ⊥) → strict_below bs (suc i) ≡ strict_below bs i
+  unfolding strict_below
+  may h = rw (ne_eqb (line_byte bs i) 1 h, strict_below) refl
 
 pub byte-t-requires : goal.byte-t-requires
 byte-t-requires c =
@@ -46,14 +48,15 @@ loop-i-preserved c =
     let bs = c.args.card.now in
     let turn = c.loop-i in
     let i = turn.i in
-    let byte = c.line_byte-b.ensures.0 in (
-      omega (arith, c.byte-t.ensures.0),
-      ⊎_elim
-          (λ w. w.2 ∙ w.1.ensures ∙ ap (λ s. add_s s i) turn.invariant.1 ∙ sym (must bs i (sym byte ∙ w.0.taken)))
-          (λ w. w.1 ∙ turn.invariant.1 ∙ sym (may bs i (λ p. w.0.left (byte ∙ p))))
-          c.if-b-eq1.branch
-          ∙ ap (strict_below bs) (sym (add-one i)),
-    )
+    let byte = c.line_byte-b.ensures.0 in
+    let next : c.if-b-eq1.s ≡ strict_below bs (suc i) =
+    elim c.if-b-eq1.branch [
+      | then-b-eq1 w ↦
+          w.s-is ∙ w.add-s.ensures ∙ ap (λ s. add_s s i) turn.invariant.1 ∙ sym (must bs i (sym byte ∙ w.if-b-eq1.true))
+      | else-b-eq1 w ↦ w.s-is ∙ turn.invariant.1 ∙ sym (may bs i (λ p. w.if-b-eq1.false (byte ∙ p)))
+    ]
+    in
+    (omega (arith, c.byte-t.ensures.0), next ∙ ap (strict_below bs) (sym (add-one i)))
 
 pub returns : goal.returns
 unfolding strict_of

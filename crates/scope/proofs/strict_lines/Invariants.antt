@@ -11,9 +11,6 @@ use Rattle.card.proofs.CardChecked.{sound_front}
 use Rattle.lines.specs.Set.{add_s}
 use Rattle.scope.specs.Inner.Sets.{strict_below, strict_of}
 use Rattle.card.proofs.SoundNodes.{line_here}
-  may : (line_byte bs i ≡ 1 → ⊥) → strict_below bs (suc i) ≡ strict_below bs i
-  unfolding strict_below
-  may h = rw (ne_eqb (line_byte bs i) 1 h, strict_below) refl
 use Rattle.scope.proofs.strict_lines.Given as goal
 
 abbrev pub invariant-loop-i : goal.invariant-loop-i

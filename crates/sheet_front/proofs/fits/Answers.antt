@@ -4,7 +4,7 @@ use native.Mathlib.Omega.{arith}
 use mathlib.Core.Path.{◌≡◌, sym, ◌∙◌}
 use mathlib.Core.List.{List}
 use lib.ListN.{length}
-use Rattle.card.specs.Format.{length_field, version, line_count, step_limit}
+use Rattle.card.specs.Format.{length_field, version, line_count}
 use Rattle.sheet_front.specs.Front.{step_count, mark_count}
 use Rattle.sheet_front.proofs.SheetFits.{too_short, other_length, other_version, other_lines, other_size, too_many, all_fit}
 use Rattle.sheet_front.proofs.fits.Lts as lts

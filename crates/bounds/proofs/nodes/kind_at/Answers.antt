@@ -1,0 +1,6 @@
+use borrow.Author.Rules.{rules}
+use Rattle.card.proofs.SoundNodes.{node_here}
+use Rattle.bounds.proofs.nodes.kind_at.Goals as goal
+
+pub kind-requires : goal.kind-requires
+kind-requires c = node_here c.requires.sound c.args.i c.requires.node.here

@@ -1,0 +1,14 @@
+use native.Mathlib.Omega.{arith}
+use Rattle.card.proofs.SoundNodes.{node_here, parts_below}
+use Rattle.bounds.proofs.nodes.right_part.Goals as goal
+
+pub right-requires : goal.right-requires
+right-requires c = node_here c.requires.sound c.args.i c.requires.node.here
+
+pub returns : goal.returns
+returns c =
+    let p = parts_below c.requires.sound c.args.i c.requires.node.here c.requires.bound.0 c.requires.bound.1 in
+    let n = c.requires.node in
+    let e = c.right.ensures.0 in
+    let q = p.1 in
+    (e, record { here = omega (arith, n.here); few = omega (arith, n.few) })

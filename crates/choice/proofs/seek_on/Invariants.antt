@@ -1,0 +1,13 @@
+use Prim.Native.Nat.{◌-◌, ◌<◌}
+use native.Mathlib.Omega.{arith}
+use mathlib.Core.Path.{refl, sym, ◌∙◌}
+use borrow.Author.Rules.{rules}
+use Rattle.choice.specs.Inner.Choice.{takable_by, Seeks}
+use Rattle.choice.proofs.EntriesPassed.{Passed, passed_none, passed_more}
+use Rattle.choice.proofs.seek_on.Given as goal
+
+abbrev pub invariant-loop-e : goal.invariant-loop-e
+invariant-loop-e l = Passed (takable_by l.card l.waits l.heads l.b l.name) l.from l.e
+
+abbrev pub decreases-loop-e : goal.decreases-loop-e
+decreases-loop-e l = l.b.count - l.e

@@ -1,0 +1,13 @@
+use native.Mathlib.Omega.{arith}
+use mathlib.Core.Path.{refl}
+use Rattle.joined.specs.Joined.{joined_depth, joined_steps}
+use Rattle.joined.proofs.WrittenInTurn.{one_written, written_byte}
+use Rattle.joining.proofs.put_limits.Goals as goal
+
+pub returns : goal.returns
+returns c =
+    let s = c.args in
+    let room = c.requires.in_bounds in
+    let depth-put = one_written s.out.now 9 (joined_depth s.first.now s.second.now) (omega (arith, room)) in
+    rw (c.depth.ensures, c.steps.ensures)
+    (written_byte depth-put 10 (joined_steps s.first.now s.second.now) refl (omega (arith, room)))
