@@ -1,6 +1,8 @@
 # The static library and the program kit.
 #
 #   make              builds what is missing or older than its sources; proving the library from nothing takes minutes
+#   make library      builds the static library alone
+#   make plan         builds the program target/bin/plan
 #   make install      copies library, header, pkg-config file, program and manual pages below DESTDIR and PREFIX
 #   make uninstall    removes them
 #   make test         runs the gate
@@ -9,8 +11,9 @@ DESTDIR =
 
 VERSION := $(shell sed -n 's/^.define KIT_VERSION "\(.*\)"$$/\1/p' include/kit_planner.h)
 ARCHIVE := target/staticlib/libplanner_c.a
+PLAN := target/bin/plan
 KIT := rust/target/release/kit
-PROVED := $(shell find crates crates.txt -type f)
+PROVED := $(shell find crates crates.txt -path 'crates/*/out' -prune -o -type f -print)
 SOURCES := $(shell find rust/src rust/kit rust/build.rs rust/Cargo.toml -type f)
 # Pages that say no more than where their text is.
 LINKS := kit_read kit_join kit_source kit_check kit_reason
@@ -25,9 +28,17 @@ unexport KIT_PLANNER_LIB_DIR
 
 all: $(ARCHIVE) $(KIT)
 
+library: $(ARCHIVE)
+
+plan: $(PLAN)
+
 $(ARCHIVE): $(PROVED)
-	rt staticlib planner_c
-	touch $@
+	cd crates/planner_c && rt lib
+	install -D -m 644 crates/planner_c/out/libplanner_c.a $@
+
+$(PLAN): $(PROVED)
+	cd crates/plan && rt run < stdin > /dev/null
+	install -D crates/plan/out/plan $@
 
 $(KIT): $(ARCHIVE) $(SOURCES)
 	cargo build --release --offline --manifest-path rust/Cargo.toml --target-dir rust/target -p kit
@@ -54,4 +65,4 @@ uninstall:
 test:
 	bash .ci/run
 
-.PHONY: all install uninstall test
+.PHONY: all library plan install uninstall test

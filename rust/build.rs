@@ -1,4 +1,4 @@
-//! Links libplanner_c.a, which `rt staticlib planner_c` writes to the repository's target/staticlib.
+//! Links libplanner_c.a, which `make library` writes to the repository's target/staticlib.
 //! KIT_PLANNER_LIB_DIR names another folder for it, counted from this one if it is relative. Where the archive is
 //! missing the crate says so when it is compiled; its documentation can be made all the same. Where
 //! KIT_PLANNER_PAIR names a folder with before.a and now.a, archives whose calls are renamed by these words, the

@@ -1,6 +1,7 @@
 #!/usr/bin/env bash
 # The planner of this tree beside that of an earlier commit: whether both answer alike on cards from fixed seeds, then the time of each by
-# families of cards. The earlier library is built once, in a scratch folder, and kept as target/before/HASH.a.
+# families of cards. The earlier library is built once, in a scratch folder, and kept as target/before/HASH.a. A commit that is written for an
+# older Rattle does not build with this one: its library has to lie there already.
 #
 # Usage: bench-against.sh COMMIT
 set -euo pipefail
@@ -11,14 +12,14 @@ for tool in rt cargo objcopy; do
 done
 cd "$(dirname "$0")/.."
 hash=$(git rev-parse --short "$1^{commit}")
-library=target/staticlib/libplanner_c.a
+library=crates/planner_c/out/libplanner_c.a
 before=target/before/$hash.a
 pair=$PWD/target/pair
 scratch=$(mktemp -d)
 trap 'rm -rf "$scratch"' EXIT
 
 # build FOLDER: its static library; what rt said is shown where that fails
-build() { (cd "$1" && rt staticlib planner_c) >"$scratch/log" 2>&1 || { tail -n 20 "$scratch/log" >&2; exit 1; }; }
+build() { (cd "$1/crates/planner_c" && rt lib) >"$scratch/log" 2>&1 || { tail -n 20 "$scratch/log" >&2; exit 1; }; }
 
 # renamed WORD LIBRARY: the library with its calls renamed by the word, so that two can be linked into one program. Every function begins
 # a page, so that where the linker lays them favours neither.

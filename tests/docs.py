@@ -3,8 +3,8 @@
 
 A file is a word with a slash or a file's ending; it must be a path of the repository or the end of one, and may hold `*`. A name is a word
 in backticks that can be an identifier. In the documents of DEFINED it must be defined in the code (in a table with a column for names and
-one for files: in the row's files), elsewhere it must occur there. docs/CHANGES.md speaks of what is gone: its names, and files that are not
-in backticks, are left out.
+one for files: in the row's files), elsewhere it must occur there. The documents of GONE speak of what is gone: their names, and files that
+are not in backticks, are left out; of docs/PORT.md all files are.
 
 Usage: docs.py                says what is wrong with file and line, and exits 1; or how much it checked
        docs.py --self-test    tries the checks on made-up documents with one fault each
@@ -16,7 +16,8 @@ import sys
 import tempfile
 
 DEFINED = ("docs/PROOFS.md", "docs/GLOSSARY.md", "docs/ARCHITECTURE.md")
-CHANGES = "docs/CHANGES.md"
+PORT = "docs/PORT.md"
+GONE = ("docs/CHANGES.md", PORT)
 CODE = ("crates/", "include/", "rust/", "tests/", "examples/", "man/")
 NOT_OURS = {".git", "target", "__pycache__"}
 KEYWORDS = set("requires ensures ghost let else match enum struct impl mut unsafe record data u8 u16 u32 u64 usize bool".split())
@@ -25,11 +26,11 @@ ENDING = r"\.(?:antt|rt|rs|md|py|sh|h|c|txt|card|sheet|names|out|svg|edit|toml)"
 PATH = re.compile(rf"[\w.*·+-]*/[\w.*/·+-]*|[\w*-]+{ENDING}")
 BARE_PATH = re.compile(rf"(?<![\w/.:`])(?:(?:crates|docs|rust|tests|include|cards|examples|man|\.ci)/[\w.*/·+-]*|[\w*/-]+{ENDING}\b)")
 LINK = re.compile(r"\]\(([^)#:\s]+)")
-LETTER = r"[\w·′&\u2190-\u2bff-]"
-SIMPLE = rf"[^\W\d]{LETTER}*"
+LETTER = r"[\w'&\u2190-\u2bff-]"
+SIMPLE = rf"(?:[^\W\d]|◌){LETTER}*"
 NAME = re.compile(rf"({SIMPLE}(?:::{SIMPLE})*)(?:\(\))?")
-# in a term with spaces only words in mixed case or with a hyphen are taken for names
-IN_TERM = re.compile(rf"(?<!{LETTER})(?:[A-Z]?[a-z]+[A-Z][A-Za-z]*|[A-Z][a-z]{{3,}}|[a-z]+(?:-[a-z0-9]+)+)(?!{LETTER})")
+# in a term with spaces only words in mixed case, with an underscore or with a hyphen are taken for names
+IN_TERM = re.compile(rf"(?<!{LETTER})(?:[A-Z]?[a-z]+[A-Z][A-Za-z]*|[A-Z][a-z]{{3,}}|[a-z]+(?:[_-][a-z0-9]+)+)(?!{LETTER})")
 
 BEFORE = r"(?:(?:pub|abbrev|unfoldable|record|data) +)"
 DEFINITIONS = {
@@ -50,6 +51,7 @@ class Tree:
     def __init__(self, root):
         self.folders, self.files = set(), set()
         self.defined, self.imported, self.words = {}, set(), set()
+        self.crates = {p.name for p in (root / "crates").glob("*")}
         for folder, below, files in os.walk(root):
             below[:] = [b for b in below if b not in NOT_OURS]
             at = pathlib.Path(folder).relative_to(root)
@@ -68,8 +70,9 @@ class Tree:
         found = {n for p in DEFINITIONS.get(pathlib.Path(path).suffix, []) for m in p.findall(text) for n in m.split()}
         self.defined[path] = found
         self.imported |= set(re.findall(r"\w+(?:::\w+)+", text))
-        for names in re.findall(r"\buse (?!Rattle·)[^{;\n]*\{([^}]*)\}", text):
-            self.imported |= set(re.findall(rf"{LETTER}+", names))
+        for crate, names in re.findall(r"\buse (?:Rattle\.(\w+))?[^{;\n]*\{([^}]*)\}", text):
+            if crate not in self.crates:
+                self.imported |= set(re.findall(rf"{LETTER}+", names))
 
     def matching(self, path):
         """The files and folders that the path, with or without its beginning, stands for."""
@@ -175,7 +178,7 @@ class Document:
         for m in re.finditer(r"`([^`]+)`", text):
             self.word(first + text.count("\n", 0, m.start()), " ".join(m[1].split()))
         outside = re.sub(r"`[^`]+`", lambda m: "`" + "\n" * m[0].count("\n"), text)
-        bare = [] if self.path == CHANGES else [*BARE_PATH.finditer(outside), *LINK.finditer(outside)]
+        bare = [] if self.path in GONE else [*BARE_PATH.finditer(outside), *LINK.finditer(outside)]
         for m in bare:
             self.file(first + outside.count("\n", 0, m.start()), m[m.lastindex or 0].rstrip("."))
 
@@ -183,9 +186,9 @@ class Document:
         name = NAME.fullmatch(word)
         if PATH.fullmatch(word) and re.search("[A-Za-z]", word):
             self.file(line, word)
-        elif self.path == CHANGES:
+        elif self.path in GONE:
             return
-        elif name and len(name[1]) > 1 and re.search("[A-Za-z]|^_|_$", name[1]):
+        elif name and len(name[1]) > 1 and re.search("[A-Za-z]|◌", name[1]):
             self.name(line, name[1])
         elif " " in word and self.path in DEFINED:
             for m in IN_TERM.finditer(word):
@@ -193,7 +196,7 @@ class Document:
 
     def file(self, line, path):
         self.counts["files"] += 1
-        if "target" not in path.split("/")[:2] and not self.tree.matching(path):
+        if self.path != PORT and "target" not in path.split("/")[:2] and not self.tree.matching(path):
             self.say(line, f"no such file: {path}")
 
     def name(self, line, name):
@@ -214,18 +217,18 @@ def check(root):
 
 MADE_UP = {
     "crates/one/specs/Good.antt": """-- A comment says nothing : of a definition
-use lib.Far.{far-away}
-use Rattle·one·specs.specs.Near.{no-longer}
+use Rattle.std.specs.Far.{far_away}
+use Rattle.one.specs.Near.{no_longer}
 pub data Colour : Type 0 where
   red green : Colour
 pub record Pair (a b : Colour) : Type 0 where
   pub first : Colour
-unfoldable pub swap-them : Colour → Colour
-swap-them red = locally-bound
-infixr 30 _▹_
-pub _▹_ : Colour → Colour → Colour
+unfoldable pub swap_them : Colour → Colour
+swap_them red = locally_bound
+infixr 30 ◌▹◌
+pub ◌▹◌ : Colour → Colour → Colour
 """,
-    "crates/one/specs/Other.antt": "pub res-⊗ : Colour\n",
+    "crates/one/specs/Other.antt": "pub res_⊗ : Colour\n",
     "crates/one/src/lib.rt": "pub struct Brush {\n    pub width: u8,\n}\nimpl Brush {\n    fn paint(card: &[u8]) {\n    }\n}\n",
     "rust/Cargo.toml": '[package]\nname = "easel"\n',
     "rust/src/lib.rs": "pub fn stand() {}\n",
@@ -234,21 +237,22 @@ pub _▹_ : Colour → Colour → Colour
 
 | what | name | file |
 |---|---|---|
-| a pipe \\| or `two | of them` | `swap-them` (of `Colour`), `red`, `green`; `Pair`, `first` | crates/one/specs/Good.antt |
-| a term | `res-⊗`: `Pair r (swap-them r)` | `crates/one/specs/Other.antt` |
+| a pipe \\| or `two | of them` | `swap_them` (of `Colour`), `red`, `green`; `Pair`, `first` | crates/one/specs/Good.antt |
+| a term | `res_⊗`: `Pair r (swap_them r)` | `crates/one/specs/Other.antt` |
 | code | `Brush::paint`, `one::paint`, `width`, `paint()` | crates/one/src/lib.rt, include/ |
 
-`one_call` and `ONE_NUMBER` in include/one.h; `far-away` and `_▹_`; the crate `one`, the folder `specs`; `easel::stand`;
+`one_call` and `ONE_NUMBER` in include/one.h; `far_away` and `◌▹◌`; the crate `one`, the folder `specs`; `easel::stand`;
 no `requires`.
-Not names: `rt check plan`, `0x1f`, `00 0A`, `N passed, 0 failed`, `≡`, `&mut [u8]`, `k`, `1/100`, `target/bin/plan`, rust/target/release/kit, must/may, `a
+Not names: `rt ci plan`, `0x1f`, `00 0A`, `N passed, 0 failed`, `≡`, `&mut [u8]`, `k`, `1/100`, `target/bin/plan`, rust/target/release/kit, must/may, `a
 b`.
 
 ```
-| no table, `no-name`
+| no table, `no_name`
 ```
 """,
-    "docs/NOTES.md": "`Good.antt`, `specs/Other.antt`, `crates/*/specs/`, [proofs](PROOFS.md), crates/one/src/lib.rt. `locally-bound`.\n",
-    "docs/CHANGES.md": "`gone-name` and crates/one/specs/Gone.antt are gone.\n",
+    "docs/NOTES.md": "`Good.antt`, `specs/Other.antt`, `crates/*/specs/`, [proofs](PROOFS.md), crates/one/src/lib.rt. `locally_bound`.\n",
+    "docs/CHANGES.md": "`gone_name` and crates/one/specs/Gone.antt are gone.\n",
+    "docs/PORT.md": "`gone_name` and `crates/one/specs/Gone.antt` are gone.\n",
 }
 TABLE = "| name | file |\n|---|---|\n"
 # document, its text, line and words of the one fault
@@ -259,18 +263,21 @@ FAULTS = [
     ("docs/NOTES.md", "`crates/*/gone/`", 1, "no such file: crates/*/gone/"),
     ("docs/NOTES.md", "`one/Good.antt`", 1, "no such file: one/Good.antt"),
     ("docs/NOTES.md", "[gone](GONE.md)", 1, "no such file: GONE.md"),
-    ("docs/NOTES.md", "two lines of\ntext, `never-there`", 2, "does not occur in the code: never-there"),
+    ("docs/NOTES.md", "two lines of\ntext, `never_there`", 2, "does not occur in the code: never_there"),
     ("docs/CHANGES.md", "`crates/one/specs/Gone.antt`", 1, "no such file: crates/one/specs/Gone.antt"),
-    ("docs/GLOSSARY.md", "`locally-bound`", 1, "not defined: locally-bound"),
-    ("docs/GLOSSARY.md", "`no-longer`", 1, "not defined: no-longer"),
+    ("docs/GLOSSARY.md", "`locally_bound`", 1, "not defined: locally_bound"),
+    ("docs/GLOSSARY.md", "`no_longer`", 1, "not defined: no_longer"),
     ("docs/GLOSSARY.md", "`swap`", 1, "not defined: swap"),
     ("docs/GLOSSARY.md", "`comment`", 1, "not defined: comment"),
     ("docs/GLOSSARY.md", "`zz`", 1, "does not occur in the code: zz"),
     ("docs/GLOSSARY.md", "`Pair::paint`", 1, "not defined: Pair::paint"),
     ("docs/GLOSSARY.md", "`Pair r (goneAway r)`", 1, "not defined: goneAway"),
-    ("docs/PROOFS.md", TABLE + "| `swap-them` | crates/one/specs/Other.antt |", 3, "swap-them is not defined in crates/one/specs/Other.antt"),
-    ("docs/PROOFS.md", TABLE + "| `far-away` | crates/one/specs/Good.antt |", 3, "far-away is not defined in crates/one/specs/Good.antt"),
-    ("docs/PROOFS.md", TABLE + "| `swap-them` | |", 3, "swap-them is not defined in no file"),
+    ("docs/GLOSSARY.md", "`Pair r (gone_away r)`", 1, "not defined: gone_away"),
+    ("docs/GLOSSARY.md", "`Pair r (gone-away r)`", 1, "not defined: gone-away"),
+    ("docs/GLOSSARY.md", "`◌◃◌`", 1, "not defined: ◌◃◌"),
+    ("docs/PROOFS.md", TABLE + "| `swap_them` | crates/one/specs/Other.antt |", 3, "swap_them is not defined in crates/one/specs/Other.antt"),
+    ("docs/PROOFS.md", TABLE + "| `far_away` | crates/one/specs/Good.antt |", 3, "far_away is not defined in crates/one/specs/Good.antt"),
+    ("docs/PROOFS.md", TABLE + "| `swap_them` | |", 3, "swap_them is not defined in no file"),
     ("docs/NOTES.md", TABLE + "| a | b |\n\n| c | d |\n| e | f |", 5, "a row of a table without a head"),
     ("docs/NOTES.md", TABLE + "| a | b |\n\n| c | d |", 5, "a row of a table without a head"),
     ("docs/NOTES.md", "| a | b |\n| c | d |", 1, "a row of a table without a head"),
@@ -281,7 +288,7 @@ FAULTS = [
     ("docs/NOTES.md", TABLE + "| a | b |\nc |", 4, "text directly behind a table"),
     ("docs/NOTES.md", TABLE, 1, "a table without rows"),
     ("docs/NOTES.md", "one ` alone", 1, "a backtick without its other"),
-    ("docs/NOTES.md", "```\nx\n```\n\n```\n`gone-name`\n", 5, "a fence without its other"),
+    ("docs/NOTES.md", "```\nx\n```\n\n```\n`gone_name`\n", 5, "a fence without its other"),
 ]
 
 

@@ -172,7 +172,7 @@ def proved():
     text = text[text.index("\ntrays =") : text.index("-- A rule, a line")]
     for row in re.split(r"\btray\b", re.sub("--.*", "", text))[1:]:
         data, *lists = (bytes(map(int, re.findall(r"\d+", part))) for part in re.findall(r"\(([\d\s∷]*)\[\]\)|\[\]", row))
-        yield data, ELEVEN if "no-plan" in row else planned(*lists[:2])
+        yield data, ELEVEN if "no_plan" in row else planned(*lists[:2])
 
 
 def main():

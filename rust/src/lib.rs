@@ -19,7 +19,7 @@
 //! lent. Planning can take long on a hard card and cannot be stopped, so run it in a thread or process of its own
 //! where that matters; the other calls take time by the length of what is lent.
 //!
-//! The library is `libplanner_c.a`, by `rt staticlib planner_c`, in the repository's target/staticlib or in the
+//! The library is `libplanner_c.a`, by `make library`, in the repository's target/staticlib or in the
 //! folder that `KIT_PLANNER_LIB_DIR` names when the crate is built.
 #![no_std]
 #![warn(missing_docs)]
@@ -27,7 +27,7 @@
 #[cfg(all(no_archive, not(doc)))]
 compile_error!(concat!(
     env!("KIT_PLANNER_ARCHIVE"),
-    " is missing: run `rt staticlib planner_c` in the repository, ",
+    " is missing: run `make library` in the repository, ",
     "or name the folder that holds libplanner_c.a in KIT_PLANNER_LIB_DIR"
 ));
 
