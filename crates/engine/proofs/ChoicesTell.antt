@@ -5,11 +5,10 @@ use native.Mathlib.Numerals.{add-one}
 use native.Mathlib.Omega.{arith}
 use mathlib.Core.Path.{◌≡◌, refl, sym, ◌∙◌, ap, ap₂, subst}
 use mathlib.Core.Logic.{◌⊎◌, inl, inr, ⊎_elim, by_cases}
-use mathlib.Core.Bool.{Bool, true, false, not, cond, ◌&&◌, ◌||◌, true≢false}
-use mathlib.Core.List.{List, [], ◌∷◌, ◌++◌}
+use mathlib.Core.Bool.{Bool, true, false, not, cond, ◌&&◌, true≢false}
+use mathlib.Core.List.{List, ◌∷◌, ◌++◌}
 use lib.ListN.{length, take, set, length-set}
 use lib.Seq.{slice, set-get_or, take-suc-set}
-use lib.Dec.{ltb, eqb}
 use borrow.Author.Tests.{lt-ltb, le-ltb, eq-eqb, ne_eqb, not-false}
 use Rattle.calculus.specs.Formula.{Goal, oplus, residual, usable}
 use Rattle.calculus.specs.Items.{Items}
@@ -17,7 +16,7 @@ use Rattle.calculus.specs.Derivation.{Scope}
 use Rattle.calculus.specs.Steps.{left_choice, right_choice}
 use Rattle.card.specs.Format.{rule_count, line_count, node_count, kind_at, left_at, right_at, byte_at}
 use Rattle.card.specs.Fault.{Sound, goal_part, clause_part, height_at}
-use Rattle.card.specs.Decode.{goal_at, clause_of, scope_of}
+use Rattle.card.specs.Decode.{clause_of, scope_of}
 use Rattle.card.proofs.CardChecked.{sound_front}
 use Rattle.card.proofs.SoundNodes.{goal_lower, clause_lower, goal_above, clause_above, node_here, height_parts, one_of_parts, menu_parts}
 use Rattle.card.proofs.SoundNodes.{sound_one_of, sound_menu}

@@ -4,7 +4,7 @@ use native.Mathlib.Omega.{arith}
 use native.Mathlib.Numerals.{add-one}
 use mathlib.Core.Path.{◌≡◌, refl, sym, ◌∙◌, ap}
 use mathlib.Core.Bool.{Bool, true, false, cond}
-use mathlib.Core.List.{List, [], ◌∷◌, ◌++◌}
+use mathlib.Core.List.{List, ◌∷◌, ◌++◌}
 use lib.ListN.{length, get_or, take, drop, set, take-append-drop, length-take, drop_of_length-le}
 use lib.Seq.{slice, take-take, drop-append-le, slice-cons, get_or-take, get_or-set_same, length-take-le, length-slice, take-suc-set}
 use lib.Dec.{leb, ltb}
@@ -18,7 +18,6 @@ use Rattle.lines.specs.Set.{empty_s, add_s, take_s, cut_s, join_s}
 use Rattle.scope.specs.Inner.Sets.{items}
 use Rattle.scope.specs.Inner.Tables.{Kept}
 use Rattle.scope.proofs.SetsAreItems.{items_empty, items_join, items_cut, items_add, items_take}
-use Rattle.entries.specs.Inner.Entries.{scope_in}
 use Rattle.entries.proofs.TablesAreScopes.{scope_kept, entered_kept}
 use Rattle.agenda.specs.Inner.Order.{Next}
 use Rattle.agenda.specs.Inner.Sought.{floored, lead, past, past_lead, past_with, lent_place, past_use, spent, spending}

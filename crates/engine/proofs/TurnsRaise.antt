@@ -4,12 +4,12 @@ use native.Mathlib.Omega.{arith}
 use native.Mathlib.Numerals.{add-one}
 use mathlib.Core.Path.{◌≡◌, refl, sym, ◌∙◌, ap, subst, fun_ext}
 use mathlib.Core.Bool.{Bool, true, false, cond, not, ◌&&◌, ◌||◌, false≢true}
-use mathlib.Core.List.{List, [], ◌∷◌, ◌++◌}
+use mathlib.Core.List.{List, ◌∷◌, ◌++◌}
 use lib.ListN.{length, get_or, take}
 use lib.Seq.{slice}
 use lib.Dec.{leb}
 use Rattle.calculus.specs.Items.{Items, ∅, ◌∪◌, Within}
-use Rattle.calculus.specs.Derivation.{Scope, size}
+use Rattle.calculus.specs.Derivation.{Scope}
 use Rattle.calculus.proofs.SetLaws.{◌≐◌, table, ∅_∪_within}
 use Rattle.calculus.proofs.SummaryExact.{bounded_within}
 use Rattle.card.specs.Format.{rule_count, byte_at}
@@ -20,7 +20,7 @@ use Rattle.scope.proofs.TablesAreScopes.{kept_again, kept_self}
 use Rattle.entries.specs.Inner.Entries.{scope_in}
 use Rattle.entries.specs.Inner.Twins.{eligible}
 use Rattle.entries.specs.Inner.Masks.{Seen}
-use Rattle.entries.proofs.TablesAreScopes.{scope_kept, entered_kept}
+use Rattle.entries.proofs.TablesAreScopes.{scope_kept}
 use Rattle.agenda.specs.Inner.Agenda.{Agenda}
 use Rattle.agenda.specs.Inner.Order.{Next, next_here}
 use Rattle.agenda.specs.Inner.Order.{Floor as FloorOf}
@@ -31,7 +31,7 @@ use Rattle.agenda.proofs.SearchTells.{part_none, part_solved, part_nosteps, part
 use Rattle.branch.specs.declared.Branch.{Branch}
 use Rattle.branch.specs.declared.Way.{Way}
 use Rattle.branch.specs.declared.Floor.{Floor}
-use Rattle.branch.specs.Inner.Values.{Counted, Answer, Stuck, Tired}
+use Rattle.branch.specs.Inner.Values.{Counted, Stuck, Tired}
 use Rattle.branch.specs.Inner.Values.{lead_b, own_b, past_f}
 use Rattle.branch.proofs.CountsKept.{counted_freed}
 use Rattle.choice.specs.Inner.Choice.{given_at, from_at}

@@ -4,9 +4,8 @@ use native.Mathlib.Omega.{arith}
 use mathlib.Core.Path.{◌≡◌, refl, sym, ◌∙◌, ap, subst}
 use mathlib.Core.Logic.{◌⊎◌, inl, inr}
 use mathlib.Core.Bool.{Bool, true, false}
-use mathlib.Core.List.{List, [], ◌∷◌}
+use mathlib.Core.List.{List}
 use lib.ListN.{length, set}
-use denote.Enum.Declared.{tag_of}
 use Rattle.card.specs.Format.{rule_count, line_count, node_count, kind_at, left_at}
 use Rattle.scope.specs.Inner.Tables.{Kept}
 use Rattle.branch.specs.declared.Branch.{Branch}
@@ -14,7 +13,6 @@ use Rattle.branch.specs.declared.Way.{Way}
 use Rattle.branch.specs.declared.Outcome.{Outcome}
 use Rattle.branch.specs.declared.Outcome.TheVariants.{Solved as IsSolved, Stuck as IsStuck, Tired as IsTired}
 use Rattle.branch.specs.Inner.Values.{Solved, Stuck, Tired, way_in, answer_in, Awake, using_b, past_tensor_b, past_with_b}
-use Rattle.branch.specs.contracts.Outcome.{the_type}
 use Rattle.prune.specs.Inner.Prune.{Memory}
 use Rattle.prune.proofs.RootsKept.{rooted_kept, rooted_lent}
 use Rattle.prune.proofs.StockKept.{stocked_kept}

@@ -1,5 +1,4 @@
 use native.Mathlib.Omega.{arith}
-use borrow.Author.Rules.{rules}
 use mathlib.Core.Path.{ap, ◌∙◌}
 use Rattle.bench_numbers.specs.BenchNumbers.{owner_at}
 use Rattle.bench_numbers.proofs.CardsReadBack.{parts_kept, card_told, card_known}

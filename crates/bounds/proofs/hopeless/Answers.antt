@@ -2,7 +2,6 @@ use native.Mathlib.Omega.{arith}
 use mathlib.Core.Bool.{false≢true}
 use Rattle.bounds.specs.Inner.Doom.{long, short}
 use Rattle.bounds.proofs.CodesRowed.{rowed, filed}
-use borrow.Author.Tests.{not-false}
 use Rattle.bounds.proofs.hopeless.Goals as goal
 
 pub returns-then-not-ready : goal.returns-then-not-ready

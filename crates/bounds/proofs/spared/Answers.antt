@@ -1,9 +1,7 @@
 use native.Mathlib.Omega.{arith}
 use mathlib.Core.Path.{sym, ◌∙◌}
 use mathlib.Core.Bool.{false≢true}
-use borrow.Author.Rules.{rules}
 use Rattle.bounds.proofs.CodesRowed.{rowed}
-use borrow.Author.Tests.{not-false}
 use Rattle.bounds.proofs.spared.Goals as goal
 
 pub least_sum-requires : goal.least_sum-requires

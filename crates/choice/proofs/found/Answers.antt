@@ -1,7 +1,6 @@
 -- The entry that was reached, or the least from one with a menu on.
 use Prim.Native.Nat.{ℕ, ◌≤◌, ◌<◌}
 use native.Mathlib.Omega.{arith}
-use borrow.Author.Rules.{rules}
 use Rattle.choice.specs.Inner.Choice.{Seeks}
 use Rattle.choice.proofs.found.Goals as goal
 

@@ -1,8 +1,6 @@
 -- A rule, or an item at hand; then the lines that it waits for.
 use native.Mathlib.Omega.{arith}
 use mathlib.Core.Path.{refl, sym, ◌∙◌}
-use borrow.Author.Tests.{not-true, not-false}
-use borrow.Author.Rules.{rules}
 use Rattle.card.proofs.CardChecked.{sound_front}
 use Rattle.choice.specs.Inner.Choice.{open_to}
 use Rattle.choice.proofs.open.Goals as goal

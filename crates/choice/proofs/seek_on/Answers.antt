@@ -1,10 +1,8 @@
 -- No entry from the given one up to the loop's is usable.
-use Prim.Native.Nat.{◌-◌, ◌<◌}
 use native.Mathlib.Omega.{arith}
 use mathlib.Core.Path.{refl, sym, ◌∙◌}
-use borrow.Author.Rules.{rules}
-use Rattle.choice.specs.Inner.Choice.{takable_by, Seeks}
-use Rattle.choice.proofs.EntriesPassed.{Passed, passed_none, passed_more}
+use Rattle.choice.specs.Inner.Choice.{Seeks}
+use Rattle.choice.proofs.EntriesPassed.{passed_none, passed_more}
 use Rattle.choice.proofs.seek_on.Goals as goal
 
 pub loop-e-init : goal.loop-e-init

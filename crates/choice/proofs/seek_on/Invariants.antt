@@ -1,9 +1,6 @@
-use Prim.Native.Nat.{◌-◌, ◌<◌}
-use native.Mathlib.Omega.{arith}
-use mathlib.Core.Path.{refl, sym, ◌∙◌}
-use borrow.Author.Rules.{rules}
-use Rattle.choice.specs.Inner.Choice.{takable_by, Seeks}
-use Rattle.choice.proofs.EntriesPassed.{Passed, passed_none, passed_more}
+use Prim.Native.Nat.{◌-◌}
+use Rattle.choice.specs.Inner.Choice.{takable_by}
+use Rattle.choice.proofs.EntriesPassed.{Passed}
 use Rattle.choice.proofs.seek_on.Given as goal
 
 abbrev pub invariant-loop-e : goal.invariant-loop-e

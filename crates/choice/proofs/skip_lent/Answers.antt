@@ -1,16 +1,8 @@
 -- No entry from the given one up to the loop's is usable.
-use Prim.Native.Nat.{ℕ, ◌-◌, ◌<◌}
 use native.Mathlib.Omega.{arith}
-use mathlib.Core.Path.{◌≡◌, refl}
-use mathlib.Core.Bool.{Bool, true, false, ◌&&◌}
-use mathlib.Core.List.{List}
-use lib.ListN.{get_or}
-use borrow.Author.Tests.{lt-ltb, not-true, not-false}
-use borrow.Author.Rules.{rules}
-use Rattle.branch.specs.declared.Branch.{Branch}
-use Rattle.entries.specs.Inner.Entries.{code_fits}
-use Rattle.choice.specs.Inner.Choice.{open_to, takable_by}
-use Rattle.choice.proofs.EntriesPassed.{Passed, passed_none, passed_more}
+use mathlib.Core.Path.{refl}
+use mathlib.Core.Bool.{true, false}
+use Rattle.choice.proofs.EntriesPassed.{passed_none, passed_more}
 use Rattle.choice.proofs.LinesAtHand.{takes}
 use Rattle.choice.proofs.skip_lent.Goals as goal
 

@@ -1,16 +1,6 @@
-use Prim.Native.Nat.{ℕ, ◌-◌, ◌<◌}
-use native.Mathlib.Omega.{arith}
-use mathlib.Core.Path.{◌≡◌, refl}
-use mathlib.Core.Bool.{Bool, true, false, ◌&&◌}
-use mathlib.Core.List.{List}
-use lib.ListN.{get_or}
-use borrow.Author.Tests.{lt-ltb, not-true, not-false}
-use borrow.Author.Rules.{rules}
-use Rattle.branch.specs.declared.Branch.{Branch}
-use Rattle.entries.specs.Inner.Entries.{code_fits}
-use Rattle.choice.specs.Inner.Choice.{open_to, takable_by}
-use Rattle.choice.proofs.EntriesPassed.{Passed, passed_none, passed_more}
-use Rattle.choice.proofs.LinesAtHand.{takes}
+use Prim.Native.Nat.{◌-◌}
+use Rattle.choice.specs.Inner.Choice.{takable_by}
+use Rattle.choice.proofs.EntriesPassed.{Passed}
 use Rattle.choice.proofs.skip_lent.Given as goal
 
 abbrev pub invariant-loop-e : goal.invariant-loop-e

@@ -4,11 +4,10 @@ use native.Mathlib.Omega.{arith}
 use mathlib.Core.Path.{◌≡◌, sym, ◌∙◌}
 use mathlib.Core.Bool.{false}
 use lib.Count.{trailing_le}
-use borrow.Author.Tests.{not-true, not-false}
 use Rattle.card.proofs.CardChecked.{sound_front}
 use Rattle.lines.specs.Inner.Word.{is_empty_l}
 use Rattle.lines.proofs.LineLaws.{rest_less}
-use Rattle.choice.proofs.LinesAtHand.{Left, left_all, left_passed, left_none, lines_end, line_reached, line_passed}
+use Rattle.choice.proofs.LinesAtHand.{left_all, left_passed, left_none, lines_end, line_reached, line_passed}
 use Rattle.choice.proofs.skip_lines.Lts as lts
 use Rattle.choice.proofs.skip_lines.Reads as reads
 use Rattle.choice.proofs.skip_lines.Tie as tie

@@ -1,14 +1,10 @@
 -- Every rule from the given one up to the loop's misses the name.
-use Prim.Native.Nat.{◌-◌}
 use native.Mathlib.Omega.{arith}
 use mathlib.Core.Path.{refl, sym, ◌∙◌, ap}
 use mathlib.Core.Bool.{not}
-use lib.ListN.{get_or}
-use borrow.Author.Tests.{not-true, not-false}
-use borrow.Author.Rules.{rules}
+use borrow.Author.Tests.{not-false}
 use Rattle.card.proofs.CardChecked.{sound_front}
-use Rattle.choice.specs.Inner.Choice.{misses_by}
-use Rattle.choice.proofs.EntriesPassed.{Passed, passed_none, passed_more}
+use Rattle.choice.proofs.EntriesPassed.{passed_none, passed_more}
 use Rattle.choice.proofs.skip_rules.Goals as goal
 
 pub byte-rules-requires : goal.byte-rules-requires

@@ -1,13 +1,9 @@
 use Prim.Native.Nat.{◌-◌}
-use native.Mathlib.Omega.{arith}
-use mathlib.Core.Path.{refl, sym, ◌∙◌, ap}
 use mathlib.Core.Bool.{not}
 use lib.ListN.{get_or}
-use borrow.Author.Tests.{not-true, not-false}
 use borrow.Author.Rules.{rules}
-use Rattle.card.proofs.CardChecked.{sound_front}
 use Rattle.choice.specs.Inner.Choice.{misses_by}
-use Rattle.choice.proofs.EntriesPassed.{Passed, passed_none, passed_more}
+use Rattle.choice.proofs.EntriesPassed.{Passed}
 use Rattle.choice.proofs.skip_rules.Given as goal
 
 abbrev pub invariant-loop-e : goal.invariant-loop-e

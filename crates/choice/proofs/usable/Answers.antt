@@ -1,8 +1,7 @@
 -- An entry past the scope is none; else the code of its heads, at hand, and the lines it waits for.
 use native.Mathlib.Omega.{arith}
 use mathlib.Core.Path.{refl, sym, ◌∙◌}
-use borrow.Author.Tests.{le-ltb, lt-ltb, not-true, not-false}
-use borrow.Author.Rules.{rules}
+use borrow.Author.Tests.{le-ltb, lt-ltb}
 use Rattle.choice.specs.Inner.Choice.{takable_by}
 use Rattle.choice.proofs.usable.Goals as goal
 

@@ -1,56 +1,17 @@
-use borrow.Author.Rules.{rules}
-use Prim.Native.Nat.{ℕ, ◌+◌, ◌*◌, ◌-◌, ◌<◌}
-use native.Mathlib.Omega.{arith}
-use mathlib.Core.Path.{◌≡◌, refl, sym, ◌∙◌, ap}
-use mathlib.Core.List.{[], ◌∷◌}
-use lib.ListN.{replicate}
-use Rattle.calculus.specs.Formula.{Goal}
-use Rattle.card.specs.Format.{kind_at, left_at, right_at}
+use Prim.Native.Nat.{◌+◌, ◌*◌, ◌-◌}
+use Rattle.card.specs.Format.{left_at, right_at}
 use Rattle.card.specs.Decode.{goal_at}
-use Rattle.card.proofs.CardChecked.{sound_front}
-use Rattle.card.proofs.SoundNodes.{clause_lower, node_here}
 use Rattle.agenda.specs.Inner.Agenda.{task}
-use Rattle.branch.specs.declared.Branch.{Branch}
-use Rattle.branch.specs.Inner.Values.{Solved, answer_in, lent_b}
 use Rattle.segment.specs.Inner.Tasks.{agenda_of}
 use Rattle.choice.specs.Inner.Choice.{given_at, from_at}
-use Rattle.branch.specs.declared.Floor.{Floor}
-use mathlib.Core.List.{List}
-use Rattle.inside.specs.Inner.Inside.{InsideOpened, lends}
-use Rattle.engine.specs.Inner.Engine.{Equipped, Ready, GoalReady, Fresh}
+use Rattle.engine.specs.Inner.Engine.{Equipped}
 use Rattle.engine.proofs.NumbersFall.{number, alone}
-use Rattle.engine.proofs.CountIsScan.{count_is_scan}
-use Rattle.engine.proofs.AgendasUnwind.{top_within, top_here, name_next, part_next, unwound_number, unwound_ready}
-use Rattle.engine.proofs.AgendasUnwind.{unwound_searched, closed_searched}
-use Rattle.engine.proofs.WaysSaid.{solved_said, stuck_said, unsolved, equipped_on, equipped_at, equipped_lent}
-use Rattle.engine.proofs.WaysSaid.{AsLarge, large_self, large_on, stays_stuck, stays_from, stays_back, stays_dead, weary_solved, weary_stuck}
-use Rattle.engine.proofs.WaysSaid.{using_count, tensor_count, with_count, awake_stays, stays_tired}
-use Rattle.engine.proofs.NamesTell.{name_of, card_front, name_open, testing, name_here, top_inside, unnested}
-use Rattle.engine.proofs.NamesTell.{roomless, entry_byte, at_inside, entry_clause}
-use Rattle.engine.proofs.NamesTell.{Round, round_start, round_kept, round_ready, round_ends, seek_at, round_onward, round_use}
-use Rattle.engine.proofs.NamesTell.{round_call, round_next, round_found, round_tired, asks, doomed_told, dead_barren, dead_told, solved_using, stuck_using}
+use Rattle.engine.proofs.WaysSaid.{AsLarge}
+use Rattle.engine.proofs.NamesTell.{Round}
 use Rattle.engine.proofs.RaisesEnd.{left_over}
-use Rattle.engine.proofs.TurnsRaise.{turns_start, ready_lead, ready_own, fresh_lead, fresh_own}
-use Rattle.engine.proofs.PartsTell.{goal_next, agenda_same, agenda_last, alone_next, searched_as, searched_at, goal_own, goal_lead}
-use Rattle.engine.proofs.PartsTell.{own_unsolved, own_solved, goal_low, goal_six, left_asks, either_goal, one_task}
-use Rattle.engine.proofs.PartsTell.{searched_past, lent_count, opening, opened_asks, opened_unsolved, opened_solved}
-use Rattle.engine.proofs.BehindTells.{Behind, behind_unsolved, behind_nodes_kept, behind_rest_asks, rest_told, behind_solved}
-use Rattle.engine.proofs.BehindTells.{behind_tired, behind_nosteps, behind_raise_asks, behind_falls, behind_again}
-use Rattle.engine.proofs.BehindTells.{nodes_on as behind-nodes-on}
-use Rattle.engine.proofs.EitherTells.{Either, either_unsolved, either_nodes_kept, with_len, either_rest_asks, either_solved}
-use Rattle.engine.proofs.EitherTells.{either_tired, either_nosteps, either_raise_asks, either_falls, either_again}
-use Rattle.engine.proofs.EitherTells.{nodes_on as either-nodes-on}
-use mathlib.Core.Logic.{inl, inr}
+use Rattle.engine.proofs.BehindTells.{Behind}
+use Rattle.engine.proofs.EitherTells.{Either}
 use Rattle.engine.proofs.NumbersFall.{most, fewest}
-use Rattle.engine.proofs.AgendasUnwind.{one_of_next}
-use Rattle.engine.proofs.WaysSaid.{unstuck}
-use Rattle.engine.proofs.EntersTell.{goal_room, goal_call, goal_told, clause_room, core_here, menu_call, menu_told, head_call, head_told}
-use Rattle.engine.proofs.EntersTell.{never_told, one_of_call, one_of_told}
-use Rattle.engine.proofs.ChoicesTell.{choice_here, side_clause, choice_room, left_told, right_told, choice_byte, choice_tape}
-use Rattle.engine.proofs.ChoicesTell.{side_under, side_shut, side_call, side_unsolved, side_solved}
-use Rattle.engine.proofs.NamesTell.{ready_kept}
-use Rattle.engine.proofs.UsesTell.{use_room, use_core, use_menu_call, use_menu_told, use_head_call, use_head_told}
-use Prim.Native.Nat.{ℕ, ◌<◌}
 use Rattle.engine.proofs.+engine_search.Given as goal
 
 abbrev pub decreases-behind : goal.decreases-behind

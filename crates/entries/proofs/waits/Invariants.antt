@@ -1,19 +1,7 @@
-use Prim.Native.Nat.{ℕ, ◌+◌, ◌-◌, ◌<◌, ◌≤◌}
-use mathlib.Core.Path.{◌≡◌, refl, ◌∙◌}
-use mathlib.Core.Bool.{true}
-use mathlib.Core.List.{List}
-use native.Mathlib.Numerals.{add-one}
-use native.Mathlib.Omega.{arith}
-use borrow.Author.Count.{below_more}
-use lib.ListN.{length, get_or, set, length-set, get_or-replicate}
-use lib.Dec.{eqb}
-use lib.Seq.{get_or-set_same, get_or-set_other}
-use Rattle.card.specs.Format.{node_count, line_count, line_node, line_byte}
-use Rattle.card.specs.Fault.{Sound}
-use Rattle.card.proofs.CardChecked.{sound_front}
-use Rattle.card.proofs.SoundNodes.{clause_lower, line_here, sound_line_node}
-use Rattle.entries.specs.Inner.Masks.{with_line, wider}
-use Rattle.entries.proofs.MasksAreTwins.{Chained, chained_none, chained_more, mask_of, mask_word, mask_waits}
+use Prim.Native.Nat.{ℕ, ◌-◌, ◌<◌, ◌≤◌}
+use mathlib.Core.Path.{◌≡◌}
+use lib.ListN.{length, get_or}
+use Rattle.entries.proofs.MasksAreTwins.{Chained, mask_of}
 use Rattle.entries.proofs.waits.Given as goal
 
 abbrev pub invariant-loop-i : goal.invariant-loop-i

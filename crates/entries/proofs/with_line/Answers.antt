@@ -1,5 +1,4 @@
 use mathlib.Core.Path.{sym, ap, ◌∙◌}
-use borrow.Author.Rules.{rules}
 use Rattle.lines.specs.declared.LineWord.{LineWord}
 use Rattle.lines.proofs.LineLaws.{add_below}
 use Rattle.entries.specs.Inner.Masks.{with_line}

@@ -1,6 +1,5 @@
 -- Word by word.
 use mathlib.Core.Path.{refl}
-use borrow.Author.Rules.{rules}
 use Rattle.keys.proofs.words_of.Goals as goal
 
 pub returns : goal.returns

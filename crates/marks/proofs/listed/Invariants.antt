@@ -1,13 +1,7 @@
-use Prim.Native.Nat.{◌≤◌, ◌+◌, ◌-◌}
-use native.Mathlib.Numerals.{add-one}
-use native.Mathlib.Omega.{arith}
-use mathlib.Core.Path.{◌≡◌}
-use mathlib.Core.List.{[], ◌∷◌, ◌++◌}
+use Prim.Native.Nat.{◌≤◌, ◌-◌}
 use lib.ListN.{take}
-use lib.Seq.{take-suc}
 use borrow.Author.Rules.{rules}
 use Rattle.marks.specs.Inner.Used.{Gathers}
-use Rattle.marks.proofs.LinesGathered.{gathers_none}
 use Rattle.marks.proofs.listed.Given as goal
 
 abbrev pub invariant-loop-at : goal.invariant-loop-at

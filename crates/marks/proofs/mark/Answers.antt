@@ -1,7 +1,6 @@
 -- The mark by its cases: in the list, surely used or not; must and not in it; may and not in it.
 use mathlib.Core.Path.{sym, ◌∙◌, ap}
 use mathlib.Core.Bool.{cond}
-use borrow.Author.Rules.{rules}
 use borrow.Author.Tests.{eq-eqb, ne_eqb}
 use Rattle.marks.specs.Inner.Used.{mark_by}
 use Rattle.marks.proofs.mark.Goals as goal

@@ -2,7 +2,6 @@
 use mathlib.Core.Path.{◌∙◌, ap}
 use mathlib.Core.Bool.{not}
 use lib.Dec.{eqb}
-use borrow.Author.Rules.{rules}
 use Rattle.card.specs.Format.{byte_at}
 use Rattle.card.specs.Verdict.{mark as markAt, refuse, where_of}
 use Rattle.marks.specs.Inner.Used.{fault_by}

@@ -1,11 +1,10 @@
 -- `marks_check` meets its contract: the marks before the present one have passed.
-use Prim.Native.Nat.{ℕ, ◌≤◌, ◌-◌, ◌<◌}
+use Prim.Native.Nat.{ℕ, ◌<◌}
 use mathlib.Core.List.{List}
 use native.Mathlib.Omega.{arith}
 use mathlib.Core.Path.{◌≡◌, refl, sym}
-use lib.ListN.{take}
 use Rattle.card.specs.Format.{line_count, rule_count}
-use Rattle.card.specs.Verdict.{first_of, sound, told}
+use Rattle.card.specs.Verdict.{first_of, told}
 use Rattle.card.proofs.CardChecked.{refused_at, passed_at}
 use Rattle.scope.specs.Inner.Sets.{word_items}
 use Rattle.marks.specs.Marks.{mark_fault}

@@ -1,13 +1,9 @@
-use Prim.Native.Nat.{◌≤◌, ◌-◌, ◌<◌}
-use native.Mathlib.Omega.{arith}
-use mathlib.Core.Path.{◌≡◌, refl, sym}
+use Prim.Native.Nat.{◌≤◌, ◌-◌}
+use mathlib.Core.Path.{◌≡◌}
 use lib.ListN.{take}
-use Rattle.card.specs.Format.{line_count}
-use Rattle.card.specs.Verdict.{first_of, sound, told}
-use Rattle.card.proofs.CardChecked.{refused_at, passed_at}
+use Rattle.card.specs.Verdict.{first_of, sound}
 use Rattle.scope.specs.Inner.Sets.{word_items}
 use Rattle.marks.specs.Marks.{mark_fault}
-use Rattle.marks.proofs.LinesGathered.{fault_by_lem}
 use Rattle.marks.proofs.marks_check.Given as goal
 
 abbrev pub invariant-loop-i : goal.invariant-loop-i

@@ -1,6 +1,5 @@
 -- A rule, something past the lines, or a line.
 use native.Mathlib.Omega.{arith}
-use borrow.Author.Rules.{rules}
 use Rattle.marks.proofs.LinesGathered.{gathers_rule, gathers_past, gathers_item}
 use Rattle.marks.proofs.with_line.Goals as goal
 

@@ -1,9 +1,8 @@
-use Prim.Native.Nat.{ℕ, ◌≤◌, ◌-◌, ◌<◌}
+use Prim.Native.Nat.{◌<◌}
 use native.Mathlib.Omega.{arith}
 use native.Mathlib.Numerals.{add-one}
 use mathlib.Core.Path.{◌≡◌, refl, ◌∙◌, ap}
-use mathlib.Core.List.{◌++◌}
-use lib.ListN.{length, take, drop}
+use lib.ListN.{length, take}
 use Rattle.card.specs.Format.{rule_count, line_count, listing}
 use Rattle.card.specs.Sheet.{mark_of, marks_of}
 use Rattle.scope.specs.Inner.Sets.{word_items}

@@ -1,15 +1,10 @@
-use Prim.Native.Nat.{ℕ, ◌≤◌, ◌-◌, ◌<◌}
-use native.Mathlib.Omega.{arith}
-use native.Mathlib.Numerals.{add-one}
-use mathlib.Core.Path.{◌≡◌, refl, ◌∙◌, ap}
+use Prim.Native.Nat.{◌≤◌, ◌-◌}
+use mathlib.Core.Path.{◌≡◌}
 use mathlib.Core.List.{◌++◌}
-use lib.ListN.{length, take, drop}
-use Rattle.card.specs.Format.{rule_count, line_count, listing}
-use Rattle.card.specs.Sheet.{mark_of, marks_of}
+use lib.ListN.{take, drop}
+use Rattle.card.specs.Format.{listing}
+use Rattle.card.specs.Sheet.{mark_of}
 use Rattle.scope.specs.Inner.Sets.{word_items}
-use Rattle.marks.specs.Inner.Used.{Gathers}
-use Rattle.marks.proofs.LinesGathered.{mark_by_lem}
-use Rattle.marks.proofs.LinesMarked.{listing_more, listing_kept}
 use Rattle.marks.proofs.write_marks.Given as goal
 
 abbrev pub invariant-loop-i : goal.invariant-loop-i

@@ -1,4 +1,3 @@
-use borrow.Author.Rules.{rules}
 use native.Mathlib.Omega.{arith}
 use Rattle.card.proofs.CardChecked.{sound_front}
 use Rattle.moves.proofs.lent_item.Goals as goal

@@ -2,7 +2,6 @@
 use Prim.Native.Nat.{◌+◌, ◌-◌}
 use native.Mathlib.Omega.{arith}
 use mathlib.Core.Path.{ap}
-use borrow.Author.Rules.{rules}
 use Rattle.moves.specs.Inner.Moves.{raised_f}
 use Rattle.moves.proofs.raise.Goals as goal
 

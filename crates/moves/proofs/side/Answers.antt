@@ -1,5 +1,4 @@
 -- The left part for the left choice, else the right one.
-use borrow.Author.Rules.{rules}
 use borrow.Author.Tests.{eq-eqb, ne_eqb}
 use Rattle.moves.specs.Inner.Moves.{side_at}
 use Rattle.moves.proofs.side.Goals as goal

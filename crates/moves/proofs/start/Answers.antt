@@ -3,7 +3,6 @@ use Prim.Native.Nat.{◌+◌}
 use native.Mathlib.Omega.{arith}
 use mathlib.Core.Path.{◌≡◌, refl, ◌∙◌, ap, ap₂}
 use mathlib.Core.Bool.{false}
-use borrow.Author.Rules.{rules}
 use Rattle.card.specs.Format.{line_count}
 use Rattle.card.proofs.CardChecked.{sound_front}
 use Rattle.lines.specs.Set.{full_s, cut_s}

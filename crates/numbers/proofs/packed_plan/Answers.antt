@@ -1,5 +1,4 @@
 -- `packed_plan` meets its contract: each case of the answer is told as a number that reads as it.
-use borrow.Author.Rules.{rules}
 use Rattle.numbers.proofs.NumbersReadBack.{plain_fine, tells_planned, tells_refused}
 use Rattle.numbers.proofs.packed_plan.Goals as goal
 

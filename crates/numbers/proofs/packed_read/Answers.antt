@@ -1,5 +1,4 @@
 -- `packed_read` meets its contract: each case of the answer is told as a number that reads as it.
-use borrow.Author.Rules.{rules}
 use Rattle.numbers.proofs.NumbersReadBack.{plain_fine, tells_accepted, tells_not_accepted}
 use Rattle.numbers.proofs.packed_read.Goals as goal
 

@@ -1,6 +1,5 @@
 use native.Mathlib.Omega.{arith}
 use mathlib.Core.Path.{refl}
-use borrow.Author.Rules.{rules}
 use Rattle.card.specs.Verdict.{where_of}
 use Rattle.numbers.specs.Numbers.{places, place_of}
 use Rattle.numbers.proofs.NumbersReadBack.{told_at, index_of, plain_indexed, plain_bare}

@@ -1,6 +1,5 @@
 -- `kit_join` meets its contract: the answer is an outcome, and its number reads as it.
 use mathlib.Core.Path.{sym, subst}
-use borrow.Author.Rules.{rules}
 use Rattle.bench.specs.Bench.{JoinVerdict, Joining}
 use Rattle.bench.proofs.BenchDecided.{join_decided}
 use Rattle.bench_numbers.proofs.CardsReadBack.{join_nonzero}

@@ -1,6 +1,5 @@
 -- `kit_plan` meets its contract: the answer is an outcome, and its number reads as it.
 use mathlib.Core.Path.{sym, subst}
-use borrow.Author.Rules.{rules}
 use Rattle.planning.specs.Plan.{PlanVerdict, Planning}
 use Rattle.planner.proofs.PlannedExactly.{plan_decided}
 use Rattle.numbers.proofs.NumbersReadBack.{plan_nonzero}

@@ -1,6 +1,5 @@
 -- `kit_read` meets its contract: the answer is an outcome and accepts exactly what it should, and its number reads as it.
 use mathlib.Core.Path.{sym, subst}
-use borrow.Author.Rules.{rules}
 use Rattle.reader.specs.Read.{Reading, AcceptsExactly}
 use Rattle.reader.proofs.AcceptedExactly.{read_decided}
 use Rattle.numbers.proofs.NumbersReadBack.{read_nonzero}

@@ -1,6 +1,5 @@
 -- `kit_source` meets its contract: its number reads as the outcome.
 use mathlib.Core.Path.{◌∙◌, sym, subst}
-use borrow.Author.Rules.{rules}
 use Rattle.bench.specs.Bench.{SourceVerdict, unheld}
 use Rattle.bench.proofs.BenchDecided.{source_decided}
 use Rattle.bench_numbers.specs.Inner.Nonzero.{OwnedNonzero}

@@ -1,5 +1,4 @@
 use native.Mathlib.Omega.{arith}
-use borrow.Author.Rules.{rules}
 use Rattle.planning.specs.Inner.Room.{RoomSays}
 use Rattle.planning.proofs.room_for.Goals as goal
 

@@ -1,6 +1,5 @@
 -- `write_plan` meets its contract: the list is within the step limit, so there is room for its sheet, and this is the outcome.
 use native.Mathlib.Omega.{arith}
-use borrow.Author.Rules.{rules}
 use Rattle.card.proofs.CardChecked.{sound_front}
 use Rattle.planning.specs.Plan.{told_plan}
 use Rattle.planning.proofs.SheetPlanned.{within, sheet_planned}

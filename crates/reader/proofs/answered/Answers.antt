@@ -1,6 +1,5 @@
 -- `answered` meets its contract, case by case.
 use mathlib.Core.Path.{ap, sym}
-use borrow.Author.Rules.{rules}
 use Rattle.card.specs.declared.Checked.{Checked}
 use Rattle.card.specs.Verdict.{told}
 use Rattle.card.specs.Inner.Checks.{answer_of}

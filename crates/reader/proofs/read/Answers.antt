@@ -1,7 +1,6 @@
 -- `read` meets its contract: 1 to 9, or the outcome of what comes after them; and it accepts exactly what holds a list, since every byte
 -- of the lent sheet is below 256.
 use native.Mathlib.Omega.{arith}
-use borrow.Author.Rules.{rules}
 use Rattle.std.proofs.Common.{ℕ, List, ◌<◌, get_or}
 use Rattle.card.specs.Format.{Bytes}
 use Rattle.reader.specs.Read.{accepted, refused, Reading, faulty}

@@ -1,6 +1,5 @@
 -- `read_marks` meets its contract: the marks' answer is 14 or acceptance.
 use native.Mathlib.Omega.{arith}
-use borrow.Author.Rules.{rules}
 use Rattle.card.proofs.CardChecked.{sound_front}
 use Rattle.sheet_front.proofs.SheetFits.{fitting}
 use Rattle.reader.specs.Read.{told_read}

@@ -1,5 +1,4 @@
 -- `read_sheet` meets its contract: 12, or the outcome of what comes after it.
-use borrow.Author.Rules.{rules}
 use Rattle.card.proofs.CardChecked.{passed, sound_front, stopped}
 use Rattle.reader.specs.Read.{accepted, refused, Reading, misfit}
 use Rattle.reader.proofs.read_sheet.Goals as goal

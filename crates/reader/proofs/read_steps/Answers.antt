@@ -1,6 +1,5 @@
 -- `read_steps` meets its contract: the walk's answer is 13, 17, 18 or 19, or a list with the lines that it surely uses.
 use native.Mathlib.Omega.{arith}
-use borrow.Author.Rules.{rules}
 use Rattle.sheet_front.proofs.SheetFits.{fitting}
 use Rattle.reader.proofs.ReaderExits.{fits_so, steps_room, found_list, found_sure, found_wrong}
 use Rattle.reader.proofs.read_steps.Goals as goal

@@ -1,6 +1,5 @@
 -- Case by case.
 use mathlib.Core.Path.{ap, sym}
-use borrow.Author.Rules.{rules}
 use Rattle.trace.specs.declared.Followed.{Followed}
 use Rattle.trace.specs.Inner.Listing.{told_followed}
 use Rattle.card.specs.Inner.Checks.{answer_of}

@@ -1,8 +1,7 @@
-use Prim.Native.Nat.{◌+◌, ◌≤◌}
+use Prim.Native.Nat.{◌+◌}
 use native.Mathlib.Omega.{arith}
-use lib.ListN.{length, take}
+use lib.ListN.{take}
 use lib.Seq.{length-take-le}
-use borrow.Author.Rules.{rules}
 use Rattle.card.specs.Format.{line_count}
 use Rattle.card.specs.Sheet.{marks_of}
 use Rattle.scope.specs.Inner.Sets.{word_items}

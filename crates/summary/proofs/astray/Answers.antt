@@ -1,6 +1,5 @@
 -- Case by case.
 use mathlib.Core.Path.{ap, sym}
-use borrow.Author.Rules.{rules}
 use Rattle.summary.specs.Inner.Values.{astray_w}
 use Rattle.summary.proofs.astray.Goals as goal
 

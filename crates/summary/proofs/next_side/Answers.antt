@@ -2,7 +2,6 @@
 use Prim.Native.Nat.{◌<◌}
 use native.Mathlib.Omega.{arith}
 use mathlib.Core.Path.{refl}
-use borrow.Author.Rules.{rules}
 use Rattle.card.specs.Verdict.{where_of}
 use Rattle.summary.proofs.StepsTell.{side_past, side_left, side_right, side_none}
 use Rattle.summary.proofs.next_side.Goals as goal

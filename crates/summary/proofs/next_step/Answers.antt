@@ -1,8 +1,6 @@
 -- By the tests: a step left, an entry in scope, a head that fits, nesting left.
-use Prim.Native.Nat.{◌<◌}
 use native.Mathlib.Omega.{arith}
 use mathlib.Core.Path.{refl}
-use borrow.Author.Tests.{not-true, not-false}
 use Rattle.card.specs.Verdict.{where_of}
 use Rattle.card.proofs.CardChecked.{sound_front}
 use Rattle.card.proofs.SoundNodes.{clause_lower}

@@ -1,5 +1,4 @@
 -- By the two tests, in their order.
-use borrow.Author.Rules.{rules}
 use Rattle.card.specs.Verdict.{where_of}
 use Rattle.trace.proofs.FollowsExactly.{end_early, end_whole}
 use Rattle.trace.proofs.end_check.Goals as goal

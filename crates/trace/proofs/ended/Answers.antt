@@ -1,6 +1,5 @@
 -- The tests of the end, with as many must lines as a scan finds; then the lines of the walk.
 use mathlib.Core.Path.{◌∙◌, ap, sym, subst}
-use borrow.Author.Rules.{rules}
 use Rattle.lines.specs.Count.{count_s}
 use Rattle.trace.specs.Inner.Listing.{Ending}
 use Rattle.trace.proofs.ended.Goals as goal

@@ -1,5 +1,5 @@
 -- The walk of the goal, then the tests of its end and of its items. The step limit is a byte, so the list is short.
-use Prim.Native.Nat.{ℕ, ◌≤◌, ◌<◌}
+use Prim.Native.Nat.{◌≤◌}
 use native.Mathlib.Omega.{arith}
 use mathlib.Core.Path.{refl}
 use Rattle.card.proofs.CardChecked.{sound_front}

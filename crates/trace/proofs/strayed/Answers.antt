@@ -1,6 +1,5 @@
 -- Case by case.
 use mathlib.Core.Path.{ap, sym}
-use borrow.Author.Rules.{rules}
 use Rattle.trace.specs.Inner.Listing.{followed_of}
 use Rattle.trace.proofs.strayed.Goals as goal
 

@@ -1,6 +1,5 @@
 -- Case by case.
 use mathlib.Core.Path.{refl, ap, sym}
-use borrow.Author.Rules.{rules}
 use Rattle.card.specs.Verdict.{told}
 use Rattle.trace.specs.Inner.Listing.{told_followed, HasLines}
 use Rattle.trace.proofs.with_lines.Goals as goal

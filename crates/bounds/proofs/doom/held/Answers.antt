@@ -1,8 +1,6 @@
 use mathlib.Core.Path.{sym, ◌∙◌, ap, ap₂}
 use mathlib.Core.Bool.{◌&&◌}
-use borrow.Author.Rules.{rules}
 use Rattle.bounds.specs.Inner.Table.{takes_in, in_class, head_at, class_at}
-use borrow.Author.Tests.{not-true, not-false}
 use Rattle.bounds.proofs.doom.held.Goals as goal
 
 pub returns-then-not-has : goal.returns-then-not-has

@@ -1,10 +1,9 @@
 -- The first k lent clauses are counted.
 use borrow.Author.Rules.{rules}
-use Prim.Native.Nat.{◌+◌, ◌-◌, ◌≤◌, ◌<◌}
+use Prim.Native.Nat.{◌+◌, ◌≤◌, ◌<◌}
 use native.Mathlib.Numerals.{add-one}
 use native.Mathlib.Omega.{arith}
 use mathlib.Core.Path.{◌≡◌, refl, ◌∙◌, ap}
-use mathlib.Core.Logic.{⊎_elim}
 use Rattle.bounds.specs.Inner.Doom.{lent_stock}
 use Rattle.lines.specs.Count.{bit, number}
 use Rattle.bounds.proofs.doom.lent_stock.Goals as goal

@@ -1,11 +1,6 @@
-use borrow.Author.Rules.{rules}
-use Prim.Native.Nat.{◌+◌, ◌-◌, ◌≤◌, ◌<◌}
-use native.Mathlib.Numerals.{add-one}
-use native.Mathlib.Omega.{arith}
-use mathlib.Core.Path.{◌≡◌, refl, ◌∙◌, ap}
-use mathlib.Core.Logic.{⊎_elim}
+use Prim.Native.Nat.{◌-◌, ◌≤◌}
+use mathlib.Core.Path.{◌≡◌}
 use Rattle.bounds.specs.Inner.Doom.{lent_stock}
-use Rattle.lines.specs.Count.{bit, number}
 use Rattle.bounds.proofs.doom.lent_stock.Given as goal
 
 abbrev pub invariant-loop-k : goal.invariant-loop-k

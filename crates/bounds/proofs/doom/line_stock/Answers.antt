@@ -2,7 +2,6 @@
 use Prim.Native.Nat.{ℕ, ◌≤◌}
 use mathlib.Core.Path.{sym, ap, ◌∙◌, subst}
 use lib.ListN.{get_or}
-use borrow.Author.Rules.{rules}
 use Rattle.lines.specs.declared.LineWord.{LineWord}
 use Rattle.lines.specs.Inner.Word.{meet_l, count_l}
 use Rattle.lines.proofs.LineLaws.{count_few}

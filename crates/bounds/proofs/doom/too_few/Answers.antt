@@ -1,7 +1,6 @@
 use native.Mathlib.Omega.{arith}
 use mathlib.Core.Path.{ap}
 use mathlib.Core.Bool.{false≢true}
-use borrow.Author.Rules.{rules}
 use Rattle.bounds.specs.Inner.Doom.{stock}
 use borrow.Author.Tests.{ltb-true}
 use Rattle.bounds.proofs.doom.too_few.Goals as goal

@@ -1,6 +1,4 @@
 -- The first class that is short ends the loop.
-use borrow.Author.Rules.{rules}
-use Prim.Native.Nat.{◌-◌, ◌≤◌}
 use native.Mathlib.Omega.{arith}
 use mathlib.Core.Bool.{false≢true}
 use Rattle.bounds.specs.Inner.Doom.{few, many}

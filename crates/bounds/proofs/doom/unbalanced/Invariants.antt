@@ -1,8 +1,4 @@
-use borrow.Author.Rules.{rules}
 use Prim.Native.Nat.{◌-◌, ◌≤◌}
-use native.Mathlib.Omega.{arith}
-use mathlib.Core.Bool.{false≢true}
-use Rattle.bounds.specs.Inner.Doom.{few, many}
 use Rattle.bounds.proofs.doom.unbalanced.Given as goal
 
 abbrev pub invariant-loop-c : goal.invariant-loop-c

@@ -1,4 +1,3 @@
-use borrow.Author.Rules.{rules}
 use Rattle.card.proofs.SoundNodes.{node_here}
 use Rattle.bounds.proofs.nodes.kind_at.Goals as goal
 

@@ -1,7 +1,6 @@
 -- An element of a slice of u16 is below 65536.
 use native.Mathlib.Omega.{arith}
 use mathlib.Core.Path.{refl}
-use borrow.Author.Rules.{rules}
 use Rattle.segment.proofs.tasks.code.Goals as goal
 
 pub overflow_cast-result : goal.overflow_cast-result

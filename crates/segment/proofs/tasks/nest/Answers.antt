@@ -2,7 +2,6 @@
 use Prim.Native.Nat.{◌%◌}
 use mathlib.Core.Path.{ap}
 use Rattle.segment.specs.Inner.Tasks.{nest_of}
-use borrow.Author.Rules.{rules}
 use Rattle.segment.proofs.tasks.nest.Goals as goal
 
 pub returns : goal.returns

@@ -2,7 +2,6 @@
 use Prim.Native.Nat.{◌/◌}
 use mathlib.Core.Path.{ap}
 use Rattle.segment.specs.Inner.Tasks.{node_of}
-use borrow.Author.Rules.{rules}
 use Rattle.segment.proofs.tasks.node.Goals as goal
 
 pub returns : goal.returns

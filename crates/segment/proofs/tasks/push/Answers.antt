@@ -9,7 +9,7 @@ use native.Mathlib.Omega.{arith}
 use borrow.Author.Rules.{rules}
 use lib.ListN.{length, set, length-set}
 use Rattle.calculus.specs.Formula.{Clause}
-use Rattle.card.specs.Format.{rule_count, node_count, kind_at, left_at, right_at}
+use Rattle.card.specs.Format.{node_count, kind_at, left_at, right_at}
 use Rattle.card.specs.Fault.{Sound, clause_part, goal_part, height_at}
 use Rattle.card.specs.Decode.{clause_of}
 use Rattle.card.proofs.CardChecked.{sound_front}
@@ -18,7 +18,7 @@ use Rattle.card.proofs.SoundNodes.{clause_lower, clause_kind, clause_above, goal
 use Rattle.card.proofs.SoundNodes.{sound_recipe, sound_menu}
 use Rattle.card.proofs.SoundNodes.{height_pos, height_parts}
 use Rattle.agenda.specs.Inner.Agenda.{Agenda, pushed, core}
-use Rattle.segment.specs.Inner.Tasks.{agenda_of, Laid, Pushing}
+use Rattle.segment.specs.Inner.Tasks.{agenda_of, Pushing}
 use Rattle.segment.proofs.TasksAreAgendas.{task_code, fit_code, agenda_put, laid_put}
 use Rattle.segment.proofs.tasks.push.Invariants.{Putting}
 use Rattle.segment.proofs.tasks.push.Goals as goal

@@ -1,23 +1,13 @@
-use Prim.Native.Nat.{ℕ, ◌+◌, ◌*◌, ◌<◌, ◌≤◌}
-use mathlib.Core.Path.{◌≡◌, refl, sym, ◌∙◌, ap}
-use mathlib.Core.Logic.{⊎_elim}
+use Prim.Native.Nat.{ℕ, ◌+◌, ◌*◌, ◌≤◌}
+use mathlib.Core.Path.{◌≡◌}
 use mathlib.Core.Bool.{true}
-use mathlib.Core.List.{List, ◌∷◌}
-use native.Mathlib.Omega.{arith}
-use borrow.Author.Rules.{rules}
-use lib.ListN.{length, set, length-set}
-use Rattle.calculus.specs.Formula.{Clause}
-use Rattle.card.specs.Format.{rule_count, node_count, kind_at, left_at, right_at}
-use Rattle.card.specs.Fault.{Sound, clause_part, goal_part, height_at}
+use mathlib.Core.List.{List}
+use lib.ListN.{length}
+use Rattle.card.specs.Format.{rule_count, node_count, kind_at}
+use Rattle.card.specs.Fault.{clause_part, height_at}
 use Rattle.card.specs.Decode.{clause_of}
-use Rattle.card.proofs.CardChecked.{sound_front}
-use Rattle.card.proofs.NodesDecoded.{reads_name, reads_rest}
-use Rattle.card.proofs.SoundNodes.{clause_lower, clause_kind, clause_above, goal_above, node_here, parts_below, recipe_parts}
-use Rattle.card.proofs.SoundNodes.{sound_recipe, sound_menu}
-use Rattle.card.proofs.SoundNodes.{height_pos, height_parts}
-use Rattle.agenda.specs.Inner.Agenda.{Agenda, pushed, core}
-use Rattle.segment.specs.Inner.Tasks.{agenda_of, Laid, Pushing}
-use Rattle.segment.proofs.TasksAreAgendas.{task_code, fit_code, agenda_put, laid_put}
+use Rattle.agenda.specs.Inner.Agenda.{pushed, core}
+use Rattle.segment.specs.Inner.Tasks.{agenda_of, Laid}
 use Rattle.segment.proofs.tasks.push.Given as goal
 
 -- n tasks with the clause at the node still to be put: what the loop keeps

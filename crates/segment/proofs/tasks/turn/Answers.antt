@@ -1,6 +1,5 @@
 -- By the kind of the next task.
 use native.Mathlib.Omega.{arith}
-use borrow.Author.Rules.{rules}
 use Rattle.segment.proofs.TurnsTell.{rest_turn, done_turn, both_turn, both_short, both_splits}
 use Rattle.segment.proofs.tasks.turn.Goals as goal
 

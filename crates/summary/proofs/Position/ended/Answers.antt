@@ -1,5 +1,4 @@
 -- The empty sets.
-use borrow.Author.Rules.{rules}
 use Rattle.summary.proofs.Position.ended.Goals as goal
 
 pub returns : goal.returns

@@ -2,7 +2,6 @@
 use mathlib.Core.Path.{◌∙◌, ap}
 use mathlib.Core.Bool.{◌||◌}
 use Rattle.lines.specs.Set.{is_empty_s}
-use borrow.Author.Rules.{rules}
 use Rattle.summary.proofs.Summary.covers.Goals as goal
 
 pub returns : goal.returns

@@ -1,7 +1,6 @@
 -- What the callees answer, put together.
 use mathlib.Core.Path.{◌∙◌, ap}
 use mathlib.Core.Bool.{◌&&◌, ◌||◌}
-use borrow.Author.Rules.{rules}
 use Rattle.summary.proofs.Summary.without.Goals as goal
 
 pub returns : goal.returns
