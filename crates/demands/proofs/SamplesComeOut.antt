@@ -1,7 +1,7 @@
 -- 01's sample card and a card whose list has a rule, a line and a lent clause: planned with their sheets, which are accepted.
 use Prim.Native.Nat.{ℕ, ◌+◌, ◌≤◌}
 use mathlib.Core.Path.{◌≡◌, ap, subst}
-use mathlib.Core.List.{List, ◌∷◌, ◌++◌}
+use mathlib.Core.List.{List, [], ◌∷◌, ◌++◌}
 use lib.ListN.{length, drop}
 use Rattle.calculus.specs.Job.{surely_used}
 use Rattle.card.specs.Format.{line_count}

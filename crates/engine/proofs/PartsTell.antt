@@ -6,7 +6,7 @@ use native.Mathlib.Nat.{mul-le-mul_right, one-le-mul}
 use mathlib.Core.Path.{◌≡◌, refl, sym, ◌∙◌, ap, ap₂, subst}
 use mathlib.Core.Logic.{⊎_elim, ◌⊎◌, inl, inr}
 use mathlib.Core.Bool.{true, false, ◌||◌}
-use mathlib.Core.List.{List, ◌∷◌}
+use mathlib.Core.List.{List, [], ◌∷◌}
 use lib.ListN.{length, get_or, set}
 use lib.Seq.{slice}
 use Rattle.calculus.specs.Formula.{Goal, Clause, with, lolliᴳ}

@@ -4,7 +4,7 @@ use native.Mathlib.Omega.{arith}
 use native.Mathlib.Numerals.{add-one}
 use mathlib.Core.Path.{◌≡◌, refl, sym, ◌∙◌, ap}
 use mathlib.Core.Bool.{Bool, true, false, cond}
-use mathlib.Core.List.{List, ◌∷◌, ◌++◌}
+use mathlib.Core.List.{List, [], ◌∷◌, ◌++◌}
 use lib.ListN.{length, get_or, take, drop, set, take-append-drop, length-take, drop_of_length-le}
 use lib.Seq.{slice, take-take, drop-append-le, slice-cons, get_or-take, get_or-set_same, length-take-le, length-slice, take-suc-set}
 use lib.Dec.{leb, ltb}

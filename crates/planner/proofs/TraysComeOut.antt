@@ -3,7 +3,7 @@
 use Prim.Native.Nat.{ℕ}
 use mathlib.Core.Path.{◌≡◌, refl, ap, ◌∙◌}
 use mathlib.Core.Bool.{true}
-use mathlib.Core.List.{List, flat_map}
+use mathlib.Core.List.{List, [], flat_map}
 use Rattle.calculus.specs.Formula.{residual, matched}
 use Rattle.calculus.specs.Items.{∅, only}
 use Rattle.calculus.specs.Derivation.{size, entry_at, clause_at, linear_at, residual_at, extend, lend}

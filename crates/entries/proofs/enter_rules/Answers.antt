@@ -1,6 +1,7 @@
 -- The first i rules are entered.
 use Prim.Native.Nat.{◌<◌}
 use mathlib.Core.Path.{◌≡◌, refl}
+use mathlib.Core.List.{[]}
 use native.Mathlib.Numerals.{add-one}
 use native.Mathlib.Omega.{arith}
 use Rattle.card.specs.Format.{rule_count, rule_node, listing}
