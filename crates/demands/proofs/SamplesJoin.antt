@@ -6,14 +6,14 @@ use lib.ListN.{length, drop}
 use borrow.Author.Tests.{le-ltb}
 use Rattle.card.specs.Format.{grow}
 use Rattle.card.specs.Kinds.{kinds, kind_of}
-use Rattle.card.specs.Verdict.{refuse, first_of, sheet}
+use Rattle.card.specs.Verdict.{refuse, ◌▹◌, first_of, sheet}
 use Rattle.card.specs.Fault.{first_fault, front_fault, in_range, given, is_goal, is_clause, goal_part, clause_part, fits_field, well_built, part_height}
 use Rattle.card.specs.Fault.{height_step, height_at, node_fault, goal_fault, rule_fault, line_fault, line_good}
 use Rattle.card.proofs.FaultsInOrder.{refuse_false}
 use Rattle.joined.specs.Joined.{overfull, joined_height}
 use Rattle.joined.specs.Sample.{first_sample, second_sample, joined_sample}
 use Rattle.joined.proofs.SampleJoined.{sample_joined}
-use Rattle.benched.specs.Benched.{BenchVerdict, fine, neither, first, second, about, bench_fault, said_of}
+use Rattle.benched.specs.Benched.{BenchVerdict, fine, neither, first, second, about, ◌▸◌, bench_fault, said_of}
 use Rattle.benched.proofs.BenchChecked.{after_fine}
 use Rattle.bench.specs.Bench.{joined, join_fault, Joining, is_joined, held, source_fault, holder, source_of, part_of}
 

@@ -5,7 +5,7 @@ use mathlib.Core.Path.{◌≡◌, refl, ap, ◌∙◌}
 use mathlib.Core.Bool.{true}
 use mathlib.Core.List.{List, [], flat_map}
 use Rattle.calculus.specs.Formula.{residual, matched}
-use Rattle.calculus.specs.Items.{∅, only}
+use Rattle.calculus.specs.Items.{∅, ◌∪◌, ◌∩◌, ◌∖◌, only}
 use Rattle.calculus.specs.Derivation.{size, entry_at, clause_at, linear_at, residual_at, extend, lend}
 use Rattle.calculus.specs.Steps.{stands}
 use Rattle.calculus.specs.Inner.Surely.{surely_in_turn, taken, used_first, goal_surely, entry_surely, name_surely, surely_of}
@@ -14,7 +14,7 @@ use Rattle.calculus.specs.Inner.Enumeration.{fitting, lists, matches, among, lea
 use Rattle.calculus.proofs.SurelyByList.{surely_of_lem}
 use Rattle.calculus.proofs.EnumerationExact.{first_listed, none_listed}
 use Rattle.card.specs.Format.{listing, grow}
-use Rattle.card.specs.Verdict.{sound, refuse, first_of}
+use Rattle.card.specs.Verdict.{sound, refuse, ◌▹◌, first_of}
 use Rattle.card.specs.Kinds.{kinds, kind_of}
 use Rattle.card.specs.Fault.{first_fault, front_fault, in_range, given, is_goal, is_clause, goal_part, clause_part, fits_field, well_built}
 use Rattle.card.specs.Fault.{part_height, height_step, height_at, node_fault, goal_fault, rule_fault, line_good, line_fault}

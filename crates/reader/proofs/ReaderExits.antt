@@ -12,7 +12,7 @@ use Rattle.card.specs.declared.Checked.{Checked}
 use Rattle.card.specs.declared.Checked.TheVariants.{Sound as SoundCard, Refused as RefusedCard}
 use Rattle.card.specs.declared.Refusal.{Refusal}
 use Rattle.card.specs.Format.{byte_at, line_count}
-use Rattle.card.specs.Verdict.{Verdict, Where, sound, fault, mark, refuse, first_of, told, steps}
+use Rattle.card.specs.Verdict.{Verdict, Where, sound, fault, mark, refuse, ◌▹◌, first_of, told, steps}
 use Rattle.card.specs.Fault.{Sound}
 use Rattle.card.specs.Decode.{job_of}
 use Rattle.card.proofs.MarksByLines.{mark_same}

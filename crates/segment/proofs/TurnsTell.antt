@@ -10,7 +10,7 @@ use mathlib.Core.Bool.{Bool, true, false, ◌||◌}
 use mathlib.Core.List.{List, ◌∷◌}
 use lib.ListN.{length, get_or, set, length-set}
 use Rattle.calculus.specs.Formula.{Goal}
-use Rattle.calculus.specs.Items.{Items, ∅}
+use Rattle.calculus.specs.Items.{Items, ∅, ◌∪◌}
 use Rattle.card.specs.Format.{node_count, kind_at, left_at, right_at}
 use Rattle.card.specs.Fault.{Sound, goal_part, height_at}
 use Rattle.card.specs.Decode.{goal_at}

@@ -4,7 +4,7 @@ use mathlib.Core.Path.{◌≡◌, refl, sym, ◌∙◌, ap}
 use mathlib.Core.Logic.{◌↔◌}
 use mathlib.Core.Bool.{Bool, true, false, not, ◌&&◌, ◌||◌, false≢true}
 use mathlib.Core.List.{List, [], ◌∷◌, ◌++◌}
-use Rattle.calculus.specs.Items.{only, Empty, Within}
+use Rattle.calculus.specs.Items.{◌∪◌, ◌∖◌, only, Empty, Within}
 use Rattle.calculus.specs.Derivation.{Scope, size}
 use Rattle.calculus.specs.Inner.Summary.{Joins, spare, Covers}
 use Rattle.calculus.specs.Inner.Trace.{Says, Apart, Ends, Fails, Tensors, Withs, Lends, UsesRule, UsesItem}

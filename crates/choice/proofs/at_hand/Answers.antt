@@ -2,6 +2,7 @@
 use mathlib.Core.Path.{refl}
 use borrow.Author.Tests.{lt-leb, le-leb}
 use borrow.Author.Rules.{rules}
+use Rattle.calculus.specs.Items.{◌∪◌}
 use Rattle.scope.specs.Inner.Sets.{items}
 use Rattle.choice.specs.Inner.Choice.{at_hand_by}
 use Rattle.choice.proofs.at_hand.Goals as goal

@@ -1,6 +1,7 @@
 use Prim.Native.Nat.{◌+◌, ◌≤◌, max}
 use native.Mathlib.Omega.{arith}
 use mathlib.Core.Path.{◌≡◌, ap, ap₂, ◌∙◌}
+use mathlib.Core.Bool.{◌||◌}
 use lib.ListN.{length}
 use lib.Dec.{ltb}
 use Rattle.card.proofs.CardChecked.{sound_front}

@@ -1,5 +1,5 @@
 -- One case for each kind.
-use Prim.Native.Nat.{◌-◌, min}
+use Prim.Native.Nat.{◌+◌, ◌-◌, min}
 use mathlib.Core.Path.{sym, ◌∙◌, ap, ap₂}
 use Rattle.node_bounds.proofs.StepsByKind.{high_name, high_rest, high_done, high_lend, high_either, high_recipe, high_both, off_less}
 use Rattle.node_bounds.proofs.StepsByKind.{byte_small, under_small, sum_small, part_small, min_small, zero_small, top_small}

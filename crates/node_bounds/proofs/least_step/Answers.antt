@@ -1,4 +1,5 @@
 -- One case for each kind.
+use Prim.Native.Nat.{◌+◌}
 use mathlib.Core.Path.{sym, ◌∙◌, ap, ap₂}
 use Rattle.node_bounds.proofs.StepsByKind.{least_name, least_done, least_lend, least_recipe, least_both, left_pair}
 use Rattle.node_bounds.proofs.StepsByKind.{byte_small, sum_small, part_small, zero_small, same_low}

@@ -1,5 +1,5 @@
 -- One case for each kind.
-use Prim.Native.Nat.{max}
+use Prim.Native.Nat.{◌+◌, ◌-◌, max}
 use mathlib.Core.Path.{sym, ◌∙◌, ap, ap₂}
 use Rattle.node_bounds.proofs.StepsByKind.{low_name, low_done, low_lend, low_either, low_recipe, low_both, left_both}
 use Rattle.node_bounds.proofs.StepsByKind.{byte_small, less_small, sum_small, part_small, max_small, zero_small, same_low}

@@ -1,6 +1,6 @@
 -- `line_check` meets its contract: 9 is told of a line whose test fails.
 use mathlib.Core.Path.{◌∙◌, ap, ap₂}
-use mathlib.Core.Bool.{not}
+use mathlib.Core.Bool.{not, ◌&&◌}
 use lib.Dec.{leb}
 use Rattle.card.specs.Verdict.{line, refuse, where_of}
 use Rattle.card.specs.Fault.{clause_part, line_fault, line_good}

@@ -1,6 +1,6 @@
 -- Without an "either way" or a "rest" every line in the list is surely used. Else the list is walked, and is not refused.
 use native.Mathlib.Omega.{arith}
-use mathlib.Core.Path.{sym, ◌∙◌, ap}
+use mathlib.Core.Path.{◌≡◌, sym, ◌∙◌, ap}
 use Prim.Native.Nat.{ℕ}
 use lib.Seq.{length-take-le}
 use borrow.Author.Tests.{lt-ltb}

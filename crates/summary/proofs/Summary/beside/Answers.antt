@@ -1,5 +1,6 @@
 -- What the callees answer, put together.
 use mathlib.Core.Path.{◌∙◌, ap₂}
+use mathlib.Core.Bool.{◌&&◌}
 use borrow.Author.Rules.{rules}
 use Rattle.summary.proofs.Summary.beside.Goals as goal
 

@@ -1,5 +1,6 @@
 -- What the callees answer, put together.
 use mathlib.Core.Path.{◌∙◌, ap, ap₂}
+use mathlib.Core.Bool.{◌&&◌}
 use borrow.Author.Rules.{rules}
 use Rattle.lines.specs.Set.{is_empty_s}
 use Rattle.summary.proofs.Summary.tensor.Goals as goal
