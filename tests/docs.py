@@ -19,7 +19,7 @@ DEFINED = ("docs/PROOFS.md", "docs/GLOSSARY.md", "docs/ARCHITECTURE.md")
 PORT = "docs/PORT.md"
 GONE = ("docs/CHANGES.md", PORT)
 CODE = ("crates/", "include/", "rust/", "tests/", "examples/", "man/")
-NOT_OURS = {".git", "target", "__pycache__"}
+NOT_OURS = {".git", "target", "out", "__pycache__"}
 KEYWORDS = set("requires ensures ghost let else match enum struct impl mut unsafe record data u8 u16 u32 u64 usize bool".split())
 
 ENDING = r"\.(?:antt|rt|rs|md|py|sh|h|c|txt|card|sheet|names|out|svg|edit|toml)"

@@ -1,8 +1,8 @@
 #!/usr/bin/env python3
 """Turns a crate's Proof.antt files that close a Tie into Invariants.antt and Answers.antt. It goes by the names that a check lists:
 
-    cd crates/NAME; rt check --generated /tmp/names-NAME --old-names; cd ../..
-    python3 tools/answers.py NAME /tmp/names-NAME/names.json COMMIT [MADE]
+    cd crates/NAME; rt check --generated NAMES --old-names; cd ../..
+    python3 tools/answers.py NAME NAMES/names.json COMMIT [MADE]
 
 MADE is what `rt check --generated MADE` writes once Answers.antt stand: where a lemma takes a record of facts, its type is read there.
 

@@ -124,7 +124,7 @@ def turned(edit, origin, scripts):
     crate = path.split("/")[1]
     text = shown(origin, path)
     if text is None:
-        return None, "is not of the old spelling's commit"
+        return None, None  # a new one
     pairs = parsed(text)
     why = fault(pairs, crate)
     if why or path in HAND:

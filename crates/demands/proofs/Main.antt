@@ -19,7 +19,7 @@ use Rattle.calculus.proofs.StepsBounded.{entry_or_choice}
 use Rattle.calculus.proofs.SurelyByList.{job_surely, listed_surely, surely_stands}
 use Rattle.calculus.proofs.SurelyMeans.{surely_means}
 use Rattle.card.specs.Format.{Bytes, rule_count, line_count, step_limit}
-use Rattle.card.specs.Verdict.{Where, sound, fault, sheet, step, steps as whole-steps}
+use Rattle.card.specs.Verdict.{Where, sound, fault, sheet, step, steps as whole_steps}
 use Rattle.card.specs.Fault.{first_fault, Sound}
 use Rattle.card.specs.Decode.{job_of}
 use Rattle.card.specs.Sheet.{mark_of, sheet_of}
@@ -29,7 +29,7 @@ use Rattle.branch.specs.declared.Floor.{Floor}
 use Rattle.engine.specs.Count.{CountIsScan}
 use Rattle.engine.specs.Inner.Engine.{Ready}
 use Rattle.engine.proofs.CountIsScan.{count_is_scan}
-use Rattle.planning.specs.Plan.{PlanVerdict, planned, refused as not-planned, room_of, Planning, PlanDecided, Carries}
+use Rattle.planning.specs.Plan.{PlanVerdict, planned, refused as not_planned, room_of, Planning, PlanDecided, Carries}
 use Rattle.planner.proofs.PlannedExactly.{plan_decided, plan_determined, planned_exactly, planned_sheet}
 use Rattle.sheet_front.specs.Front.{steps_of, sheet_fault}
 use Rattle.trace.specs.Steps.{steps_fault, WrongStep, ExtraStep, NeverPassed}
@@ -64,10 +64,10 @@ read_decides_once = read_determined
 
 -- Lent an empty buffer the planner only checks: a sound card is told by 10, any other by its own fault. A caller's check goes by this.
 module _ {bs new : List ℕ} {a : PlanVerdict} where
-  pub sound_told : Planning bs [] a new → (a ≡ not-planned 10 sheet) ↔ Sound bs
+  pub sound_told : Planning bs [] a new → (a ≡ not_planned 10 sheet) ↔ Sound bs
   sound_told = CheckedByRoom.ten_if_sound
 
-  pub fault_told : {n : ℕ} {w : Where} → first_fault bs ≡ fault n w → Planning bs [] a new → a ≡ not-planned n w
+  pub fault_told : {n : ℕ} {w : Where} → first_fault bs ≡ fault n w → Planning bs [] a new → a ≡ not_planned n w
   fault_told = CheckedByRoom.fault_if_faulty
 
 -- Demand 2. "Given room for the longest sheet its limits allow, a sound card is planned if and only if Figure 1 of document 000 derives
@@ -165,12 +165,12 @@ module _ {bs sh : List ℕ} (s : Sound bs) (f : sheet_fault bs sh ≡ sound) (i 
 
 -- 19: "the walk is right but the items don't divide as the rules ask".
 pub nineteen_means : {bs sh : List ℕ} → Sound bs → sheet_fault bs sh ≡ sound
-    → Reading bs sh (refused 19 whole-steps) ↔ ((steps_fault bs (steps_of sh) ≡ sound) × (ItemsDivide (job_of bs) (steps_of sh) → ⊥))
+    → Reading bs sh (refused 19 whole_steps) ↔ ((steps_fault bs (steps_of sh) ≡ sound) × (ItemsDivide (job_of bs) (steps_of sh) → ⊥))
 nineteen_means = nineteen_told
 
 -- "19 also where the walk passes 'never'."
 pub never_means : {bs sh : List ℕ} → Sound bs → sheet_fault bs sh ≡ sound → NeverPassed bs (steps_of sh)
-    → Reading bs sh (refused 19 whole-steps)
+    → Reading bs sh (refused 19 whole_steps)
 never_means = never_told
 
 -- So steps, no more than s, that have none of the four are the list of a derivation within limits, and the other way round.

@@ -15,8 +15,8 @@ use Rattle.planning.specs.declared.Answer.TheVariants.{Planned, Refused}
 use Rattle.planning.specs.Plan.{PlanVerdict, planned, refused, told_plan, PlanDecided, is_planned, is_refused}
 use Rattle.reader.specs.declared.Answer.{Answer as ReadAnswer}
 use Rattle.reader.specs.declared.Answer.TheVariants.{Accepted, Refused as NotAccepted}
-use Rattle.reader.specs.Read.{ReadVerdict, accepted, refused as not-accepted, told_read, ReadDecided, is_accepted}
-use Rattle.reader.specs.Read.{is_refused as is-not-accepted}
+use Rattle.reader.specs.Read.{ReadVerdict, accepted, refused as not_accepted, told_read, ReadDecided, is_accepted}
+use Rattle.reader.specs.Read.{is_refused as is_not_accepted}
 use Rattle.numbers.specs.Inner.Nonzero.{Nonzero}
 use Rattle.numbers.specs.Numbers.{number_in, card_in, place_in, index_in, places, place_of, Plain, said_by, plan_in, read_in}
 
@@ -152,18 +152,18 @@ read_high (inr (inr h)) = omega (arith, h.1)
 -- THEOREM. A reader's decision has a number that reads as it.
 pub read_back : {bs : List ℕ} {v : ReadVerdict} → Bytes bs → ReadDecided bs v → (r : ℕ) × (r < 2 ^ 32) × (read_in r ≡ v)
 unfolding read_in
-read_back b (is_accepted {k} h) = fine_back accepted not-accepted k (omega (arith, b.byte 10))
-read_back b (is-not-accepted {n} {w} h p) =
-    refused_back accepted not-accepted b n w p (read_low h) (read_high h)
+read_back b (is_accepted {k} h) = fine_back accepted not_accepted k (omega (arith, b.byte 10))
+read_back b (is_not_accepted {n} {w} h p) =
+    refused_back accepted not_accepted b n w p (read_low h) (read_high h)
 
 -- a decision's refusal has a number that is not 0
 pub plan_nonzero : {bs old new : List ℕ} {v : PlanVerdict} → PlanDecided bs old new v → Nonzero refused v
 plan_nonzero (is_planned h) = record { nonzero = λ n w e. let z : ◌≡◌ {A = ℕ} 0 1 = cc in absurd (omega arith) }
 plan_nonzero (is_refused {n} {w} h p e) = record { nonzero = λ m v q. let z : n ≡ m = cc in omega (arith, h.0) }
 
-pub read_nonzero : {bs : List ℕ} {v : ReadVerdict} → ReadDecided bs v → Nonzero not-accepted v
+pub read_nonzero : {bs : List ℕ} {v : ReadVerdict} → ReadDecided bs v → Nonzero not_accepted v
 read_nonzero (is_accepted h) = record { nonzero = λ n w e. let z : ◌≡◌ {A = ℕ} 0 1 = cc in absurd (omega arith) }
-read_nonzero (is-not-accepted {n} {w} h p) =
+read_nonzero (is_not_accepted {n} {w} h p) =
     record { nonzero = λ m v q. let z : n ≡ m = cc in omega (arith, read_low h) }
 
 -- a planner's answer that is known, told as the number r
@@ -181,9 +181,9 @@ module _ (r : ℕ) (a : Answer) where
 module _ (r : ℕ) (a : ReadAnswer) where
   pub tells_accepted : {k : ℕ} → a ≡ Accepted k → (number_in r ≡ 0) × (place_in r ≡ 0) × (index_in r ≡ k) → read_in r ≡ told_read a
   unfolding told_read read_in
-  tells_accepted e h = said_fine accepted not-accepted r h ∙ ap told_read (sym e)
+  tells_accepted e h = said_fine accepted not_accepted r h ∙ ap told_read (sym e)
 
-  pub tells_not_accepted : {f : Refusal} → a ≡ NotAccepted f → Nonzero not-accepted (told_read a)
+  pub tells_not_accepted : {f : Refusal} → a ≡ NotAccepted f → Nonzero not_accepted (told_read a)
       → (number_in r ≡ f.number) × (place_of (place_in r) (index_in r) ≡ where_of f.place) → read_in r ≡ told_read a
   unfolding told_read read_in
-  tells_not_accepted e z h = said_refused accepted not-accepted r (z.nonzero _ _ (ap told_read e)) h ∙ ap told_read (sym e)
+  tells_not_accepted e z h = said_refused accepted not_accepted r (z.nonzero _ _ (ap told_read e)) h ∙ ap told_read (sym e)

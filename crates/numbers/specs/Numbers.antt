@@ -4,7 +4,7 @@
 use Rattle.std.specs.Prelude.{ℕ, ◌/◌, ◌%◌, ◌^◌, ◌<◌, ◌≡◌, cond, ◌&&◌, List, [], ◌∷◌, length, get_or, eqb}
 use Rattle.card.specs.Verdict.{Where, card, node, rule, line, sheet, steps, mark, step}
 use Rattle.planning.specs.Plan.{PlanVerdict, planned, refused}
-use Rattle.reader.specs.Read.{ReadVerdict, accepted, refused as not-accepted}
+use Rattle.reader.specs.Read.{ReadVerdict, accepted, refused as not_accepted}
 
 abbrev pub number_in : ℕ → ℕ
 number_in r = r / 2 ^ 24
@@ -39,4 +39,4 @@ unfoldable pub plan_in : ℕ → PlanVerdict
 plan_in r = said_by planned refused r
 
 unfoldable pub read_in : ℕ → ReadVerdict
-read_in r = said_by accepted not-accepted r
+read_in r = said_by accepted not_accepted r

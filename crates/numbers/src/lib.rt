@@ -4,7 +4,7 @@
 ghost use Rattle.std.specs.Prelude.{◌≡◌, ◌<◌};
 ghost use Rattle.card.specs.Verdict.{where_of};
 ghost use Rattle.planning.specs.Plan.{refused, told_plan};
-ghost use Rattle.reader.specs.Read.{refused as not-accepted, told_read};
+ghost use Rattle.reader.specs.Read.{refused as not_accepted, told_read};
 ghost use Rattle.numbers.specs.Inner.Nonzero.{Nonzero};
 ghost use Rattle.numbers.specs.Numbers.{number_in, card_in, place_in, index_in, place_of, Plain, plan_in, read_in};
 
@@ -54,7 +54,7 @@ pub fn packed_plan(answer: planning::Answer) -> u32
 
 // The reader's answer.
 pub fn packed_read(answer: reader::Answer) -> u32
-    requires { Nonzero not-accepted (told_read answer) }
+    requires { Nonzero not_accepted (told_read answer) }
     ensures result_value { read_in result ≡ told_read answer }
     ensures plain { Plain result }
     ensures result_value_2 { card_in result ≡ 0 }

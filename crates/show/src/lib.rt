@@ -12,6 +12,7 @@ use std::io::{Read, Write};
 
 // Reads until the buffer is full or the input ends, and tells how many bytes it put at the buffer's start. What the input has behind
 // them is left alone.
+// An Err is the reader's own: the buffer keeps its length, and of what was read before it nothing is said.
 pub fn read_full<R: Read>(input: &mut R, buffer: &mut [u8]) -> io::Result<usize>
     ensures within { IfOk result (λ n. n ≤ length buffer.new) }
     ensures bytes { IfOk result (λ n. Consumes (R.remaining input.old) (R.remaining input.new) (take n buffer.new)) }
@@ -28,6 +29,8 @@ pub fn read_full<R: Read>(input: &mut R, buffer: &mut [u8]) -> io::Result<usize>
     Ok(done)
 }
 
+// Of this and of all that prints: an Err is the writer's own. What is lent to be printed is as it was, and what was written before the
+// error stays written.
 pub fn print_word<W: Write>(out: &mut W, text: &[u8]) -> io::Result<()> {
     out.write_all(text)
 }
