@@ -21,13 +21,40 @@ import subprocess
 import sys
 
 WORD = re.compile(r"[^\s(){}\[\],;.`\"⌜⌝]+")
-# path of an edit: its file and pairs, where its lines were laid out anew, or where a definition that follows the edited one goes with it
+# Path of an edit: its file and pairs, where its lines were laid out anew, where a definition that follows the edited one goes with it, or where
+# the steps of the body, which have their names by its words, would lose names that the answers cite: a shadowing local then keeps the words,
+# so that a fact is what fails.
 LEFT = "Derives es (I ∖ only e) (residual_at es a e)"
+SOUND = "let Checked::Sound = goal else {"
 RUN = "RunOf es (I ∖ only e) (residual_at es a e) d U"
 HAND = {
     # the arguments of the call stand on one line
     "crates/engine/must-fail/right_before_left.edit": [
         ("src/lib.rt", "node, name, n, 254, first, f, b,", "node, name, n, 255, first, f, b,"),
+    ],
+    "crates/checks/must-fail/goal_passed_over.edit": [
+        ("src/lib.rt", f"    {SOUND}", f"    let goal = nodes; {SOUND}"),
+    ],
+    # 64 < p & 254 is 65 < p, of a byte
+    "crates/front/must-fail/rules_65.edit": [
+        ("src/lib.rt", "    if 64 < p {", "    let p = p & 254; if 64 < p {"),
+    ],
+    "crates/prune/must-fail/remembered_under_a_floor.edit": [
+        ("src/lib.rt", "    if !open {", "    let open = !open; if !open {"),
+    ],
+    # b ^ 3 is 1 where b is 2
+    "crates/scope/must-fail/must_not_minded.edit": [
+        ("src/lib.rt", "        if b == 1 {", "        let b = b ^ 3; if b == 1 {"),
+    ],
+    "crates/sheet_front/must-fail/another_t_passes.edit": [
+        ("src/lib.rt", "    if t != lines {", "    let lines = t; if t != lines {"),
+    ],
+    # version ^ 3 is 1 where version is 2
+    "crates/sheet_front/must-fail/version_two_read.edit": [
+        ("src/lib.rt", "    if version != 1 {", "    let version = version ^ 3; if version != 1 {"),
+    ],
+    "crates/summary/must-fail/thirteen_where_too_deep.edit": [
+        ("src/lib.rt", "    if unfit {", "    let unfit = deeper == 0; if unfit {"),
     ],
     # the runs of a derivation are indexed by it, so their items are the ones that it now has
     "crates/calculus/must-fail/used_item_stays.edit": [
