@@ -42,6 +42,9 @@ HAND = {
     "crates/prune/must-fail/remembered_under_a_floor.edit": [
         ("src/lib.rt", "    if !open {", "    let open = !open; if !open {"),
     ],
+    "crates/prune/more-edits/known_asked_with_lent.edit": [
+        ("src/lib.rt", "    if !bare {", "    let bare = !bare; if !bare {"),
+    ],
     # b ^ 3 is 1 where b is 2
     "crates/scope/must-fail/must_not_minded.edit": [
         ("src/lib.rt", "        if b == 1 {", "        let b = b ^ 3; if b == 1 {"),
