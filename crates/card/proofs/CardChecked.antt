@@ -5,48 +5,48 @@ use native.Mathlib.Numerals.{add-one}
 use mathlib.Core.Path.{◌≡◌, sym, ◌∙◌, ap, subst}
 use mathlib.Core.List.{List}
 use lib.ListN.{length}
-use Rattle.card.specs.declared.Checked.{Checked}
-use Rattle.card.specs.declared.Checked.TheVariants.{Sound as SoundCard, Refused}
-use Rattle.card.specs.declared.Refusal.{Refusal}
+use Rattle.std.proofs.Common.{Result, Ok, Err}
+use Rattle.std.specs.Prelude.{⊤}
+use Rattle.card.specs.declared.faults.Refusal.{Refusal}
 use Rattle.card.specs.Format.{node_count, rule_count, line_count}
-use Rattle.card.specs.Verdict.{Verdict, Where, sound, fault, ◌▹◌, first_of, told, where_of}
+use Rattle.card.specs.Verdict.{Verdict, Where, sound, fault, ◌▹◌, first_of, told, number_of, where_of}
 use Rattle.card.specs.Fault.{front_fault, node_fault, goal_fault, rule_fault, line_fault, first_fault, Sound}
 use Rattle.card.specs.Inner.Checks.{answer_of, Framed}
 use Rattle.card.proofs.FaultsInOrder.{after_sound, at_fault, sound_left, sound_right, first_stops, first_goes, first_each}
 use Rattle.card.proofs.FrontChecked.{framed}
 
 -- a check that refuses ends the call
-pub refused : {u : Verdict} (v : Verdict) {a : Checked} {r : Refusal} → a ≡ Refused r → told a ≡ u → told a ≡ u ▹ v
+pub refused : {u : Verdict} (v : Verdict) {a : Result ⊤ Refusal} {r : Refusal} → a ≡ Err r → told a ≡ u → told a ≡ u ▹ v
 unfolding told
 refused {u} v e t = t ∙ sym (at_fault u v (sym t ∙ ap told e))
 
 -- a check whose answer is sound finds nothing
-pub passed : (u : Verdict) (a : Checked) → a ≡ SoundCard → told a ≡ u → u ≡ sound
+pub passed : (u : Verdict) (a : Result ⊤ Refusal) {t : ⊤} → a ≡ Ok t → told a ≡ u → u ≡ sound
 unfolding told
 passed u a e t = sym t ∙ ap told e
 
-pub found_sound : (bs : List ℕ) (a : Checked) → a ≡ SoundCard → told a ≡ first_fault bs → Sound bs
+pub found_sound : (bs : List ℕ) (a : Result ⊤ Refusal) {t : ⊤} → a ≡ Ok t → told a ≡ first_fault bs → Sound bs
 found_sound bs a e t = record { faultless = passed (first_fault bs) a e t }
 
 -- a call that answers with a check's refusal: what holds of the refusal holds of the answer
-pub stopped : {A : Type 0} (P : A → Type 0) (fine : ℕ → A) (refusal : ℕ → Where → A) (v : Verdict) (a : Checked) (r : Refusal) (k : ℕ)
-    {x : A} → a ≡ Refused r → told a ≡ v → x ≡ answer_of fine refusal (told a) k
-    → (v ≡ fault r.number (where_of r.place) → P (refusal r.number (where_of r.place))) → P x
+pub stopped : {A : Type 0} (P : A → Type 0) (fine : ℕ → A) (refusal : ℕ → Where → A) (v : Verdict) (a : Result ⊤ Refusal) (r : Refusal) (k : ℕ)
+    {x : A} → a ≡ Err r → told a ≡ v → x ≡ answer_of fine refusal (told a) k
+    → (v ≡ fault (number_of r.fault) (where_of r.place) → P (refusal (number_of r.fault) (where_of r.place))) → P x
 unfolding told answer_of
 stopped P fine refusal v a r k e t q h =
-    subst P (sym (q ∙ ap (λ (y : Checked). answer_of fine refusal (told y) k) e)) (h (sym t ∙ ap told e))
+    subst P (sym (q ∙ ap (λ (y : Result ⊤ Refusal). answer_of fine refusal (told y) k) e)) (h (sym t ∙ ap told e))
 
 -- a check that has passed leaves those after it: what they find, all find
 pub onward : {u v w : Verdict} → u ≡ sound → w ≡ v → w ≡ u ▹ v
 onward {u} {v} e q = q ∙ sym (after_sound u v e)
 
 -- the same of a run of checks by rising index, at index i
-module _ (i : ℕ) (f : ℕ → Verdict) (p : first_of i f ≡ sound) {a : Checked} where
-  pub refused_at : (n : ℕ) → i < n → {r : Refusal} → a ≡ Refused r → told a ≡ f i → told a ≡ first_of n f
+module _ (i : ℕ) (f : ℕ → Verdict) (p : first_of i f ≡ sound) {a : Result ⊤ Refusal} where
+  pub refused_at : (n : ℕ) → i < n → {r : Refusal} → a ≡ Err r → told a ≡ f i → told a ≡ first_of n f
   unfolding told
   refused_at n h e t = let q = sym t ∙ ap told e in t ∙ q ∙ sym (first_stops i n f p q h)
 
-  pub passed_at : a ≡ SoundCard → told a ≡ f i → first_of (i + 1) f ≡ sound
+  pub passed_at : {t : ⊤} → a ≡ Ok t → told a ≡ f i → first_of (i + 1) f ≡ sound
   passed_at e t = rw add-one (first_goes i f p (passed (f i) a e t))
 
 module _ (bs : List ℕ) where

@@ -1,9 +1,11 @@
 -- The table of kinds (01, "The card"; 02, #103).
-use Rattle.std.specs.Prelude.{ℕ, List, [], ◌∷◌, get_or}
+use Rattle.std.specs.Prelude.{◌≡◌, ◌⊎◌, ◌≤◌, ℕ, List, [], ◌∷◌, get_or}
 use Rattle.std.proofs.Math.Option.{Option, none, some}
 use Rattle.calculus.specs.Formula.{Goal, Clause, atomᴳ, topᴳ, oneᴳ, zeroᴳ, tensor, with, oplus, lolliᴳ, atomᴰ, topᴰ, lolliᴰ, withᴰ}
 use Rattle.card.specs.declared.kinds.Field.{Field}
 use Rattle.card.specs.declared.kinds.Field.TheVariants.{Unused, Name, GoalPart, ClausePart, Unknown}
+use Rattle.card.specs.declared.kinds.Kind as code
+use Rattle.card.specs.declared.kinds.Kind.TheVariants as kind
 
 -- What a field gives to its node's reading: a name, or what the part reads as.
 abbrev pub Held : Field → Type 0
@@ -47,3 +49,17 @@ kinds =
 -- The row of kind k.
 unfoldable pub kind_of : ℕ → Kind
 kind_of k = get_or kinds k unknown
+
+-- The number of each case of the enum `Kind`.
+abbrev pub Numbered : code.Kind → ℕ → Type 0
+Numbered kind.Atom k = k ≡ 1
+Numbered kind.Top k = k ≡ 2
+Numbered kind.One k = k ≡ 3
+Numbered kind.Tensor k = k ≡ 4
+Numbered kind.With k = k ≡ 5
+Numbered kind.Lend k = k ≡ 6
+Numbered kind.Recipe k = k ≡ 7
+Numbered kind.Oplus k = k ≡ 8
+Numbered kind.Zero k = k ≡ 9
+Numbered kind.Menu k = k ≡ 10
+Numbered kind.Unknown k = (k ≡ 0) ⊎ (11 ≤ k)

@@ -1,9 +1,10 @@
 -- Refusals and their places (01, "Refused, and where"), and what each case of an answer enum tells of them.
-use Rattle.std.specs.Prelude.{ℕ, zero, suc, Bool, true, false}
-use Rattle.card.specs.declared.Place.{Place}
-use Rattle.card.specs.declared.Place.TheVariants.{Card, Node, Rule, Line, Sheet, Steps, Mark, Step}
-use Rattle.card.specs.declared.Checked.{Checked}
-use Rattle.card.specs.declared.Checked.TheVariants.{Sound, Refused}
+use Rattle.std.specs.Prelude.{ℕ, zero, suc, Bool, true, false, Result, Ok, Err, ⊤}
+use Rattle.card.specs.declared.faults.Place.{Place}
+use Rattle.card.specs.declared.faults.Place.TheVariants.{Card, Node, Rule, Line, Sheet, Steps, Mark, Step}
+use Rattle.card.specs.declared.faults.Fault.{Fault}
+use Rattle.card.specs.declared.faults.Fault.TheVariants as faults
+use Rattle.card.specs.declared.faults.Refusal.{Refusal}
 
 -- "the place names its thing: card, node i, rule i, line i, sheet, steps or mark i"; 02, #102: "place step i"
 pub data Where : Type 0 where
@@ -42,7 +43,29 @@ where_of Steps = steps
 where_of (Mark i) = mark i
 where_of (Step i) = step i
 
--- 01's number and place for each case of the enum `Checked`
-unfoldable pub told : Checked → Verdict
-told Sound = sound
-told (Refused r) = fault r.number (where_of r.place)
+-- 01's number for each case of the enum `Fault`
+abbrev pub number_of : Fault → ℕ
+number_of faults.Short = 1
+number_of faults.LengthField = 2
+number_of faults.Version = 3
+number_of faults.Range = 4
+number_of faults.Size = 5
+number_of faults.Node = 6
+number_of faults.Goal = 7
+number_of faults.Rule = 8
+number_of faults.Line = 9
+number_of faults.NoRoom = 10
+number_of faults.NoList = 11
+number_of faults.SheetFront = 12
+number_of faults.Step = 13
+number_of faults.Mark = 14
+number_of faults.Overfull = 15
+number_of faults.NoLine = 16
+number_of faults.Depth = 17
+number_of faults.StepCount = 18
+number_of faults.Undivided = 19
+
+-- 01's number and place of the refusal that a check answers
+unfoldable pub told : Result ⊤ Refusal → Verdict
+told (Ok u) = sound
+told (Err r) = fault (number_of r.fault) (where_of r.place)
