@@ -1,18 +1,21 @@
 -- `line_check` meets its contract: 9 is told of a line whose test fails.
-use mathlib.Core.Path.{◌∙◌, ap, ap₂}
-use mathlib.Core.Bool.{not, ◌&&◌}
-use lib.Dec.{leb}
-use Rattle.card.specs.Verdict.{line, refuse, where_of}
+use Rattle.std.proofs.Common.{◌≡◌, true, false, sym, ◌∙◌}
+use Rattle.card.specs.Format.{node_count, line_node}
+use Rattle.card.specs.Verdict.{where_of}
 use Rattle.card.specs.Fault.{clause_part, line_fault, line_good}
 use Rattle.roots.proofs.line_check.Goals as goal
+use Rattle.roots.proofs.line_check.Goals.{then-clause_part, else-clause_part}
 
 pub returns : goal.returns
 unfolding line_fault where_of line_good
 returns c =
     let bs = c.args.card.now in
-    c.refuse.ensures
-    ∙ ap (λ b. refuse (not b) 9 (line c.args.i))
-    (c.both-good.ensures
-    ∙ ap₂ ◌&&◌
-    (c.clause_part.ensures ∙ ap₂ (clause_part bs) c.word-n.ensures.0 c.line_node.ensures.0)
-    (ap (λ n. leb n 1) c.line_byte-known.ensures.0))
+    let whole = rw (c.word-n.ensures.0, c.line_node.ensures.0) at c.clause_part.ensures in
+    elim c.if-clause_part.branch [
+      | then-clause_part w ↦
+          let e : clause_part bs (node_count bs) (line_node bs c.args.i) ≡ true = sym whole ∙ w.if-clause_part.true in
+          rw e (rw (w.good-is, w.line_byte.ensures.0) at c.refuse.ensures)
+      | else-clause_part w ↦
+          let e : clause_part bs (node_count bs) (line_node bs c.args.i) ≡ false = sym whole ∙ w.if-clause_part.false in
+          rw e (rw (w.good-is, w.if-clause_part.false) at c.refuse.ensures)
+    ]

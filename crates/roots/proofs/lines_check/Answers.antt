@@ -1,48 +1,25 @@
 -- `lines_check` meets its contract: the lines before the present one have passed.
-use Prim.Native.Nat.{◌<◌}
-use native.Mathlib.Omega.{arith}
-use mathlib.Core.Path.{◌≡◌, refl, sym}
+use Rattle.std.proofs.Common.{◌≡◌, refl, sym, arith}
+use Rattle.std.proofs.lemmas.Result.{err_from_is_err_and}
 use Rattle.card.specs.Format.{line_count}
 use Rattle.card.specs.Verdict.{first_of, told}
 use Rattle.card.proofs.CardChecked.{refused_at, passed_at}
-use Rattle.roots.proofs.lines_check.Lts as lts
-use Rattle.roots.proofs.lines_check.Reads as reads
-use Rattle.roots.proofs.lines_check.Tie as tie
 use Rattle.roots.proofs.lines_check.Goals as goal
-
--- a line that is checked is one of the card's
-below : (c : lts.In-loop tie.the-claims reads.Pre reads.Post goal.the-invariant-loop-i goal.the-decreases-loop-i tie.handed_clauses) → c.loop-i.i < line_count c.args.card.now
-below c = omega (arith, c.loop-i-test.true, c.byte-t.ensures.0)
-
-pub byte-t-requires : goal.byte-t-requires
-byte-t-requires c = omega (arith, c.requires.whole)
 
 pub loop-i-init : goal.loop-i-init
 unfolding first_of
-loop-i-init c = (omega arith, refl)
+loop-i-init c = refl
 
-pub line_check-line-requires : goal.line_check-line-requires
-line_check-line-requires c = record { framed = c.requires; i_bound = below c.before }
-
-pub returns-in_default : goal.returns-in_default
-returns-in_default c =
-    refused_at _ _ c.loop-i.invariant.1 _ (below c.before.before.before) c.in_default.is c.line_check-line.ensures
-
-pub overflow_add-i : goal.overflow_add-i
-overflow_add-i c =
-    omega (arith, c.loop-i-test.true, c.byte-t.ensures.1)
-
-pub loop-i-smaller : goal.loop-i-smaller
-loop-i-smaller c = omega (arith, c.loop-i-test.true)
+pub returns-in_err-line_check : goal.returns-in_err-line_check
+returns-in_err-line_check c =
+    let p = err_from_is_err_and c.from_residual.result c.from_residual.ensures.1 in
+    rw (p.1, p.2) (refused_at _ _ c.loop-i.invariant _ (omega (arith, c.byte-i-end.ensures.0)) refl c.in_err-line_check.ensures)
 
 pub loop-i-preserved : goal.loop-i-preserved
-loop-i-preserved c =
-    let sound_so_far = c.loop-i.invariant.1 in
-    (omega (arith, c.loop-i-test.true), passed_at _ _ sound_so_far c.in-Sound.is c.line_check-line.ensures)
+loop-i-preserved c = passed_at _ _ c.loop-i.invariant refl c.in_ok-line_check.ensures
 
 pub returns : goal.returns
 unfolding told
 returns c =
-    let e : c.loop-i.i ≡ line_count c.args.card.now =
-    omega (arith, c.loop-i-test.false, c.loop-i.invariant.0, c.byte-t.ensures.0) in
-    sym (rw e at c.loop-i.invariant.1)
+    let e : c.loop-i.i ≡ line_count c.args.card.now = omega (arith, c.byte-i-end.ensures.0) in
+    sym (rw e at c.loop-i.invariant)
