@@ -115,9 +115,10 @@ pub fn ready(rules: usize, lines: usize, waits: &[u64; 64], seen: LineWord, e: u
     requires { (rules < 256) × (lines ≤ 64) }
     ensures { result ≡ ready_by rules lines waits.now seen e }
 {
-    e < rules
-        || rules + lines <= e
-        || seen.holds(LineWord {
-            bits: waits[e - rules],
-        })
+    if rules <= e && e < rules + lines {
+        let bits = waits[e - rules];
+        seen.holds(LineWord { bits })
+    } else {
+        true
+    }
 }

@@ -1,12 +1,11 @@
 -- An entry that is no line is ready; a line is where the lines seen hold its mask.
-use Rattle.std.proofs.Common.{ℕ, ◌+◌, ◌-◌, ◌<◌, ◌≤◌, ◌≡◌, refl, sym, ◌∙◌, true, List, arith}
-use mathlib.Core.Bool.{true≢false}
-use borrow.Author.Tests.{lt-leb, le-leb, le-ltb, lt-ltb, leb-true, leb-false}
+use Rattle.std.proofs.Common.{ℕ, ◌+◌, ◌-◌, ◌<◌, ◌≤◌, ◌≡◌, refl, ◌∙◌, true, List, arith}
+use borrow.Author.Tests.{lt-leb, le-leb, le-ltb, lt-ltb}
 use Rattle.lines.specs.declared.LineWord.{LineWord}
 use Rattle.lines.specs.Inner.Word.{holds_l}
 use Rattle.entries.specs.Inner.Masks.{mask_at, ready_by}
 use Rattle.entries.proofs.ready.Goals as goal
-use Rattle.entries.proofs.ready.Goals.{then-e-rules, else-e-rules}
+use Rattle.entries.proofs.ready.Goals.{else-rules-e-via-then-rules-e+else-e-rules, else-rules-e-via-else-rules-e}
 
 module _ (rules lines : ℕ) (masks : List ℕ) (seen : LineWord) (e : ℕ) where
   a_rule : e < rules → true ≡ ready_by rules lines masks seen e
@@ -21,21 +20,15 @@ module _ (rules lines : ℕ) (masks : List ℕ) (seen : LineWord) (e : ℕ) wher
   unfolding ready_by
   a_line h k = rw (le-leb rules e h, lt-ltb e (rules + lines) k, ready_by) refl
 
-pub returns-then-rules-lines : goal.returns-then-rules-lines
-returns-then-rules-lines c =
+pub returns-then-e-rules : goal.returns-then-e-rules
+returns-then-e-rules c =
     let a = c.args in
-    elim c.if-e-rules.branch [
-      | then-e-rules w ↦ c.if-rules-lines.true ∙ a_rule a.rules a.lines a.waits.now a.seen a.e w.if-e-rules.true
-      | else-e-rules w ↦
-          c.if-rules-lines.true ∙ lent a.rules a.lines a.waits.now a.seen a.e (leb-true _ _ (sym w.value-is ∙ c.if-rules-lines.true))
-    ]
+    c.holds.ensures ∙ a_line a.rules a.lines a.waits.now a.seen a.e c.if-rules-e.true c.if-e-rules.true
 
-pub returns-else-rules-lines : goal.returns-else-rules-lines
-returns-else-rules-lines c =
+pub returns-else-rules-e : goal.returns-else-rules-e
+returns-else-rules-e c =
     let a = c.args in
-    elim c.if-e-rules.branch [
-      | then-e-rules w ↦ absurd (true≢false (sym (lt-ltb a.e a.rules w.if-e-rules.true) ∙ sym w.value-is ∙ c.if-rules-lines.false))
-      | else-e-rules w ↦
-          let below = leb-false _ _ (sym w.value-is ∙ c.if-rules-lines.false) in
-          c.holds.ensures ∙ a_line a.rules a.lines a.waits.now a.seen a.e w.if-e-rules.false (omega (arith, below))
+    elim c.else-rules-e.branch [
+      | else-rules-e-via-then-rules-e+else-e-rules w ↦ lent a.rules a.lines a.waits.now a.seen a.e w.if-e-rules.false
+      | else-rules-e-via-else-rules-e w ↦ a_rule a.rules a.lines a.waits.now a.seen a.e w.if-rules-e.false
     ]
