@@ -41,7 +41,11 @@ pub fn side(card: &[u8], node: usize, choice: usize) -> usize
     requires { 16 + 5 * node ≤ length card.now }
     ensures { result ≡ side_at card.now node choice }
 {
-    if choice == 254 { left(card, node) } else { right(card, node) }
+    if choice == 254 {
+        left(card, node)
+    } else {
+        right(card, node)
+    }
 }
 
 // Whether it is shut: of a menu, a side whose heads are not the name wanted.

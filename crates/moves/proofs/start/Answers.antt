@@ -23,4 +23,21 @@ full-requires c = omega (arith, c.byte-lines.ensures.0, (sound_front c.args.card
 
 pub returns : goal.returns
 unfolding start_b
-returns c = ?
+returns c =
+    let bs = c.args.card.now in
+    let strict = c.strict_lines-strict.ensures in
+    let lax : c.cut-lax.result ≡ cut_s (full_s (line_count bs)) (strict_of bs) =
+    c.cut-lax.ensures ∙ ap₂ cut_s (c.full.ensures ∙ ap full_s c.byte-lines.ensures.0) strict in
+    let both = kept {c = start_b bs} refl (λ i. record {
+      at = 0;
+      count = c.byte.ensures.0 i + c.byte-lines.ensures.0 i;
+      len = 1;
+      limit = c.byte-2.ensures.0 i;
+      due = (c.count.ensures ∙ ap count_s strict) i;
+      strict = strict i;
+      lax = lax i;
+      used = c.empty.ensures i;
+      seen = c.empty-2.ensures i;
+      slack = false;
+    }) in
+    record { value = both.0; counted = both.1 }
