@@ -1,5 +1,5 @@
 use Rattle.choice.proofs.LinesAtHand.{Left}
-use Rattle.choice.proofs.skip_lines.Given as goal
+use Rattle.choice.proofs.reach_line.Given as goal
 
 abbrev pub invariant-loop-b : goal.invariant-loop-b
 invariant-loop-b l = Left l.card l.waits l.heads l.b l.name l.from l.hand
