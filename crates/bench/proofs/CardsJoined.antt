@@ -1,5 +1,5 @@
 -- Laws of joining: its outcome where a check stops it, and where none does.
-use Rattle.std.proofs.Common.{◌≡◌, ℕ, List, ◌++◌, length, drop, Err, sym, ◌∙◌, subst}
+use Rattle.std.proofs.Common.{◌≡◌, ℕ, List, ◌++◌, length, drop, Err, sym, subst}
 use Rattle.joined.specs.Joined.{joined_length, joined_card}
 use Rattle.benched.specs.declared.BenchRefusal.{BenchRefusal}
 use Rattle.benched.specs.Benched.{fine, told_bench}
@@ -7,9 +7,9 @@ use Rattle.bench.specs.Bench.{joined, join_fault, Joining, is_refused, is_joined
 
 module _ (a b old : List ℕ) where
   -- a check that stops it is its answer, and the buffer is as it was
-  pub join_stopped : {r : BenchRefusal} → told_bench (Err r) ≡ join_fault a b (length old) → Joining a b old (told_join (Err r)) old
+  pub join_stopped : (r : BenchRefusal) → told_bench (Err r) ≡ join_fault a b (length old) → Joining a b old (told_join (Err r)) old
   unfolding told_bench told_join
-  join_stopped t = is_refused (sym t)
+  join_stopped r t = is_refused (sym t)
 
   -- none does, and the joined card is written
   pub join_written : {n : ℕ} {new : List ℕ} → join_fault a b (length old) ≡ fine → n ≡ joined_length a b
