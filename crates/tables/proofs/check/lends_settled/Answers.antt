@@ -8,7 +8,8 @@ use Rattle.tables.proofs.check.lends_settled.Goals as goal
 
 pub returns : goal.returns
 returns c =
-    let P : ℕ → Type 0 = λ k. kind_at c.args.card.now k ≡ 6 → UseSettled c.args.card.now c.args.names.now c.args.table.now (left_at c.args.card.now k) true in
+    let P : ℕ → Type 0 =
+    λ k. kind_at c.args.card.now k ≡ 6 → UseSettled c.args.card.now c.args.names.now c.args.table.now (left_at c.args.card.now k) true in
     rw c.node_count.ensures.0 at
     (all_below c.node_count.result P _
     (cases_from_all _ _ _ P (λ k. P k → ⊥) c.all.ensures.ran (YieldsList-from_range 0 c.node_count.result c.node_count.result refl (omega arith))

@@ -14,7 +14,11 @@ weight-w-requires c =
     (n.few, (omega (arith, c.classes-c-end.ensures.1), c.requires.table_held.names_held))
 
 pub ways_fit-requires : goal.ways_fit-requires
-ways_fit-requires c = record { table_held = c.requires.table_held; clause = (c.requires.clause, omega (arith, c.classes-c-end.ensures.1)); on_way = way_starts (clause_node c.requires.table_held.sound c.requires.clause) c.weight-w.ensures.1 }
+ways_fit-requires c = record {
+  table_held = c.requires.table_held;
+  clause = (c.requires.clause, omega (arith, c.classes-c-end.ensures.1));
+  on_way = way_starts (clause_node c.requires.table_held.sound c.requires.clause) c.weight-w.ensures.1;
+}
 
 pub returns-then-not-ways_fit : goal.returns-then-not-ways_fit
 returns-then-not-ways_fit c =
