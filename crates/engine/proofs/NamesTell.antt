@@ -1181,12 +1181,12 @@ pub stuck_using : {bs codes : List ℕ} {e : ℕ} {f : Floor} {b : Branch} {tape
 stuck_using X q = rw q at X
 
 -- what is told at a dead end, given up or not
-pub dead_told : {bs : List ℕ} {f : Floor} {b : Branch} {tape tape' nodes nodes' heads heads' : List ℕ} (ws codes : List ℕ) (tired : Bool)
+pub dead_told : {bs : List ℕ} {f : Floor} {b : Branch} {tape tape' nodes nodes' heads heads' : List ℕ} (w : Way) (codes : List ℕ) (tired : Bool)
     → Solving bs codes f b tape tape' nodes nodes' heads heads' Stuck
-    → Solving bs codes f b tape tape' nodes nodes' heads heads' (answer_in (gives tired) ws)
+    → Solving bs codes f b tape tape' nodes nodes' heads heads' (answer_in (gives tired) w)
 unfolding answer_in gives Told
-dead_told ws codes true S = record { told = tt; tape_kept = S.tape_kept; node_kept = S.node_kept; head_kept = S.head_kept }
-dead_told ws codes false S = S
+dead_told w codes true S = record { told = tt; tape_kept = S.tape_kept; node_kept = S.node_kept; head_kept = S.head_kept }
+dead_told w codes false S = S
 
 -- what the use is called with
 pub round_call : {bs waits codes tape₀ nodes₀ heads₀ : List ℕ} {f : Floor} {b : Branch} {first : ℕ} → Ready bs waits tape₀ nodes₀ heads₀ f b
