@@ -1,21 +1,16 @@
 -- Laws of a joined line's source: which card holds it, and that its three bytes stand there.
-use Prim.Native.Nat.{ℕ, ◌+◌, ◌-◌, ◌<◌, ◌≤◌}
-use native.Mathlib.Omega.{arith}
-use mathlib.Core.Path.{◌≡◌, refl, ap}
-use mathlib.Core.Bool.{Bool, true, false, cond}
-use mathlib.Core.List.{List}
-use lib.ListN.{length}
-use lib.Dec.{leb, ltb}
-use borrow.Author.Tests.{ltb-true, ltb-false, leb-false}
+use Rattle.std.proofs.Common.{◌≡◌, ℕ, ◌+◌, ◌-◌, ◌<◌, ◌≤◌, Bool, true, false, cond, List, length, take, drop, leb, ltb, Err, refl, sym, ◌∙◌, ap, arith}
+use Rattle.std.proofs.Common.{lt-ltb, le-ltb, ltb-true, ltb-false, leb-false}
 use Rattle.card.specs.Format.{line_count, line_start}
 use Rattle.card.specs.Verdict.{refuse, line}
 use Rattle.card.specs.Fault.{Sound}
 use Rattle.card.proofs.FaultsInOrder.{not_applied}
 use Rattle.card.proofs.SoundNodes.{line_here}
 use Rattle.joined.specs.Joined.{joined_lines}
-use Rattle.benched.specs.Benched.{BenchVerdict, fine, stopped, neither, first, second, about, bench_fault, said_of}
+use Rattle.benched.specs.declared.BenchRefusal.{BenchRefusal}
+use Rattle.benched.specs.Benched.{BenchVerdict, fine, stopped, neither, first, second, about, bench_fault, said_of, told_bench}
 use Rattle.benched.proofs.BenchChecked.{about_sound, fine_left, fine_right, first_sound, second_sound}
-use Rattle.bench.specs.Bench.{SourceVerdict, held, unheld, source_fault, holder, source_of}
+use Rattle.bench.specs.Bench.{SourceVerdict, held, unheld, source_fault, holder, source_of, told_source}
 
 -- where a line is held
 offset : SourceVerdict → ℕ
@@ -32,7 +27,29 @@ Stands at bs = at + 3 ≤ length bs
 stands_line : {bs : List ℕ} → Sound bs → (i : ℕ) → i < line_count bs → {at : ℕ} → at ≡ line_start bs i → Stands at bs
 stands_line s i h e = omega (arith, line_here s i h, e)
 
+-- the three bytes of a line
+pub three : (at : ℕ) (bs : List ℕ) → take (at + 3 - at) (drop at bs) ≡ take 3 (drop at bs)
+three at bs = let e : at + 3 - at ≡ 3 = omega arith in ap (λ n. take n (drop at bs)) e
+
 module _ (a b : List ℕ) (i : ℕ) where
+  -- a check that stops the question is its answer; where none does, the holder is
+  pub source_stopped : (r : BenchRefusal) → told_bench (Err r) ≡ source_fault a b i → told_source (Err r) ≡ source_of a b i
+  unfolding told_bench told_source source_of said_of
+  source_stopped r t = ap (said_of (holder a b i) unheld) t
+
+  pub source_held : {v : SourceVerdict} → source_fault a b i ≡ fine → v ≡ holder a b i → v ≡ source_of a b i
+  unfolding source_of said_of
+  source_held e q = q ∙ sym (ap (said_of (holder a b i) unheld) e)
+
+  -- which card that is
+  pub holder_first : i < line_count a → held first (line_start a i) ≡ holder a b i
+  unfolding holder
+  holder_first h = rw (lt-ltb _ _ h) refl
+
+  pub holder_second : line_count a ≤ i → held second (line_start b (i - line_count a)) ≡ holder a b i
+  unfolding holder
+  holder_second h = rw (le-ltb _ _ h) refl
+
   abbrev sixteen : BenchVerdict
   sixteen = about neither (refuse (leb (joined_lines a b) i) 16 (line i))
 

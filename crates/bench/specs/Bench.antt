@@ -1,14 +1,12 @@
 -- What the calls over two cards answer and leave in the lent buffer (02, #101).
-use Rattle.std.specs.Prelude.{ℕ, ◌+◌, ◌-◌, ◌≤◌, ◌≡◌, cond, List, [], ◌++◌, length, take, drop, leb, ltb}
+use Rattle.std.specs.Prelude.{ℕ, ◌+◌, ◌-◌, ◌≤◌, ◌≡◌, cond, List, [], ◌++◌, length, take, drop, leb, ltb, Some, Result, Ok, Err}
 use Rattle.card.specs.Format.{line_count, line_start}
-use Rattle.card.specs.Verdict.{Where, card, line, sheet, where_of, refuse}
+use Rattle.card.specs.Verdict.{Where, card, line, sheet, number_of, where_of, refuse}
 use Rattle.card.specs.Fault.{Placed}
 use Rattle.joined.specs.Joined.{joined_lines, joined_length, joined_card}
 use Rattle.benched.specs.Benched.{Owner, BenchVerdict, fine, stopped, neither, first, second, about, ◌▸◌, bench_fault, said_of, owner_of}
-use Rattle.bench.specs.declared.Answer.{Answer}
-use Rattle.bench.specs.declared.Answer.TheVariants.{Joined, Refused}
-use Rattle.bench.specs.declared.Located.{Located}
-use Rattle.bench.specs.declared.Located.TheVariants.{InFirst, InSecond, Unheld}
+use Rattle.benched.specs.declared.BenchRefusal.{BenchRefusal}
+use Rattle.bench.specs.declared.LineSource.{LineSource}
 
 -- "then, joining, 10 (always place sheet) for a buffer short of the joined card"
 unfoldable pub join_fault : List ℕ → List ℕ → ℕ → BenchVerdict
@@ -76,12 +74,11 @@ pub data SourceDecided (a b : List ℕ) (i : ℕ) : SourceVerdict → Type 0 whe
   unasked : {o : Owner} {n : ℕ} {w : Where} → Owned a b o n w → SourceDecided a b i (unheld o n w)
   beyond : SourceDecided a b i (unheld neither 16 (line i))
 
--- 02's card, number and values for each case of the enums
-unfoldable pub told_join : Answer → JoinVerdict
-told_join (Joined n) = joined n
-told_join (Refused r) = refused (owner_of r.card) r.number (where_of r.place)
+-- what a call answers: its number, or which card holds the line, and where; else 02's card, number and place of its refusal
+unfoldable pub told_join : Result ℕ BenchRefusal → JoinVerdict
+told_join (Ok n) = joined n
+told_join (Err r) = refused (owner_of r.card) (number_of r.refusal.fault) (where_of r.refusal.place)
 
-unfoldable pub told_source : Located → SourceVerdict
-told_source (InFirst at) = held first at
-told_source (InSecond at) = held second at
-told_source (Unheld r) = unheld (owner_of r.card) r.number (where_of r.place)
+unfoldable pub told_source : Result LineSource BenchRefusal → SourceVerdict
+told_source (Ok s) = held (owner_of (Some s.card)) s.at
+told_source (Err r) = unheld (owner_of r.card) (number_of r.refusal.fault) (where_of r.refusal.place)

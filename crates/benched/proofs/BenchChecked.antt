@@ -1,15 +1,10 @@
 -- Laws of checks told with which card, one after the other, and of two cards that pass them.
-use Prim.Native.Nat.{ℕ}
-use native.Mathlib.Omega.{arith}
-use mathlib.Core.Path.{◌≡◌, refl, sym, ◌∙◌, ap}
-use mathlib.Core.Bool.{false}
-use mathlib.Core.List.{List}
+use Rattle.std.proofs.Common.{◌≡◌, ℕ, false, List, Result, Ok, Err, refl, sym, ◌∙◌, ap, arith}
+use Rattle.std.specs.Prelude.{⊤}
 use Rattle.card.specs.Verdict.{Verdict, Where, sound, fault, card, refuse}
 use Rattle.card.specs.Fault.{first_fault, Sound}
 use Rattle.card.proofs.FaultsInOrder.{not_applied}
 use Rattle.joined.specs.Joined.{overfull}
-use Rattle.benched.specs.declared.Benched.{Benched}
-use Rattle.benched.specs.declared.Benched.TheVariants.{Fine, Stopped}
 use Rattle.benched.specs.declared.BenchRefusal.{BenchRefusal}
 use Rattle.benched.specs.Benched.{Owner, BenchVerdict, fine, stopped, neither, first, second, about, ◌▸◌, bench_fault, said_of, told_bench}
 
@@ -41,11 +36,11 @@ unfolding ◌▸◌
 at_stop u v e = ap (λ (x : BenchVerdict). x ▸ v) e ∙ sym e
 
 -- a check that stops ends the call; one that has passed leaves those after it
-pub stops : {u : BenchVerdict} (v : BenchVerdict) {a : Benched} {r : BenchRefusal} → a ≡ Stopped r → told_bench a ≡ u → told_bench a ≡ u ▸ v
+pub stops : {u : BenchVerdict} (v : BenchVerdict) {a : Result ⊤ BenchRefusal} {r : BenchRefusal} → a ≡ Err r → told_bench a ≡ u → told_bench a ≡ u ▸ v
 unfolding told_bench
 stops {u} v e t = t ∙ sym (at_stop u v (sym t ∙ ap told_bench e))
 
-pub passed : {u : BenchVerdict} {a : Benched} → a ≡ Fine → told_bench a ≡ u → u ≡ fine
+pub passed : {u : BenchVerdict} {a : Result ⊤ BenchRefusal} {t : ⊤} → a ≡ Ok t → told_bench a ≡ u → u ≡ fine
 unfolding told_bench
 passed e t = sym t ∙ ap told_bench e
 
@@ -53,11 +48,11 @@ pub onward : {u v w : BenchVerdict} → u ≡ fine → w ≡ v → w ≡ u ▸ v
 onward {u} {v} e q = q ∙ sym (after_fine u v e)
 
 -- a call that answers with a check's refusal, whatever its own word
-pub ended : {A : Type 0} (x y : A) (f : Owner → ℕ → Where → A) (v : BenchVerdict) {a : Benched} {r : BenchRefusal} → a ≡ Stopped r
+pub ended : {A : Type 0} (x y : A) (f : Owner → ℕ → Where → A) (v : BenchVerdict) {a : Result ⊤ BenchRefusal} {r : BenchRefusal} → a ≡ Err r
     → told_bench a ≡ v → said_of x f (told_bench a) ≡ said_of y f v
 unfolding told_bench said_of
 ended x y f v e t =
-    ap (λ (b : Benched). said_of x f (told_bench b)) e ∙ sym (ap (said_of y f) (sym t ∙ ap told_bench e))
+    ap (λ (b : Result ⊤ BenchRefusal). said_of x f (told_bench b)) e ∙ sym (ap (said_of y f) (sym t ∙ ap told_bench e))
 
 -- THEOREM. Two cards that pass are sound and fit on one.
 module _ (a b : List ℕ) (e : bench_fault a b ≡ fine) where

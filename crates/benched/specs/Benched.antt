@@ -1,12 +1,11 @@
 -- What both calls over two cards check first (02, #101), told with which card.
-use Rattle.std.specs.Prelude.{ℕ, List}
-use Rattle.card.specs.Verdict.{Verdict, Where, sound, fault, card, where_of, refuse}
+use Rattle.std.specs.Prelude.{ℕ, List, Option, None, Some, Result, Ok, Err, ⊤}
+use Rattle.card.specs.Verdict.{Verdict, Where, sound, fault, card, number_of, where_of, refuse}
 use Rattle.card.specs.Fault.{first_fault}
 use Rattle.joined.specs.Joined.{overfull}
-use Rattle.benched.specs.declared.Whose.{Whose}
-use Rattle.benched.specs.declared.Whose.TheVariants.{Neither, First, Second}
-use Rattle.benched.specs.declared.Benched.{Benched}
-use Rattle.benched.specs.declared.Benched.TheVariants.{Fine, Stopped}
+use Rattle.benched.specs.declared.Which.{Which}
+use Rattle.benched.specs.declared.Which.TheVariants.{First, Second}
+use Rattle.benched.specs.declared.BenchRefusal.{BenchRefusal}
 
 -- "told with which card": the card that a refusal is about
 pub data Owner : Type 0 where
@@ -38,12 +37,12 @@ unfoldable pub said_of : {A : Type 0} → A → (Owner → ℕ → Where → A) 
 said_of x refused fine = x
 said_of x refused (stopped o n w) = refused o n w
 
--- 02's card, number and values for each case of the enums
-unfoldable pub owner_of : Whose → Owner
-owner_of Neither = neither
-owner_of First = first
-owner_of Second = second
+-- 02's card of a refusal that is told with this one, and 02's card, number and place of the refusal that the checks answer
+unfoldable pub owner_of : Option Which → Owner
+owner_of None = neither
+owner_of (Some First) = first
+owner_of (Some Second) = second
 
-unfoldable pub told_bench : Benched → BenchVerdict
-told_bench Fine = fine
-told_bench (Stopped r) = stopped (owner_of r.card) r.number (where_of r.place)
+unfoldable pub told_bench : Result ⊤ BenchRefusal → BenchVerdict
+told_bench (Ok u) = fine
+told_bench (Err r) = stopped (owner_of r.card) (number_of r.refusal.fault) (where_of r.refusal.place)

@@ -5,62 +5,58 @@ ghost use Rattle.std.specs.Prelude.{◌≡◌};
 ghost use Rattle.card.specs.Verdict.{told};
 ghost use Rattle.benched.specs.Benched.{about, owner_of, bench_fault, told_bench};
 
-use card::{Checked, Place};
+use card::Refusal;
+use checks::check;
+use limits::limits_check;
+use std::error::Error;
+use std::fmt;
 
-// 02: "told with which card".
-#[derive(Clone, Copy)]
-pub enum Whose {
-    Neither,
+// One of the two cards.
+#[derive(Clone, Copy, Debug, PartialEq, Eq)]
+pub enum Which {
     First,
     Second,
 }
 
-// A refusal, told with which card it is about.
-#[derive(Clone, Copy)]
+// 02: a refusal, "told with which card" it is about; none, where it is about neither.
+#[derive(Clone, Copy, Debug, PartialEq, Eq)]
 pub struct BenchRefusal {
-    pub card: Whose,
-    pub number: u8,
-    pub place: Place,
+    pub card: Option<Which>,
+    pub refusal: Refusal,
 }
 
-// What the checks find.
-#[derive(Clone, Copy)]
-pub enum Benched {
-    Fine,
-    Stopped(BenchRefusal),
+impl fmt::Display for Which {
+    fn fmt<W: fmt::Write>(&self, f: &mut fmt::Formatter<W>) -> fmt::Result {
+        match self {
+            Which::First => write!(f, "first"),
+            Which::Second => write!(f, "second"),
+        }
+    }
 }
+
+impl fmt::Display for BenchRefusal {
+    fn fmt<W: fmt::Write>(&self, f: &mut fmt::Formatter<W>) -> fmt::Result {
+        match self.card {
+            Some(which) => write!(f, "{}, {which} card", self.refusal),
+            None => write!(f, "{}, neither card", self.refusal),
+        }
+    }
+}
+
+impl Error for BenchRefusal {}
 
 // A check, told with which card it is about.
-pub fn about(card: Whose, found: Checked) -> Benched
+pub fn about(card: Option<Which>, found: Result<(), Refusal>) -> Result<(), BenchRefusal>
     ensures { told_bench result ≡ about (owner_of card) (told found) }
 {
-    let Checked::Refused(refusal) = found else {
-        return Benched::Fine;
-    };
-    let number = refusal.number;
-    let place = refusal.place;
-    Benched::Stopped(BenchRefusal {
-        card,
-        number,
-        place,
-    })
+    found.map_err(|refusal| BenchRefusal { card, refusal })
 }
 
 // The first card's own 1 to 9, the second's, and 15.
-pub fn bench_check(first: &[u8], second: &[u8]) -> Benched
+pub fn bench_check(first: &[u8], second: &[u8]) -> Result<(), BenchRefusal>
     ensures { told_bench result ≡ bench_fault first.now second.now }
 {
-    let one = about(Whose::First, checks::check(first));
-    let Benched::Fine = one else {
-        return one;
-    };
-    let two = about(Whose::Second, checks::check(second));
-    let Benched::Fine = two else {
-        return two;
-    };
-    let fits = about(Whose::Neither, limits::limits_check(first, second));
-    let Benched::Fine = fits else {
-        return fits;
-    };
-    Benched::Fine
+    about(Some(Which::First), check(first))?;
+    about(Some(Which::Second), check(second))?;
+    about(None, limits_check(first, second))
 }

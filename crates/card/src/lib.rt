@@ -4,6 +4,7 @@
 pub mod faults;
 pub mod format;
 pub mod kinds;
+pub mod sound;
 
 ghost use Rattle.std.specs.Prelude.{◌≡◌, ◌&&◌, ◌||◌};
 ghost use Rattle.card.specs.Verdict.{told, refuse, number_of, where_of};

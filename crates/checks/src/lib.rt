@@ -5,36 +5,19 @@ ghost use Rattle.std.specs.Prelude.{◌≡◌};
 ghost use Rattle.card.specs.Verdict.{told};
 ghost use Rattle.card.specs.Fault.{first_fault};
 
-use card::Checked;
+use card::Refusal;
+use front::front_check;
+use nodes::nodes_check;
+use roots::{goal_check, lines_check, rules_check};
 
 // The first of 1 to 9 that applies, or that the card is sound.
-pub fn check(card: &[u8]) -> Checked
+pub fn check(card: &[u8]) -> Result<(), Refusal>
     ensures { told result ≡ first_fault card.now }
 {
-    // 1 to 5.
-    let front = front::front_check(card);
-    let Checked::Sound = front else {
-        return front;
-    };
-    // 6.
-    let nodes = nodes::nodes_check(card);
-    let Checked::Sound = nodes else {
-        return nodes;
-    };
-    // 7.
-    let goal = roots::goal_check(card);
-    let Checked::Sound = goal else {
-        return goal;
-    };
-    // 8.
-    let rules = roots::rules_check(card);
-    let Checked::Sound = rules else {
-        return rules;
-    };
-    // 9.
-    let lines = roots::lines_check(card);
-    let Checked::Sound = lines else {
-        return lines;
-    };
-    Checked::Sound
+    // 1 to 5, then 6, 7, 8 and 9.
+    front_check(card)?;
+    nodes_check(card)?;
+    goal_check(card)?;
+    rules_check(card)?;
+    lines_check(card)
 }

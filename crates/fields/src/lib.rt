@@ -11,8 +11,8 @@ use moved::put_node;
 
 // 11 + 5N + 2P + 3T of the joined card.
 pub fn joined_length(first: &[u8], second: &[u8]) -> usize
-    requires sound { Sound first.now }
-    requires sound_2 { Sound second.now }
+    requires first_sound { Sound first.now }
+    requires second_sound { Sound second.now }
     ensures { result ≡ joined_length first.now second.now }
 {
     let nodes = word(first, 5) + word(second, 5) + 1;
@@ -23,8 +23,8 @@ pub fn joined_length(first: &[u8], second: &[u8]) -> usize
 
 // d: the greater.
 pub fn depth(first: &[u8], second: &[u8]) -> u8
-    requires sound { Sound first.now }
-    requires sound_2 { Sound second.now }
+    requires first_sound { Sound first.now }
+    requires second_sound { Sound second.now }
     ensures { result ≡ joined_depth first.now second.now }
 {
     let a = first[9];
@@ -34,8 +34,8 @@ pub fn depth(first: &[u8], second: &[u8]) -> u8
 
 // s: the sum, or 255 if lower.
 pub fn steps(first: &[u8], second: &[u8]) -> u8
-    requires sound { Sound first.now }
-    requires sound_2 { Sound second.now }
+    requires first_sound { Sound first.now }
+    requires second_sound { Sound second.now }
     ensures { result ≡ joined_steps first.now second.now }
 {
     let sum = byte(first, 10) + byte(second, 10);
@@ -44,9 +44,9 @@ pub fn steps(first: &[u8], second: &[u8]) -> u8
 
 // The new last node: both of the first's goal and the second's, shifted.
 pub fn put_both(first: &[u8], second: &[u8], out: &mut [u8], at: usize)
-    requires sound { Sound first.now }
-    requires sound_2 { Sound second.now }
-    requires at_in_bounds { at + 5 ≤ length out.old }
+    requires first_sound { Sound first.now }
+    requires second_sound { Sound second.now }
+    requires room { at + 5 ≤ length out.old }
     ensures { Written out.old out.new at
         (both_goals first.now second.now) }
 {

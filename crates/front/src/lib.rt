@@ -7,33 +7,19 @@ ghost use Rattle.card.specs.Verdict.{told};
 ghost use Rattle.card.specs.Fault.{in_range, front_fault};
 
 use card::format::{byte, word};
-use card::{Checked, Place, refuse};
+use card::{Fault, Place, Refusal, refuse};
 
 // P, T, N and d are in range.
+#[tactic(auto, unfolding(card::specs::Fault::in_range))]
 fn in_range(card: &[u8]) -> bool
     requires { 11 ≤ length card.now }
     ensures { result ≡ in_range card.now }
 {
     let p = byte(card, 3);
-    if 64 < p {
-        return false;
-    }
     let t = byte(card, 4);
-    if 64 < t {
-        return false;
-    }
     let n = word(card, 5);
-    if n < 1 {
-        return false;
-    }
-    if 512 < n {
-        return false;
-    }
     let d = byte(card, 9);
-    if 16 < d {
-        return false;
-    }
-    true
+    p <= 64 && t <= 64 && 1 <= n && n <= 512 && d <= 16
 }
 
 // 11 + 5N + 2P + 3T
@@ -45,33 +31,17 @@ fn length_asked(card: &[u8]) -> usize
 }
 
 // 1 to 5: the card's front.
-pub fn front_check(card: &[u8]) -> Checked
+pub fn front_check(card: &[u8]) -> Result<(), Refusal>
     ensures { told result ≡ front_fault card.now }
 {
     // 1: fewer than 11 bytes.
-    let front = refuse(card.len() < 11, 1, Place::Card);
-    let Checked::Sound = front else {
-        return front;
-    };
+    refuse(card.len() < 11, Fault::Short, Place::Card)?;
     // 2: the length field differs from the bytes lent.
-    let field = refuse(word(card, 0) != card.len(), 2, Place::Card);
-    let Checked::Sound = field else {
-        return field;
-    };
+    refuse(word(card, 0) != card.len(), Fault::LengthField, Place::Card)?;
     // 3: the version is not 1.
-    let version = refuse(byte(card, 2) != 1, 3, Place::Card);
-    let Checked::Sound = version else {
-        return version;
-    };
+    refuse(byte(card, 2) != 1, Fault::Version, Place::Card)?;
     // 4: P, T, N or d is out of range.
-    let range = refuse(!in_range(card), 4, Place::Card);
-    let Checked::Sound = range else {
-        return range;
-    };
+    refuse(!in_range(card), Fault::Range, Place::Card)?;
     // 5: the length formula is not met.
-    let size = refuse(length_asked(card) != card.len(), 5, Place::Card);
-    let Checked::Sound = size else {
-        return size;
-    };
-    Checked::Sound
+    refuse(length_asked(card) != card.len(), Fault::Size, Place::Card)
 }

@@ -13,9 +13,9 @@ use moved::{put_lines, put_nodes, put_rules, put_word};
 
 // Bytes 2 to 4: the version, P and T.
 fn put_counts(first: &[u8], second: &[u8], out: &mut [u8])
-    requires sound { Sound first.now }
-    requires sound_2 { Sound second.now }
-    requires in_bounds { 11 ≤ length out.old }
+    requires first_sound { Sound first.now }
+    requires second_sound { Sound second.now }
+    requires front { 11 ≤ length out.old }
     ensures { Written out.old out.new 2
         (joined_counts first.now second.now) }
 {
@@ -28,9 +28,9 @@ fn put_counts(first: &[u8], second: &[u8], out: &mut [u8])
 
 // Bytes 9 and 10: d and s.
 fn put_limits(first: &[u8], second: &[u8], out: &mut [u8])
-    requires sound { Sound first.now }
-    requires sound_2 { Sound second.now }
-    requires in_bounds { 11 ≤ length out.old }
+    requires first_sound { Sound first.now }
+    requires second_sound { Sound second.now }
+    requires front { 11 ≤ length out.old }
     ensures { Written out.old out.new 9
         (joined_limits first.now second.now) }
 {
@@ -40,9 +40,9 @@ fn put_limits(first: &[u8], second: &[u8], out: &mut [u8])
 
 // Bytes 0 to 10.
 fn put_front(first: &[u8], second: &[u8], out: &mut [u8])
-    requires sound { Sound first.now }
-    requires sound_2 { Sound second.now }
-    requires in_bounds { 11 ≤ length out.old }
+    requires first_sound { Sound first.now }
+    requires second_sound { Sound second.now }
+    requires front { 11 ≤ length out.old }
     ensures { Written out.old out.new 0
         (joined_front first.now second.now) }
 {
@@ -56,9 +56,9 @@ fn put_front(first: &[u8], second: &[u8], out: &mut [u8])
 
 // The nodes: the first's, the second's shifted, and both of the two goals.
 fn put_all_nodes(first: &[u8], second: &[u8], out: &mut [u8])
-    requires sound { Sound first.now }
-    requires sound_2 { Sound second.now }
-    requires second_in_bounds { 11 + 5 * joined_nodes first.now second.now ≤ length out.old }
+    requires first_sound { Sound first.now }
+    requires second_sound { Sound second.now }
+    requires room { 11 + 5 * joined_nodes first.now second.now ≤ length out.old }
     ensures { Written out.old out.new 11
         (all_nodes first.now second.now) }
 {
@@ -71,9 +71,9 @@ fn put_all_nodes(first: &[u8], second: &[u8], out: &mut [u8])
 
 // The rules, from this place on: the first's, and the second's shifted.
 fn put_all_rules(first: &[u8], second: &[u8], out: &mut [u8], at: usize)
-    requires sound { Sound first.now }
-    requires sound_2 { Sound second.now }
-    requires second_in_bounds { at + 2 * joined_rules first.now second.now ≤ length out.old }
+    requires first_sound { Sound first.now }
+    requires second_sound { Sound second.now }
+    requires room { at + 2 * joined_rules first.now second.now ≤ length out.old }
     ensures { Written out.old out.new at
         (all_rules first.now second.now) }
 {
@@ -84,9 +84,9 @@ fn put_all_rules(first: &[u8], second: &[u8], out: &mut [u8], at: usize)
 
 // The lines, from this place on: the first's, and the second's shifted.
 fn put_all_lines(first: &[u8], second: &[u8], out: &mut [u8], at: usize)
-    requires sound { Sound first.now }
-    requires sound_2 { Sound second.now }
-    requires second_in_bounds { at + 3 * joined_lines first.now second.now ≤ length out.old }
+    requires first_sound { Sound first.now }
+    requires second_sound { Sound second.now }
+    requires room { at + 3 * joined_lines first.now second.now ≤ length out.old }
     ensures { Written out.old out.new at
         (all_lines first.now second.now) }
 {
@@ -97,9 +97,9 @@ fn put_all_lines(first: &[u8], second: &[u8], out: &mut [u8], at: usize)
 
 // The whole joined card. Bytes past it keep what they held.
 pub fn put_joined(first: &[u8], second: &[u8], out: &mut [u8])
-    requires sound { Sound first.now }
-    requires sound_2 { Sound second.now }
-    requires second_in_bounds { joined_length first.now second.now ≤ length out.old }
+    requires first_sound { Sound first.now }
+    requires second_sound { Sound second.now }
+    requires room { joined_length first.now second.now ≤ length out.old }
     ensures { out.new
         ≡ joined_card first.now second.now
         ++ drop (joined_length first.now second.now) out.old }

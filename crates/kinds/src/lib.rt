@@ -6,62 +6,41 @@ ghost use Rattle.card.specs.Kinds.{kind_of};
 ghost use Rattle.card.specs.Fault.{is_goal, is_clause, goal_part, clause_part};
 
 use card::format::kind;
-use card::kinds::Field;
+use card::kinds::{Field, Kind};
 
 // A row of the table: what the two fields hold, and whether the node reads as a goal and as a clause.
 #[derive(Clone, Copy)]
-pub struct Kind {
+pub struct KindRow {
     pub left: Field,
     pub right: Field,
     pub goal: bool,
     pub clause: bool,
 }
 
-impl Kind {
-    fn new(left: Field, right: Field, goal: bool, clause: bool) -> Kind
-        ensures { (result.left ≡ left) × (result.right ≡ right) × (result.goal ≡ goal) × (result.clause ≡ clause) }
-    {
-        Kind {
-            left,
-            right,
-            goal,
-            clause,
-        }
-    }
-}
-
 // The table: the row of kind k.
-pub fn row(k: usize) -> Kind
+pub fn row(k: usize) -> KindRow
     ensures { (result.left ≡ (kind_of k).left) × (result.right ≡ (kind_of k).right)
         × (result.goal ≡ is_goal k) × (result.clause ≡ is_clause k) }
 {
-    match k {
-        1 => Kind::new(Field::Name, Field::Unused, true, true),
-        2 => Kind::new(Field::Unused, Field::Unused, true, true),
-        3 => Kind::new(Field::Unused, Field::Unused, true, false),
-        4 => Kind::new(Field::GoalPart, Field::GoalPart, true, false),
-        5 => Kind::new(Field::GoalPart, Field::GoalPart, true, false),
-        6 => Kind::new(Field::ClausePart, Field::GoalPart, true, false),
-        7 => Kind::new(Field::GoalPart, Field::ClausePart, false, true),
-        8 => Kind::new(Field::GoalPart, Field::GoalPart, true, false),
-        9 => Kind::new(Field::Unused, Field::Unused, true, false),
-        10 => Kind::new(Field::ClausePart, Field::ClausePart, false, true),
-        _ => Kind::new(Field::Unknown, Field::Unknown, false, false),
+    let (left, right, goal, clause) = match Kind::from(k) {
+        Kind::Atom => (Field::Name, Field::Unused, true, true),
+        Kind::Top => (Field::Unused, Field::Unused, true, true),
+        Kind::One => (Field::Unused, Field::Unused, true, false),
+        Kind::Tensor => (Field::GoalPart, Field::GoalPart, true, false),
+        Kind::With => (Field::GoalPart, Field::GoalPart, true, false),
+        Kind::Lend => (Field::ClausePart, Field::GoalPart, true, false),
+        Kind::Recipe => (Field::GoalPart, Field::ClausePart, false, true),
+        Kind::Oplus => (Field::GoalPart, Field::GoalPart, true, false),
+        Kind::Zero => (Field::Unused, Field::Unused, true, false),
+        Kind::Menu => (Field::ClausePart, Field::ClausePart, false, true),
+        Kind::Unknown => (Field::Unknown, Field::Unknown, false, false),
+    };
+    KindRow {
+        left,
+        right,
+        goal,
+        clause,
     }
-}
-
-fn is_goal(k: usize) -> bool
-    ensures { result ≡ is_goal k }
-{
-    let kind = row(k);
-    kind.goal
-}
-
-fn is_clause(k: usize) -> bool
-    ensures { result ≡ is_clause k }
-{
-    let kind = row(k);
-    kind.clause
 }
 
 // The part is below i and reads as a goal.
@@ -69,10 +48,7 @@ pub fn goal_part(card: &[u8], i: usize, part: usize) -> bool
     requires { 11 + 5 * i ≤ length card.now }
     ensures { result ≡ goal_part card.now i part }
 {
-    if part < i {
-        return is_goal(kind(card, part));
-    }
-    false
+    part < i && row(kind(card, part)).goal
 }
 
 // The part is below i and reads as a clause.
@@ -80,8 +56,5 @@ pub fn clause_part(card: &[u8], i: usize, part: usize) -> bool
     requires { 11 + 5 * i ≤ length card.now }
     ensures { result ≡ clause_part card.now i part }
 {
-    if part < i {
-        return is_clause(kind(card, part));
-    }
-    false
+    part < i && row(kind(card, part)).clause
 }

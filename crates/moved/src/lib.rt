@@ -15,7 +15,7 @@ use kinds::row;
 // A number of two bytes.
 pub fn put_word(value: usize, out: &mut [u8], at: usize)
     requires value_bound { value < 65536 }
-    requires at_in_bounds { at + 2 ≤ length out.old }
+    requires room { at + 2 ≤ length out.old }
     ensures { Written out.old out.new at (word_bytes value) }
 {
     out[at] = (value / 256) as u8;
@@ -41,7 +41,7 @@ fn shift(n: usize, field: Field, value: usize) -> usize
 pub fn put_node(kind: u8, left: usize, right: usize, out: &mut [u8], at: usize)
     requires left_bound { left < 65536 }
     requires right_bound { right < 65536 }
-    requires at_in_bounds { at + 5 ≤ length out.old }
+    requires room { at + 5 ≤ length out.old }
     ensures { Written out.old out.new at (node_bytes kind left right) }
 {
     out[at] = kind;
@@ -54,7 +54,7 @@ fn put_moved(card: &[u8], n: usize, i: usize, out: &mut [u8], at: usize)
     requires sound { Sound card.now }
     requires n_bound { n ≤ 512 }
     requires i_bound { i < node_count card.now }
-    requires at_in_bounds { at + 5 ≤ length out.old }
+    requires room { at + 5 ≤ length out.old }
     ensures { Written out.old out.new at (moved_node n card.now i) }
 {
     let k = kind(card, i);
@@ -70,7 +70,7 @@ fn put_moved(card: &[u8], n: usize, i: usize, out: &mut [u8], at: usize)
 pub fn put_nodes(card: &[u8], n: usize, out: &mut [u8], at: usize)
     requires sound { Sound card.now }
     requires n_bound { n ≤ 512 }
-    requires card_in_bounds { at + 5 * node_count card.now ≤ length out.old }
+    requires room { at + 5 * node_count card.now ≤ length out.old }
     ensures { Written out.old out.new at (moved_nodes n card.now) }
 {
     let m = word(card, 5);
@@ -85,7 +85,7 @@ pub fn put_nodes(card: &[u8], n: usize, out: &mut [u8], at: usize)
 pub fn put_rules(card: &[u8], n: usize, out: &mut [u8], at: usize)
     requires sound { Sound card.now }
     requires n_bound { n ≤ 512 }
-    requires card_in_bounds { at + 2 * rule_count card.now ≤ length out.old }
+    requires room { at + 2 * rule_count card.now ≤ length out.old }
     ensures { Written out.old out.new at (moved_rules n card.now) }
 {
     let m = byte(card, 3);
@@ -99,7 +99,7 @@ pub fn put_rules(card: &[u8], n: usize, out: &mut [u8], at: usize)
 // A line of 3 bytes.
 fn put_line(node: usize, must: u8, out: &mut [u8], at: usize)
     requires node_bound { node < 65536 }
-    requires at_in_bounds { at + 3 ≤ length out.old }
+    requires room { at + 3 ≤ length out.old }
     ensures { Written out.old out.new at (word_bytes node ++ (must ∷ [])) }
 {
     put_word(node, out, at);
@@ -110,7 +110,7 @@ fn put_line(node: usize, must: u8, out: &mut [u8], at: usize)
 pub fn put_lines(card: &[u8], n: usize, out: &mut [u8], at: usize)
     requires sound { Sound card.now }
     requires n_bound { n ≤ 512 }
-    requires card_in_bounds { at + 3 * line_count card.now ≤ length out.old }
+    requires room { at + 3 * line_count card.now ≤ length out.old }
     ensures { Written out.old out.new at (moved_lines n card.now) }
 {
     let m = byte(card, 4);

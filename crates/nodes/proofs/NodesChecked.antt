@@ -1,23 +1,16 @@
--- Laws of refusal 6: a node's height from the table of those before it, and what its check answers.
-use Prim.Native.Nat.{ℕ, suc, ◌+◌, ◌<◌, ◌≤◌, max}
-use native.Mathlib.Omega.{arith}
-use mathlib.Core.Path.{◌≡◌, refl, sym, ◌∙◌, ap, ap₂}
-use mathlib.Core.Bool.{Bool, true, false, not, cond, ◌&&◌}
-use mathlib.Core.List.{List, [], ◌∷◌, ◌++◌}
-use lib.ListN.{length, take, set}
+-- Laws of refusal 6: a node's height from the table of those before it, and its two tests taken one after the other.
+use Rattle.std.proofs.Common.{◌≡◌, ℕ, suc, ◌+◌, ◌<◌, max, Bool, true, false, not, ◌&&◌, List, [], ◌∷◌, ◌++◌, length, take, set, refl, sym, ◌∙◌, ap, ap₂, arith}
 use lib.Seq.{get_or-take, take-suc-set}
-use lib.Dec.{leb}
-use borrow.Author.Tests.{le-leb, lt-leb}
 use Rattle.card.specs.Format.{kind_at, left_at, right_at, grow}
 use Rattle.card.specs.declared.kinds.Field.{Field}
 use Rattle.card.specs.declared.kinds.Field.TheVariants.{Unused, Name, GoalPart, ClausePart, Unknown}
 use Rattle.card.specs.Kinds.{Kind, kind_of}
-use Rattle.card.specs.Verdict.{sound, fault, node, refuse}
-use Rattle.card.specs.Fault.{well_built, part_height, height_step, height_at, node_fault}
+use Rattle.card.specs.Verdict.{Verdict, Where, sound, fault, refuse}
+use Rattle.card.specs.Fault.{well_built, part_height, height_step, height_at}
 use Rattle.card.specs.Inner.Checks.{PartBelow}
+use Rattle.card.proofs.FaultsInOrder.{sound_or_faulty}
 use Rattle.card.proofs.NodesBuilt.{left_below, right_below}
-use Rattle.nodes.specs.declared.Built.TheVariants.{Height, Faulty}
-use Rattle.nodes.specs.Inner.Nodes.{built_at, HeightsTabled}
+use Rattle.nodes.specs.Inner.Nodes.{HeightsTabled}
 
 -- what is below n is below all that n is below
 below_more : (f : Field) (v : ℕ) {n m : ℕ} → n < m → PartBelow n f v → PartBelow m f v
@@ -59,38 +52,20 @@ module _ (bs : List ℕ) (i : ℕ) where
         ap₂ (λ a b. max a b + 1) (height_same t tab row.left (left_at bs i) (left_below bs i e))
         (height_same t tab row.right (right_at bs i) (right_below bs i e))
 
-  -- what the check of a node answers
-  pub faulty : well_built bs i ≡ false → Faulty ≡ built_at bs i
-  unfolding built_at
-  faulty e = rw e refl
-
-  pub too_high : well_built bs i ≡ true → 8 < height_at bs i → Faulty ≡ built_at bs i
-  unfolding built_at
-  too_high e h = simp (e, lt-leb _ _ h)
-
-  pub as_high : well_built bs i ≡ true → height_at bs i ≤ 8 → Height (height_at bs i) ≡ built_at bs i
-  unfolding built_at
-  as_high e h = simp (e, le-leb _ _ h)
-
-  -- and what that says of refusal 6
-  pub fault_of : built_at bs i ≡ Faulty → node_fault bs i ≡ fault 6 (node i)
-  unfolding built_at node_fault refuse
-  fault_of = by_test (well_built bs i && leb (height_at bs i) 8)
-    where
-      by_test : (b : Bool) → cond b (Height (height_at bs i)) Faulty ≡ Faulty → refuse (not b) 6 (node i) ≡ fault 6 (node i)
-      by_test true e = absurd (let z : ◌≡◌ {A = ℕ} 0 1 = cc in omega arith)
-      by_test false e = refl
-
-  pub height_of : (h : ℕ) → built_at bs i ≡ Height h → (node_fault bs i ≡ sound) × (height_at bs i ≡ h)
-  unfolding built_at node_fault refuse
-  height_of h = by_test (well_built bs i && leb (height_at bs i) 8)
-    where
-      by_test : (b : Bool) → cond b (Height (height_at bs i)) Faulty ≡ Height h → (refuse (not b) 6 (node i) ≡ sound) × (height_at bs i ≡ h)
-      by_test true e = (refl, cc)
-      by_test false e = absurd (let z : ◌≡◌ {A = ℕ} 0 1 = cc in omega arith)
-
   -- the table with one height more
   pub table_more : (t : List ℕ) → i < length t → take i t ≡ grow (height_step bs) i
       → take (suc i) (set t i (height_at bs i)) ≡ grow (height_step bs) (suc i)
   unfolding grow height_at
   table_more t h e = take-suc-set t i (height_at bs i) h ∙ ap (λ u. u ++ (height_at bs i ∷ [])) e
+
+-- a refusal that asks for two things, taken apart: the first does not hold, or it holds and the second decides
+module _ (n : ℕ) (w : Where) where
+  pub first_missing : (a b : Bool) {m : ℕ} {u : Where} → fault m u ≡ refuse (not a) n w → refuse (not (a && b)) n w ≡ fault m u
+  unfolding refuse
+  first_missing true b e = absurd (sound_or_faulty refl (sym e))
+  first_missing false b e = sym e
+
+  pub second_asked : (a b : Bool) {v : Verdict} → refuse (not a) n w ≡ sound → v ≡ refuse (not b) n w → refuse (not (a && b)) n w ≡ v
+  unfolding refuse
+  second_asked true b e h = sym h
+  second_asked false b e h = absurd (sound_or_faulty e refl)

@@ -1,23 +1,22 @@
 -- What the planner answers and leaves in the lent buffer (01, "Refused, and where"), in terms of derivations.
-use Rattle.std.specs.Prelude.{ℕ, ◌+◌, ◌≤◌, ◌<◌, ◌≡◌, List, ◌++◌, length, drop}
+use Rattle.std.specs.Prelude.{Result, Ok, Err, ℕ, ◌+◌, ◌≤◌, ◌<◌, ◌≡◌, List, ◌++◌, length, drop}
 use Rattle.calculus.specs.Job.{DerivableWithin, First, surely_used}
 use Rattle.card.specs.Format.{line_count, step_limit}
-use Rattle.card.specs.Verdict.{Where, fault, card, sheet, where_of}
+use Rattle.card.specs.Verdict.{Where, fault, card, sheet, number_of, where_of}
+use Rattle.card.specs.declared.faults.Refusal.{Refusal}
 use Rattle.card.specs.Fault.{first_fault, Placed, Sound}
 use Rattle.card.specs.Decode.{job_of}
 use Rattle.card.specs.Sheet.{sheet_of}
-use Rattle.planning.specs.declared.Answer.{Answer}
-use Rattle.planning.specs.declared.Answer.TheVariants.{Planned, Refused}
 
 -- "The planner answers planned with k, or a refusal".
 pub data PlanVerdict : Type 0 where
   planned : ℕ → PlanVerdict
   refused : ℕ → Where → PlanVerdict
 
--- 01's number and values for each case of the enum `Answer`
-unfoldable pub told_plan : Answer → PlanVerdict
-told_plan (Planned k) = planned k
-told_plan (Refused r) = refused r.number (where_of r.place)
+-- the planner's answer: k, or 01's number and place of a refusal
+unfoldable pub told_plan : Result ℕ Refusal → PlanVerdict
+told_plan (Ok k) = planned k
+told_plan (Err r) = refused (number_of r.fault) (where_of r.place)
 
 -- 10, "buffer shorter than 5 + s + T": what the buffer has to hold
 abbrev pub room_of : List ℕ → ℕ

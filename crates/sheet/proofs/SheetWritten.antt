@@ -10,6 +10,10 @@ use Rattle.calculus.specs.Items.{Items}
 use Rattle.card.specs.Format.{line_count}
 use Rattle.card.specs.Sheet.{marks_of, word, sheet_of}
 
+-- a part of k from a on is set to q
+pub part_set : (a k : ℕ) (xs q m : List ℕ) → m ≡ q → put_mid a (a + k - a) xs m ≡ take a xs ++ q ++ drop (a + k) xs
+part_set a k xs q m e = let w : a + k - a ≡ k = omega arith in rw (w, e, drop-drop k a xs) (sym (append_assoc (take a xs) q (drop (a + k) xs)))
+
 -- a part from a to the end is lent, and comes back with q at its front and the rest as it was
 pub part_back : (a t : ℕ) (xs q m : List ℕ) → a ≤ length xs → m ≡ q ++ drop t (take (length xs - a) (drop a xs))
     → put_mid a (length xs - a) xs m ≡ take a xs ++ q ++ drop (a + t) xs

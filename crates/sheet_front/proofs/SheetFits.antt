@@ -1,13 +1,13 @@
--- Laws of the sheet's front: which test of 12 fails, and what holds where none does.
-use Prim.Native.Nat.{ℕ, ◌+◌, ◌≤◌, ◌<◌}
+-- Laws of the sheet's front: what holds where no test of 12 fails.
+use Prim.Native.Nat.{ℕ, ◌+◌}
 use native.Mathlib.Omega.{arith}
 use mathlib.Core.Path.{◌≡◌, refl}
-use mathlib.Core.Bool.{Bool, true, false, ◌&&◌}
+use mathlib.Core.Bool.{Bool, true, ◌&&◌}
 use mathlib.Core.List.{List}
 use lib.ListN.{length, drop, length-drop}
 use lib.Seq.{length-take-le}
 use lib.Dec.{leb, eqb}
-use borrow.Author.Tests.{le-leb, lt-leb, eq-eqb, ne_eqb, leb-true, eqb-true, not-false}
+use borrow.Author.Tests.{le-leb, eq-eqb, leb-true, eqb-true, not-false}
 use Rattle.card.specs.Format.{length_field, version, line_count, step_limit}
 use Rattle.card.specs.Verdict.{sound}
 use Rattle.card.proofs.FaultsInOrder.{refuse_false, not_applied}
@@ -16,36 +16,6 @@ use Rattle.sheet_front.specs.Front.{step_count, mark_count, steps_of, sheet_fits
 use Rattle.sheet_front.specs.Inner.Fitting.{Fitting}
 
 module _ (bs sh : List ℕ) where
-  -- which test fails
-  pub too_short : length sh < 5 → false ≡ sheet_fits bs sh
-  unfolding sheet_fits
-  too_short h = simp (lt-leb _ _ h)
-
-  module _ (h₁ : 5 ≤ length sh) where
-    pub other_length : (length_field sh ≡ length sh → ⊥) → false ≡ sheet_fits bs sh
-    unfolding sheet_fits
-    other_length h = simp (le-leb _ _ h₁, ne_eqb _ _ h)
-
-    module _ (h₂ : length_field sh ≡ length sh) where
-      pub other_version : (version sh ≡ 1 → ⊥) → false ≡ sheet_fits bs sh
-      unfolding sheet_fits
-      other_version h = simp (le-leb _ _ h₁, eq-eqb _ _ h₂, ne_eqb _ _ h)
-
-      module _ (h₃ : version sh ≡ 1) where
-        pub other_lines : (mark_count sh ≡ line_count bs → ⊥) → false ≡ sheet_fits bs sh
-        unfolding sheet_fits
-        other_lines h = simp (le-leb _ _ h₁, eq-eqb _ _ h₂, eq-eqb _ _ h₃, ne_eqb _ _ h)
-
-        module _ (h₄ : mark_count sh ≡ line_count bs) where
-          pub other_size : (5 + step_count sh + mark_count sh ≡ length sh → ⊥) → false ≡ sheet_fits bs sh
-          unfolding sheet_fits
-          other_size h = simp (le-leb _ _ h₁, eq-eqb _ _ h₂, eq-eqb _ _ h₃, eq-eqb _ _ h₄, ne_eqb _ _ h)
-
-          module _ (h₅ : 5 + step_count sh + mark_count sh ≡ length sh) where
-            pub too_many : step_limit bs < step_count sh → false ≡ sheet_fits bs sh
-            unfolding sheet_fits
-            too_many h = simp (le-leb _ _ h₁, eq-eqb _ _ h₂, eq-eqb _ _ h₃, eq-eqb _ _ h₄, eq-eqb _ _ h₅, lt-leb _ _ h)
-
   pub all_fit : Fitting bs sh → true ≡ sheet_fits bs sh
   unfolding sheet_fits
   all_fit f =

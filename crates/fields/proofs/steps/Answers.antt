@@ -3,10 +3,10 @@ use Rattle.card.proofs.CardChecked.{front_here}
 use Rattle.fields.proofs.steps.Goals as goal
 
 pub byte-requires : goal.byte-requires
-byte-requires c = omega (arith, front_here c.requires.sound)
+byte-requires c = omega (arith, front_here c.requires.first_sound)
 
 pub byte-requires-2 : goal.byte-requires-2
-byte-requires-2 c = omega (arith, front_here c.requires.sound_2)
+byte-requires-2 c = omega (arith, front_here c.requires.second_sound)
 
 pub overflow_add-sum : goal.overflow_add-sum
 overflow_add-sum c = omega (arith, c.byte.ensures.1, c.byte-2.ensures.1)

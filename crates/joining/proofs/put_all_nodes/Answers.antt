@@ -9,14 +9,14 @@ use Rattle.joined.proofs.WrittenInTurn.{written_behind}
 use Rattle.joining.proofs.put_all_nodes.Goals as goal
 
 pub word-n-requires : goal.word-n-requires
-word-n-requires c = omega (arith, front_here c.requires.sound)
+word-n-requires c = omega (arith, front_here c.requires.first_sound)
 
 pub word-m-requires : goal.word-m-requires
-word-m-requires c = omega (arith, front_here c.requires.sound_2)
+word-m-requires c = omega (arith, front_here c.requires.second_sound)
 
 pub put_nodes-requires-2 : goal.put_nodes-requires-2
 put_nodes-requires-2 c =
-    let n = c.word-n.ensures.0 in record { sound = c.requires.sound_2; n_bound = omega (arith, n, (sound_front c.args.first.now c.requires.sound).few); card_in_bounds = omega (arith, n, c.put_nodes.auto, c.requires.second_in_bounds) }
+    let n = c.word-n.ensures.0 in record { sound = c.requires.second_sound; n_bound = omega (arith, n, (sound_front c.args.first.now c.requires.first_sound).few); room = omega (arith, n, c.put_nodes.auto, c.requires.room) }
 
 pub overflow_mul-n-2 : goal.overflow_mul-n-2
 overflow_mul-n-2 c = omega (arith, c.word-n.ensures.1)
@@ -32,7 +32,7 @@ overflow_add-n-3 c = omega (arith, c.word-n.ensures.1, c.word-m.ensures.1)
 
 pub put_both-requires : goal.put_both-requires
 put_both-requires c =
-    let kept = c.put_nodes.auto in record { sound = c.requires.sound; sound_2 = c.requires.sound_2; at_in_bounds = omega (arith, c.word-n.ensures.0, c.word-m.ensures.0, c.put_nodes-2.auto, kept, c.requires.second_in_bounds) }
+    let kept = c.put_nodes.auto in record { first_sound = c.requires.first_sound; second_sound = c.requires.second_sound; room = omega (arith, c.word-n.ensures.0, c.word-m.ensures.0, c.put_nodes-2.auto, kept, c.requires.room) }
 
 pub shape_of-out : goal.shape_of-out
 shape_of-out c =
@@ -42,7 +42,7 @@ pub returns : goal.returns
 returns c =
     let first = c.args.first.now in
     let second = c.args.second.now in
-    let room = c.requires.second_in_bounds in
+    let room = c.requires.room in
     let n = c.word-n.ensures.0 in
     let m = c.word-m.ensures.0 in
     let l = length_moved_nodes 0 first in

@@ -15,38 +15,38 @@ few c =
       arith,
       c.word.ensures.0,
       c.word-2.ensures.0,
-      (sound_front c.args.first.now c.requires.sound).few,
-      (sound_front c.args.second.now c.requires.sound_2).few,
+      (sound_front c.args.first.now c.requires.first_sound).few,
+      (sound_front c.args.second.now c.requires.second_sound).few,
     )
 
 pub word-requires : goal.word-requires
-word-requires c = omega (arith, front_here c.requires.sound)
+word-requires c = omega (arith, front_here c.requires.first_sound)
 
 pub word-requires-2 : goal.word-requires-2
-word-requires-2 c = omega (arith, front_here c.requires.sound_2)
+word-requires-2 c = omega (arith, front_here c.requires.second_sound)
 
 pub put_word-requires : goal.put_word-requires
 put_word-requires c = record {
   value_bound = omega (
     arith,
     c.joined_length.ensures,
-    sound_front c.args.first.now c.requires.sound,
-    sound_front c.args.second.now c.requires.sound_2,
+    sound_front c.args.first.now c.requires.first_sound,
+    sound_front c.args.second.now c.requires.second_sound,
   );
-  at_in_bounds = omega (arith, c.requires.in_bounds);
+  room = omega (arith, c.requires.front);
 }
 
 pub overflow_add-goal-2 : goal.overflow_add-goal-2
 overflow_add-goal-2 c = omega (arith, few c.before.before.before.before.before.before.before.before.before.before)
 
 pub put_word-requires-2 : goal.put_word-requires-2
-put_word-requires-2 c = record { value_bound = omega (arith, few c.before.before.before.before.before.before.before.before.before.before.before); at_in_bounds = omega (arith, c.put_counts.auto, c.put_word.auto, c.requires.in_bounds) }
+put_word-requires-2 c = record { value_bound = omega (arith, few c.before.before.before.before.before.before.before.before.before.before.before); room = omega (arith, c.put_counts.auto, c.put_word.auto, c.requires.front) }
 
 pub put_word-requires-3 : goal.put_word-requires-3
-put_word-requires-3 c = record { value_bound = omega (arith, few c.before.before.before.before.before.before.before.before.before.before.before.before.before.before.before); at_in_bounds = omega (arith, c.put_word-2.auto, c.put_counts.auto, c.put_word.auto, c.requires.in_bounds) }
+put_word-requires-3 c = record { value_bound = omega (arith, few c.before.before.before.before.before.before.before.before.before.before.before.before.before.before.before); room = omega (arith, c.put_word-2.auto, c.put_counts.auto, c.put_word.auto, c.requires.front) }
 
 pub put_limits-requires : goal.put_limits-requires
-put_limits-requires c = record { sound = c.requires.sound; sound_2 = c.requires.sound_2; in_bounds = omega (arith, c.put_word-3.auto, c.put_word-2.auto, c.put_counts.auto, c.put_word.auto, c.requires.in_bounds) }
+put_limits-requires c = record { first_sound = c.requires.first_sound; second_sound = c.requires.second_sound; front = omega (arith, c.put_word-3.auto, c.put_word-2.auto, c.put_counts.auto, c.put_word.auto, c.requires.front) }
 
 pub shape_of-out : goal.shape_of-out
 shape_of-out c =
@@ -63,6 +63,6 @@ pub returns : goal.returns
 returns c =
     let n = c.word.ensures.0 in
     let m = c.word-2.ensures.0 in
-    front_written c.args.first.now c.args.second.now c.requires.in_bounds
+    front_written c.args.first.now c.args.second.now c.requires.front
     (rw c.joined_length.ensures at c.put_word.ensures) c.put_counts.ensures
     (rw (n, m) at c.put_word-2.ensures) (rw (n, m) at c.put_word-3.ensures) c.put_limits.ensures

@@ -20,22 +20,22 @@ rules_read : (c : lts.After-byte2 tie.the-claims reads.Pre reads.Post tie.handed
 rules_read c = omega (arith, c.byte.ensures.0, c.byte-2.ensures.0)
 
 pub word-requires : goal.word-requires
-word-requires c = omega (arith, front_here c.requires.sound)
+word-requires c = omega (arith, front_here c.requires.first_sound)
 
 pub word-requires-2 : goal.word-requires-2
-word-requires-2 c = omega (arith, front_here c.requires.sound_2)
+word-requires-2 c = omega (arith, front_here c.requires.second_sound)
 
 pub byte-requires : goal.byte-requires
-byte-requires c = omega (arith, front_here c.requires.sound)
+byte-requires c = omega (arith, front_here c.requires.first_sound)
 
 pub byte-requires-2 : goal.byte-requires-2
-byte-requires-2 c = omega (arith, front_here c.requires.sound_2)
+byte-requires-2 c = omega (arith, front_here c.requires.second_sound)
 
 pub put_all_nodes-requires : goal.put_all_nodes-requires
-put_all_nodes-requires c = record { sound = c.requires.sound; sound_2 = c.requires.sound_2; second_in_bounds = omega (arith, c.put_front.auto, c.requires.second_in_bounds) }
+put_all_nodes-requires c = record { first_sound = c.requires.first_sound; second_sound = c.requires.second_sound; room = omega (arith, c.put_front.auto, c.requires.room) }
 
 pub put_all_rules-requires : goal.put_all_rules-requires
-put_all_rules-requires c = record { sound = c.requires.sound; sound_2 = c.requires.sound_2; second_in_bounds = omega (arith, nodes_read c.before.before.before.before.before.before.before.before.before.before, c.put_all_nodes.auto, c.put_front.auto, c.requires.second_in_bounds) }
+put_all_rules-requires c = record { first_sound = c.requires.first_sound; second_sound = c.requires.second_sound; room = omega (arith, nodes_read c.before.before.before.before.before.before.before.before.before.before, c.put_all_nodes.auto, c.put_front.auto, c.requires.room) }
 
 pub overflow_mul-rules : goal.overflow_mul-rules
 overflow_mul-rules c = omega (arith, c.byte.ensures.1, c.byte-2.ensures.1)
@@ -47,7 +47,7 @@ overflow_add-at-2 c =
 pub put_all_lines-requires : goal.put_all_lines-requires
 put_all_lines-requires c =
     let n = nodes_read c.before.before.before.before.before.before.before.before.before.before.before.before.before.before in
-    let p = rules_read c.before.before.before.before.before.before.before.before.before.before.before.before.before.before in record { sound = c.requires.sound; sound_2 = c.requires.sound_2; second_in_bounds = omega (arith, n, p, c.put_all_rules.auto, c.put_all_nodes.auto, c.put_front.auto, c.requires.second_in_bounds) }
+    let p = rules_read c.before.before.before.before.before.before.before.before.before.before.before.before.before.before in record { first_sound = c.requires.first_sound; second_sound = c.requires.second_sound; room = omega (arith, n, p, c.put_all_rules.auto, c.put_all_nodes.auto, c.put_front.auto, c.requires.room) }
 
 pub shape_of-out : goal.shape_of-out
 shape_of-out c =
@@ -55,6 +55,6 @@ shape_of-out c =
 
 pub returns : goal.returns
 returns c =
-    card_written c.args.first.now c.args.second.now c.requires.second_in_bounds c.put_front.ensures
+    card_written c.args.first.now c.args.second.now c.requires.room c.put_front.ensures
     c.put_all_nodes.ensures (rw (nodes_read c.before.before.before.before.before.before.before.before.before.before.before.before.before.before.before.before.before) at c.put_all_rules.ensures)
     (rw (nodes_read c.before.before.before.before.before.before.before.before.before.before.before.before.before.before.before.before.before, rules_read c.before.before.before.before.before.before.before.before.before.before.before.before.before.before.before.before.before) at c.put_all_lines.ensures)

@@ -1,78 +1,51 @@
-use Prim.Native.Nat.{ℕ, ◌≤◌, ◌<◌}
-use native.Mathlib.Omega.{arith}
-use native.Mathlib.Decide.{dec_lt}
-use mathlib.Core.Path.{◌≡◌, sym, subst}
-use Rattle.kinds.specs.declared.Kind.{Kind as Row}
-use Rattle.card.specs.Kinds.{Kind, unknown, kinds, kind_of}
+-- `row` meets its contract: each kind's row stands in the table at the kind's number.
+use Rattle.std.proofs.Common.{refl, ⊎_elim}
+use Rattle.card.specs.Kinds.{kind_of, kinds}
 use Rattle.card.specs.Fault.{given, is_goal, is_clause}
 use Rattle.card.proofs.KindsByRow.{past_last}
 use Rattle.kinds.proofs.row.Goals as goal
 
--- what the contract says, of a row of the table
-abbrev Told : Row → Kind → Type 0
-Told x y = (x.left ≡ y.left) × (x.right ≡ y.right) × (x.goal ≡ given y.goal) × (x.clause ≡ given y.clause)
-
--- from n on and not n
-next : (k n : ℕ) → n ≤ k → (k ≡ n → ⊥) → n < k
-next k n h e = omega arith
-
--- a number in the table, and one that is not
-told : (k n : ℕ) {x : Row} → k ≡ n → Told x (kind_of n) → Told x (kind_of k)
-told k n {x} e p = subst (λ (m : ℕ). Told x (kind_of m)) (sym e) p
-
-not_told : (k : ℕ) (x : Row) → (1 ≤ k → 10 < k) → Told x unknown → Told x (kind_of k)
-unfolding kind_of kinds
-not_told k x n p = by_size (dec_lt 0 k)
-  where
-    by_size : Dec (0 < k) → Told x (kind_of k)
-    by_size (yes h) = subst (Told x) (sym (past_last k (n h))) p
-    by_size (no h) = told k 0 (omega arith) p
-
-pub returns-in-1 : goal.returns-in-1
+pub returns-in-Atom : goal.returns-in-Atom
 unfolding kind_of kinds is_goal is_clause given
-returns-in-1 c = told c.args.k 1 (omega arith) c.new.ensures
+returns-in-Atom c = rw c.in-Atom.ensures (refl, refl, refl, refl)
 
-pub returns-in-2 : goal.returns-in-2
+pub returns-in-Top : goal.returns-in-Top
 unfolding kind_of kinds is_goal is_clause given
-returns-in-2 c = told c.args.k 2 (omega arith) c.new-in-2.ensures
+returns-in-Top c = rw c.in-Top.ensures (refl, refl, refl, refl)
 
-pub returns-in-3 : goal.returns-in-3
+pub returns-in-One : goal.returns-in-One
 unfolding kind_of kinds is_goal is_clause given
-returns-in-3 c = told c.args.k 3 (omega arith) c.new-in-3.ensures
+returns-in-One c = rw c.in-One.ensures (refl, refl, refl, refl)
 
-pub returns-in-4 : goal.returns-in-4
+pub returns-in-Tensor : goal.returns-in-Tensor
 unfolding kind_of kinds is_goal is_clause given
-returns-in-4 c = told c.args.k 4 (omega arith) c.new-in-4.ensures
+returns-in-Tensor c = rw c.in-Tensor.ensures (refl, refl, refl, refl)
 
-pub returns-in-5 : goal.returns-in-5
+pub returns-in-With : goal.returns-in-With
 unfolding kind_of kinds is_goal is_clause given
-returns-in-5 c = told c.args.k 5 (omega arith) c.new-in-5.ensures
+returns-in-With c = rw c.in-With.ensures (refl, refl, refl, refl)
 
-pub returns-in-6 : goal.returns-in-6
+pub returns-in-Lend : goal.returns-in-Lend
 unfolding kind_of kinds is_goal is_clause given
-returns-in-6 c = told c.args.k 6 (omega arith) c.new-in-6.ensures
+returns-in-Lend c = rw c.in-Lend.ensures (refl, refl, refl, refl)
 
-pub returns-in-7 : goal.returns-in-7
+pub returns-in-Recipe : goal.returns-in-Recipe
 unfolding kind_of kinds is_goal is_clause given
-returns-in-7 c = told c.args.k 7 (omega arith) c.new-in-7.ensures
+returns-in-Recipe c = rw c.in-Recipe.ensures (refl, refl, refl, refl)
 
-pub returns-in-8 : goal.returns-in-8
+pub returns-in-Oplus : goal.returns-in-Oplus
 unfolding kind_of kinds is_goal is_clause given
-returns-in-8 c = told c.args.k 8 (omega arith) c.new-in-8.ensures
+returns-in-Oplus c = rw c.in-Oplus.ensures (refl, refl, refl, refl)
 
-pub returns-in-9 : goal.returns-in-9
+pub returns-in-Zero : goal.returns-in-Zero
 unfolding kind_of kinds is_goal is_clause given
-returns-in-9 c = told c.args.k 9 (omega arith) c.new-in-9.ensures
+returns-in-Zero c = rw c.in-Zero.ensures (refl, refl, refl, refl)
 
-pub returns-in-10 : goal.returns-in-10
+pub returns-in-Menu : goal.returns-in-Menu
 unfolding kind_of kinds is_goal is_clause given
-returns-in-10 c = told c.args.k 10 (omega arith) c.new-in-10.ensures
+returns-in-Menu c = rw c.in-Menu.ensures (refl, refl, refl, refl)
 
-pub returns-in_default : goal.returns-in_default
+pub returns-in-Unknown : goal.returns-in-Unknown
 unfolding kind_of kinds is_goal is_clause given
-returns-in_default c =
-    let none = c.in_default.in_default-own.rest in
-    let k = c.args.k in
-    not_told k _
-    (λ h. next k 10 (next k 9 (next k 8 (next k 7 (next k 6 (next k 5 (next k 4 (next k 3 (next k 2 (next k 1 h none.0.0.0.0.0.0.0.0.0.1) none.0.0.0.0.0.0.0.0.1) none.0.0.0.0.0.0.0.1) none.0.0.0.0.0.0.1) none.0.0.0.0.0.1) none.0.0.0.0.1) none.0.0.0.1) none.0.0.1) none.0.1) none.1)
-    c.new-in_default.ensures
+returns-in-Unknown c =
+    ⊎_elim (λ e. rw e (refl, refl, refl, refl)) (λ h. rw (past_last c.args.k h) (refl, refl, refl, refl)) c.in-Unknown.ensures

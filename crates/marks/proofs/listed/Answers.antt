@@ -1,35 +1,19 @@
--- The set has the lines among the first steps.
-use Prim.Native.Nat.{◌+◌}
-use native.Mathlib.Numerals.{add-one}
-use native.Mathlib.Omega.{arith}
-use mathlib.Core.Path.{◌≡◌}
-use mathlib.Core.List.{[], ◌∷◌, ◌++◌}
-use lib.ListN.{take}
-use lib.Seq.{take-suc}
+-- The set has the lines among the steps so far.
+use Rattle.std.proofs.Common.{◌≡◌, ◌+◌, [], ◌∷◌, ◌++◌, take, add-one, arith}
+use Rattle.std.proofs.Math.Seq.{take-suc}
+use Rattle.std.proofs.lemmas.List.{take_all}
 use Rattle.marks.proofs.LinesGathered.{gathers_none}
 use Rattle.marks.proofs.listed.Goals as goal
 
-pub loop-at-init : goal.loop-at-init
-loop-at-init c = (rw c.empty-set.ensures (gathers_none _), omega arith)
+pub loop-step-init : goal.loop-step-init
+loop-step-init c = rw c.empty-used.ensures (gathers_none _)
 
-pub byte-requires : goal.byte-requires
-byte-requires c = omega arith
-
-pub overflow_add-at : goal.overflow_add-at
-overflow_add-at c = omega arith
-
-pub loop-at-smaller : goal.loop-at-smaller
-loop-at-smaller c = omega arith
-
-pub loop-at-preserved : goal.loop-at-preserved
-loop-at-preserved c =
-    let steps = c.args.steps.now in
-    let step = c.byte in
-    let more : take (c.loop-at.at + 1) steps ≡ take c.loop-at.at steps ++ (step.result ∷ []) =
-    rw (add-one, step.ensures.0) (take-suc steps c.loop-at.at 0 (omega arith)) in
-    (rw more (c.with_line-set.ensures _ c.loop-at.invariant.0), omega arith)
+pub loop-step-preserved : goal.loop-step-preserved
+loop-step-preserved c =
+    let list = c.args.list.now in
+    let more : take (c.loop-step.step-index + 1) list ≡ take c.loop-step.step-index list ++ (c.from.result ∷ []) =
+    rw (add-one, c.from.ensures) (take-suc list c.loop-step.step-index 0 (omega arith)) in
+    rw more (c.with_line-used.ensures _ c.loop-step.invariant)
 
 pub returns : goal.returns
-returns c =
-    let e : c.loop-at.at ≡ c.args.k = omega arith in
-    rw e at c.loop-at.invariant.0
+returns c = rw (take_all c.loop-step.step-index c.args.list.now (omega arith)) at c.loop-step.invariant

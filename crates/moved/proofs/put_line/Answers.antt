@@ -8,4 +8,4 @@ pub returns : goal.returns
 returns c =
     let s = c.args in
     written_byte c.put_word.ensures (s.at + 2) s.must (omega (arith, length_word s.node))
-    (omega (arith, c.requires.at_in_bounds))
+    (omega (arith, c.requires.room))

@@ -57,7 +57,7 @@ put_node-requires c =
           (rw c.left.ensures.0 at c.left.ensures.1) (left_below bs s.i built));
       right_bound = rw (right_is c.before.before) (shifted_low s.n s.i (right_at bs s.i) k.right c.requires.n_bound below
           (rw c.right.ensures.0 at c.right.ensures.1) (right_below bs s.i built));
-      at_in_bounds = c.requires.at_in_bounds;
+      room = c.requires.room;
     }
 
 pub returns : goal.returns

@@ -15,7 +15,7 @@ use Rattle.moved.proofs.put_nodes.Goals as goal
 
 -- the nodes so far have a place, and keep the buffer's length
 room : (c : lts.At-loop tie.the-claims reads.Pre reads.Post goal.the-invariant-loop-i goal.the-decreases-loop-i tie.handed_clauses) → c.args.at + 5 * c.loop-i.i ≤ length c.args.out.now
-room c = omega (arith, c.loop-i.invariant.0, c.word-m.ensures.0, c.requires.card_in_bounds)
+room c = omega (arith, c.loop-i.invariant.0, c.word-m.ensures.0, c.requires.room)
 
 long : (c : lts.At-loop tie.the-claims reads.Pre reads.Post goal.the-invariant-loop-i goal.the-decreases-loop-i tie.handed_clauses) → length c.loop-i.out ≡ length c.args.out.now
 long c =
@@ -42,7 +42,7 @@ overflow_add-at c = let h = room c.before.before.before in search rules
 
 pub put_moved-requires : goal.put_moved-requires
 put_moved-requires c =
-    let here = below c.before.before in record { sound = c.requires.sound; n_bound = c.requires.n_bound; i_bound = here; at_in_bounds = omega (arith, here, long c.before.before.before, c.requires.card_in_bounds) }
+    let here = below c.before.before in record { sound = c.requires.sound; n_bound = c.requires.n_bound; i_bound = here; room = omega (arith, here, long c.before.before.before, c.requires.room) }
 
 pub overflow_add-i : goal.overflow_add-i
 overflow_add-i c =

@@ -16,7 +16,7 @@ use Rattle.moved.proofs.put_rules.Goals as goal
 
 -- the rules so far have a place, and keep the buffer's length
 room : (c : lts.At-loop tie.the-claims reads.Pre reads.Post goal.the-invariant-loop-i goal.the-decreases-loop-i tie.handed_clauses) → c.args.at + 2 * c.loop-i.i ≤ length c.args.out.now
-room c = omega (arith, c.loop-i.invariant.0, c.byte-m.ensures.0, c.requires.card_in_bounds)
+room c = omega (arith, c.loop-i.invariant.0, c.byte-m.ensures.0, c.requires.room)
 
 long : (c : lts.At-loop tie.the-claims reads.Pre reads.Post goal.the-invariant-loop-i goal.the-decreases-loop-i tie.handed_clauses) → length c.loop-i.out ≡ length c.args.out.now
 long c =
@@ -51,7 +51,7 @@ pub put_word-requires : goal.put_word-requires
 put_word-requires c =
     let bs = c.args.card.now in
     let here = below c.before.before.before in
-    let lower = clause_lower bs _ _ (sound_rule_node c.requires.sound c.loop-i.i here) in record { value_bound = omega (arith, lower, c.rule_node.ensures.0, (sound_front bs c.requires.sound).few, c.requires.n_bound); at_in_bounds = omega (arith, here, long c.before.before.before.before, c.requires.card_in_bounds) }
+    let lower = clause_lower bs _ _ (sound_rule_node c.requires.sound c.loop-i.i here) in record { value_bound = omega (arith, lower, c.rule_node.ensures.0, (sound_front bs c.requires.sound).few, c.requires.n_bound); room = omega (arith, here, long c.before.before.before.before, c.requires.room) }
 
 pub overflow_add-i : goal.overflow_add-i
 overflow_add-i c =

@@ -1,43 +1,23 @@
-use Prim.Native.Nat.{ℕ, ◌<◌}
-use native.Mathlib.Omega.{arith}
-use mathlib.Core.Path.{◌≡◌, refl, sym, ap, ◌∙◌, subst}
-use mathlib.Core.List.{List}
+-- `part_height` meets its contract: a part's height stands at the part's number, and only a part has one.
+use Rattle.std.proofs.Common.{◌≡◌, ◌<◌, ℕ, ◌⊎◌, refl, ⊎_elim}
 use Rattle.card.specs.declared.kinds.Field.{Field}
+use Rattle.card.specs.declared.kinds.Field.TheVariants.{GoalPart, ClausePart}
 use Rattle.card.specs.Fault.{part_height}
 use Rattle.card.specs.Inner.Checks.{PartBelow}
 use Rattle.nodes.proofs.part_height.Goals as goal
 
--- the height that a field counts with, and the bound of its part, once the field is known
-at : (t : List ℕ) (v : ℕ) {f g : Field} {r : ℕ} → f ≡ g → (r ≡ part_height t g v) × (r < 256) → (r ≡ part_height t f v) × (r < 256)
-at t v e h = (h.0 ∙ ap (λ (x : Field). part_height t x v) (sym e), h.1)
-
-low : (v : ℕ) {f g : Field} → f ≡ g → PartBelow 512 f v → PartBelow 512 g v
-low v e h = subst (λ (x : Field). PartBelow 512 x v) e h
-
-pub byte-requires : goal.byte-requires
+-- a part in a field is below the bound
+below : (n v : ℕ) {f : Field} → (f ≡ GoalPart) ⊎ (f ≡ ClausePart) → PartBelow n f v → v < n
 unfolding PartBelow
-byte-requires c = let p = low _ c.in-GoalPart.is c.requires.part_below in omega arith
+below n v e p = ⊎_elim (λ g. rw g at p) (λ g. rw g at p) e
 
-pub byte-requires-in-ClausePart : goal.byte-requires-in-ClausePart
-unfolding PartBelow
-byte-requires-in-ClausePart c = let p = low _ c.in-ClausePart.is c.requires.part_below in omega arith
+pub bounds-heights-value : goal.bounds-heights-value
+bounds-heights-value c = below _ _ c.in-GoalPart.is c.requires
 
 pub returns-in-GoalPart : goal.returns-in-GoalPart
 unfolding part_height
-returns-in-GoalPart c = at _ _ c.in-GoalPart.is c.byte.ensures
-
-pub returns-in-ClausePart : goal.returns-in-ClausePart
-unfolding part_height
-returns-in-ClausePart c = at _ _ c.in-ClausePart.is c.byte-in-ClausePart.ensures
+returns-in-GoalPart c = ⊎_elim (λ e. rw e refl) (λ e. rw e refl) c.in-GoalPart.is
 
 pub returns-in-Unused : goal.returns-in-Unused
 unfolding part_height
-returns-in-Unused c = at _ _ c.in-Unused.is (refl, omega arith)
-
-pub returns-in-Name : goal.returns-in-Name
-unfolding part_height
-returns-in-Name c = at _ _ c.in-Name.is (refl, omega arith)
-
-pub returns-in-Unknown : goal.returns-in-Unknown
-unfolding part_height
-returns-in-Unknown c = at _ _ c.in-Unknown.is (refl, omega arith)
+returns-in-Unused c = ⊎_elim (λ e. rw e refl) (⊎_elim (λ e. rw e refl) (λ e. rw e refl)) c.in-Unused.is

@@ -1,11 +1,8 @@
-use native.Mathlib.Omega.{arith}
-use Rattle.planning.specs.Inner.Room.{RoomSays}
+-- `room_for` meets its contract: 10 is told of a buffer shorter than 5 + s + T.
+use Rattle.card.specs.Verdict.{where_of}
+use Rattle.planning.specs.Inner.Room.{room_fault}
 use Rattle.planning.proofs.room_for.Goals as goal
 
-pub returns-then-size-s : goal.returns-then-size-s
-unfolding RoomSays
-returns-then-size-s c = omega arith
-
 pub returns : goal.returns
-unfolding RoomSays
-returns c = omega arith
+unfolding room_fault where_of
+returns c = rw (c.byte-s.ensures.0, c.byte-t.ensures.0) at c.refuse.ensures
