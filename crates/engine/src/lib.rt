@@ -15,7 +15,7 @@ ghost use Rattle.engine.specs.Inner.Engine.{top_node, OneOfNext, PartReady, Choi
 use branch::{Branch, Floor, Outcome, Way};
 use card::format::{byte, left};
 use card::kinds::{Kind, kind_of};
-use choice::{Sought, first_at, given_up, keeps, seek, unfloored};
+use choice::{first_at, given_up, keeps, seek, unfloored};
 use moves::{inner, left_alone, raise, right_alone, shut};
 use segment::tasks::{nest, node, push, put, unwind};
 
@@ -150,7 +150,7 @@ fn others(
     let mut from = first;
     loop {
         let next = seek(card, waits, heads, b, name, from);
-        let Sought::At(e) = next else {
+        let Some(e) = next else {
             let tired = prune::dead_end(
                 card,
                 codes,

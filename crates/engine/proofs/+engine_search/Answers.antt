@@ -60,13 +60,13 @@ pub behind-node-goal-requires : goal.behind-node-goal-requires
 behind-node-goal-requires t c =
     let rd = c.requires.ready in
     let q = c.requires.part_next in
-    (top_within c.args.b rd.sound q.laid q.some, q.laid.room)
+    top_within c.args.b rd.sound q.laid q.some
 
 pub behind-nest-n-requires : goal.behind-nest-n-requires
 behind-nest-n-requires t c =
     let rd = c.requires.ready in
     let q = c.requires.part_next in
-    (top_within c.args.b rd.sound q.laid q.some, q.laid.room)
+    top_within c.args.b rd.sound q.laid q.some
 
 pub behind-last-requires : goal.behind-last-requires
 behind-last-requires t c =
@@ -231,7 +231,7 @@ both_ways-loop-first-init t c =
 pub both_ways-left_alone-requires : goal.both_ways-left_alone-requires
 both_ways-left_alone-requires t c =
     let rd = c.requires.ready in
-    let gr = c.requires.goal_ready.0.0 in record { sound = rd.sound; goal_bound = (goal_low rd.sound gr, omega (arith, gr.kind)); nest_bound = (gr.nested, refl) }
+    let gr = c.requires.goal_ready.0.0 in record { sound = rd.sound; goal_bound = (goal_low rd.sound gr, omega (arith, gr.kind)); nest_bound = gr.nested }
 
 pub both_ways-solve-first-requires : goal.both_ways-solve-first-requires
 both_ways-solve-first-requires t c =
@@ -260,7 +260,7 @@ both_ways-returns-in_default t c =
 pub both_ways-right_alone-requires : goal.both_ways-right_alone-requires
 both_ways-right_alone-requires t c =
     let rd = c.requires.ready in
-    let gr = c.requires.goal_ready.0.0 in record { sound = rd.sound; goal_bound = (goal_low rd.sound gr, omega (arith, gr.kind)); nest_bound = (gr.nested, refl) }
+    let gr = c.requires.goal_ready.0.0 in record { sound = rd.sound; goal_bound = (goal_low rd.sound gr, omega (arith, gr.kind)); nest_bound = gr.nested }
 
 pub both_ways-past_with-requires : goal.both_ways-past_with-requires
 both_ways-past_with-requires t c =
@@ -467,7 +467,7 @@ choose-returns t c =
 pub enter-push-p-requires : goal.enter-push-p-requires
 enter-push-p-requires t c =
     let rd = c.requires.ready in
-    let q = rw c.if-meets.true at c.requires.part_ready in let room = clause_room rd q in record { sound = rd.sound; clause_value = room.0; nest_bound = room.1 }
+    let q = rw c.if-meets.true at c.requires.part_ready in let room = clause_room rd q in record { sound = rd.sound; a_clause = room.0; nest_bound = room.1.0; room = room.1.1.0 }
 
 pub enter-sized-c-requires : goal.enter-sized-c-requires
 enter-sized-c-requires t c =
@@ -476,7 +476,7 @@ enter-sized-c-requires t c =
 pub enter-put-requires : goal.enter-put-requires
 enter-put-requires t c =
     let rd = c.requires.ready in
-    let q = rw c.if-meets.false at c.requires.part_ready in record { i_bound = goal_room rd q; agenda_len = q.laid.room }
+    let q = rw c.if-meets.false at c.requires.part_ready in goal_room rd q
 
 pub enter-longer-requires : goal.enter-longer-requires
 enter-longer-requires t c =
@@ -634,13 +634,13 @@ pub one_of-node-goal-requires : goal.one_of-node-goal-requires
 one_of-node-goal-requires t c =
     let rd = c.requires.ready in
     let q = c.requires.one_of_next in
-    (top_within c.args.b rd.sound q.laid q.some, q.laid.room)
+    top_within c.args.b rd.sound q.laid q.some
 
 pub one_of-nest-n-requires : goal.one_of-nest-n-requires
 one_of-nest-n-requires t c =
     let rd = c.requires.ready in
     let q = c.requires.one_of_next in
-    (top_within c.args.b rd.sound q.laid q.some, q.laid.room)
+    top_within c.args.b rd.sound q.laid q.some
 
 pub one_of-dropped-requires : goal.one_of-dropped-requires
 one_of-dropped-requires t c =
@@ -710,8 +710,8 @@ others-use_clause-r-requires t c =
     let turn = c.loop-e.invariant.0 in
     let kit = c.loop-e.invariant.1.0 in
     let name = name_of step.next _ _ c.left-name.ensures.0 c.node.ensures in
-    let seen = seek_at step _ _ _ _ name _ c.seek-next.ensures _ c.in-At.is in
-    let can = round_use step _ _ _ _ name _ c.seek-next.ensures _ c.in-At.is in
+    let seen = seek_at step _ _ _ _ name _ c.seek-next.ensures _ c.in-Some.is in
+    let can = round_use step _ _ _ _ name _ c.seek-next.ensures _ c.in-Some.is in
     (omega arith, (round_call rd step turn _ c.past.ensures, ((can, name), kit)))
 
 pub others-returns-in-Solved : goal.others-returns-in-Solved
@@ -723,7 +723,7 @@ others-returns-in-Solved t c =
     let turn = c.loop-e.invariant.0 in
     let large = c.loop-e.invariant.1.1 in
     let name = name_of step.next _ _ c.left-name.ensures.0 c.node.ensures in
-    let seen = seek_at step _ _ _ _ name _ c.seek-next.ensures _ c.in-At.is in
+    let seen = seek_at step _ _ _ _ name _ c.seek-next.ensures _ c.in-Some.is in
     let X = solved_using c.use_clause-r.ensures.using (solved_said c.in-Solved.is _) in record { solving = round_found rd step least turn seen _ _ c.keeps-same.ensures c.past.ensures _ X _ c.follow.ensures; stays = stays_from large c.use_clause-r.ensures.stays _ (weary_solved _) }
 
 pub others-overflow_add-from : goal.others-overflow_add-from
@@ -732,15 +732,15 @@ others-overflow_add-from t c =
     let step = c.requires.name_open.0 in
     let turn = c.loop-e.invariant.0 in
     let name = name_of step.next _ _ c.left-name.ensures.0 c.node.ensures in
-    let can = round_use step _ _ _ _ name _ c.seek-next.ensures _ c.in-At.is in
+    let can = round_use step _ _ _ _ name _ c.seek-next.ensures _ c.in-Some.is in
     let low = entry_byte (round_ready rd step turn) step.next can in search rules
 
 pub others-loop-e-smaller : goal.others-loop-e-smaller
 others-loop-e-smaller t c =
     let step = c.requires.name_open.0 in
     let name = name_of step.next _ _ c.left-name.ensures.0 c.node.ensures in
-    let can = round_use step _ _ _ _ name _ c.seek-next.ensures _ c.in-At.is in
-    let on = round_onward step _ _ _ _ name _ c.seek-next.ensures _ c.in-At.is in
+    let can = round_use step _ _ _ _ name _ c.seek-next.ensures _ c.in-Some.is in
+    let on = round_onward step _ _ _ _ name _ c.seek-next.ensures _ c.in-Some.is in
     omega (arith, can.inside)
 
 pub others-loop-e-preserved : goal.others-loop-e-preserved
@@ -752,7 +752,7 @@ others-loop-e-preserved t c =
     let turn = c.loop-e.invariant.0 in
     let large = c.loop-e.invariant.1.1 in
     let name = name_of step.next _ _ c.left-name.ensures.0 c.node.ensures in
-    let seen = seek_at step _ _ _ _ name _ c.seek-next.ensures _ c.in-At.is in
+    let seen = seek_at step _ _ _ _ name _ c.seek-next.ensures _ c.in-Some.is in
     let X = stuck_using c.use_clause-r.ensures.using (stuck_said c.in-Stuck.is _) in
     let next = round_next rd step least turn seen _ _ c.keeps-same.ensures c.past.ensures X _ refl in
     let stays = c.use_clause-r.ensures.stays in
@@ -768,7 +768,7 @@ others-returns-in-Tired t c =
     let turn = c.loop-e.invariant.0 in
     let large = c.loop-e.invariant.1.1 in
     let name = name_of step.next _ _ c.left-name.ensures.0 c.node.ensures in
-    let seen = seek_at step _ _ _ _ name _ c.seek-next.ensures _ c.in-At.is in record { solving = round_tired rd step least turn seen _ _ c.keeps-same.ensures c.past.ensures c.use_clause-r.ensures.using; stays = stays_tired c.in-Tired.is large c.use_clause-r.ensures.stays }
+    let seen = seek_at step _ _ _ _ name _ c.seek-next.ensures _ c.in-Some.is in record { solving = round_tired rd step least turn seen _ _ c.keeps-same.ensures c.past.ensures c.use_clause-r.ensures.using; stays = stays_tired c.in-Tired.is large c.use_clause-r.ensures.stays }
 
 pub side-returns-then-choice-first : goal.side-returns-then-choice-first
 unfolding answer_in
@@ -865,7 +865,7 @@ solve-node-requires t c =
     let rd = c.requires.ready in
     let u = c.unwind-c.ensures.unwound in
     let some = c.if-c-eq0.false in
-    (top_within c.unwind-c.result rd.sound u.laid (omega arith), u.laid.room)
+    top_within c.unwind-c.result rd.sound u.laid (omega arith)
 
 pub use_clause-overflow_cast-tape : goal.use_clause-overflow_cast-tape
 use_clause-overflow_cast-tape t c =
@@ -911,7 +911,7 @@ use_clause-inner-n-requires t c =
 pub use_clause-push-p-requires : goal.use_clause-push-p-requires
 use_clause-push-p-requires t c =
     let rd = c.requires.ready in
-    let can = c.requires.can_use.0 in let room = use_room rd can.step.next can _ _ _ _ _ _ refl c.inner-n.ensures c.requires.can_use.1 refl refl refl in record { sound = rd.sound; clause_value = room.0; nest_bound = room.1 }
+    let can = c.requires.can_use.0 in let room = use_room rd can.step.next can _ _ _ _ _ _ refl c.inner-n.ensures c.requires.can_use.1 refl refl refl in record { sound = rd.sound; a_clause = room.0; nest_bound = room.1.0; room = room.1.1.0 }
 
 pub use_clause-byte-requires : goal.use_clause-byte-requires
 use_clause-byte-requires t c =
