@@ -18,7 +18,7 @@ use Rattle.card.proofs.SoundNodes.{goal_lower, goal_kind, clause_lower, clause_k
 use Rattle.scope.proofs.TablesAreScopes.{kept_self}
 use Rattle.entries.specs.Inner.Entries.{scope_in}
 use Rattle.entries.specs.Inner.Twins.{eligible}
-use Rattle.agenda.specs.Inner.Agenda.{Agenda, task, Alike, pushed, core}
+use Rattle.agenda.specs.Inner.Agenda.{Agenda, task, Alike, pushed}
 use Rattle.agenda.specs.Inner.Sought.{None}
 use Rattle.agenda.proofs.AgendasRead.{reads_core, core_usable, reads_head, reads_0, reads_usable}
 use Rattle.agenda.proofs.SearchTells.{alike_none, alike_least}

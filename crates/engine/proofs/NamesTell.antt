@@ -12,7 +12,7 @@ use lib.Dec.{leb, ltb, eqb}
 use borrow.Author.Tests.{lt-ltb, le-ltb, eq-eqb, ne_eqb, eqb-true, ltb-true, ltb-false}
 use Rattle.calculus.specs.Formula.{Clause, Fits, atomᴳ, residual, usable}
 use Rattle.calculus.specs.Items.{Items, ◌∪◌, ◌∖◌, only, Within}
-use Rattle.calculus.specs.Derivation.{Scope, size, clause_at, linear_at, residual_at}
+use Rattle.calculus.specs.Derivation.{Scope, clause_at, linear_at, residual_at}
 use Rattle.calculus.proofs.SetLaws.{∪_cases, ∪_joins, join_left, join_right, ∖_within}
 use Rattle.card.specs.Format.{rule_count, line_count, node_count, left_at, byte_at}
 use Rattle.card.specs.Fault.{Sound, clause_part, height_at}

@@ -7,28 +7,26 @@ use mathlib.Core.Bool.{◌&&◌}
 use lib.ListN.{replicate}
 use Rattle.calculus.specs.Formula.{Goal}
 use Rattle.card.specs.Format.{kind_at}
-use Rattle.card.proofs.CardChecked.{sound_front}
-use Rattle.card.proofs.SoundNodes.{clause_lower, node_here}
+use Rattle.card.proofs.SoundNodes.{node_here}
 use Rattle.agenda.specs.Inner.Agenda.{task}
 use Rattle.branch.specs.declared.Branch.{Branch}
-use Rattle.branch.specs.Inner.Values.{Solved, answer_in}
+use Rattle.branch.specs.Inner.Values.{answer_in}
 use Rattle.branch.specs.declared.Floor.{Floor}
 use mathlib.Core.List.{List}
 use Rattle.inside.specs.Inner.Inside.{InsideOpened, lends}
 use Rattle.engine.specs.Inner.Engine.{Equipped, Ready, GoalReady, Fresh}
-use Rattle.engine.proofs.NumbersFall.{alone}
 use Rattle.engine.proofs.CountIsScan.{count_is_scan}
 use Rattle.engine.proofs.AgendasUnwind.{top_within, top_here, name_next, part_next, open_kind, unwound_number, unwound_ready}
 use Rattle.engine.proofs.AgendasUnwind.{unwound_searched, closed_searched}
 use Rattle.engine.proofs.WaysSaid.{solved_said, stuck_said, unsolved, equipped_on, equipped_at, equipped_lent}
 use Rattle.engine.proofs.WaysSaid.{large_self, large_on, stays_stuck, stays_from, stays_back, stays_dead, weary_solved, weary_stuck}
 use Rattle.engine.proofs.WaysSaid.{using_count, tensor_count, with_count, awake_stays, stays_tired}
-use Rattle.engine.proofs.NamesTell.{name_of, card_front, name_open, testing, name_here, top_inside, unnested}
-use Rattle.engine.proofs.NamesTell.{roomless, entry_byte, at_inside, entry_clause}
+use Rattle.engine.proofs.NamesTell.{name_of, name_open, testing, name_here, top_inside, unnested}
+use Rattle.engine.proofs.NamesTell.{roomless, entry_byte}
 use Rattle.engine.proofs.NamesTell.{round_start, round_kept, round_ready, round_ends, seek_at, round_onward, round_use}
 use Rattle.engine.proofs.NamesTell.{round_call, round_next, round_found, round_tired, asks, doomed_told, dead_barren, dead_told, solved_using, stuck_using}
-use Rattle.engine.proofs.TurnsRaise.{turns_start, ready_lead, ready_own, fresh_lead, fresh_own}
-use Rattle.engine.proofs.PartsTell.{goal_next, agenda_same, agenda_last, alone_next, searched_as, searched_at, goal_own, goal_lead}
+use Rattle.engine.proofs.TurnsRaise.{turns_start, ready_lead, fresh_lead}
+use Rattle.engine.proofs.PartsTell.{goal_next, agenda_same, agenda_last, alone_next, searched_as, searched_at, goal_lead}
 use Rattle.engine.proofs.PartsTell.{own_unsolved, own_solved, goal_low, part_kind, left_asks, either_goal, one_task}
 use Rattle.engine.proofs.PartsTell.{searched_past, lent_count, opening, opened_asks, opened_unsolved, opened_solved}
 use Rattle.engine.proofs.BehindTells.{behind_unsolved, behind_nodes_kept, behind_rest_asks, rest_told, behind_solved}
@@ -37,12 +35,12 @@ use Rattle.engine.proofs.BehindTells.{nodes_on as behind-nodes-on}
 use Rattle.engine.proofs.EitherTells.{either_unsolved, either_nodes_kept, with_len, either_rest_asks, either_solved}
 use Rattle.engine.proofs.EitherTells.{either_tired, either_nosteps, either_raise_asks, either_falls, either_again}
 use Rattle.engine.proofs.EitherTells.{nodes_on as either-nodes-on}
-use mathlib.Core.Logic.{inl, inr}
+use mathlib.Core.Logic.{inr}
 use Rattle.engine.proofs.AgendasUnwind.{one_of_next}
 use Rattle.engine.proofs.WaysSaid.{unstuck}
 use Rattle.engine.proofs.EntersTell.{goal_room, goal_call, goal_told, clause_room, core_here, core_kinds, menu_call, menu_told, head_call, head_told}
 use Rattle.engine.proofs.EntersTell.{never_told, one_of_kinds, one_of_call, one_of_told}
-use Rattle.engine.proofs.ChoicesTell.{choice_here, side_clause, choice_room, left_told, right_told, choice_byte, choice_tape}
+use Rattle.engine.proofs.ChoicesTell.{choice_here, side_clause, choice_room, left_told, right_told}
 use Rattle.engine.proofs.ChoicesTell.{side_under, side_shut, side_call, side_unsolved, side_solved}
 use Rattle.engine.proofs.NamesTell.{ready_kept}
 use Rattle.engine.proofs.UsesTell.{use_room, use_core, use_kinds, use_menu_call, use_menu_told, use_head_call, use_head_told}
@@ -50,11 +48,6 @@ use Prim.Native.Nat.{ℕ}
 use Rattle.engine.proofs.WaysSaid.{and_then, and_else}
 use Rattle.engine.proofs.+engine_search.Goals as goal
 use Rattle.engine.proofs.+engine_search.Goals.{behind-then-w, behind-else-w, both_ways-then-w, both_ways-else-w}
-
-pub behind-overflow_sub-top : goal.behind-overflow_sub-top
-behind-overflow_sub-top t c =
-    let q = c.requires.part_next in
-    omega (arith, q.some)
 
 pub behind-node-goal-requires : goal.behind-node-goal-requires
 behind-node-goal-requires t c =
@@ -81,16 +74,16 @@ behind-last-requires t c =
 
 pub behind-returns-then-top-eq0 : goal.behind-returns-then-top-eq0
 behind-returns-then-top-eq0 t c =
-    let q = c.requires.part_next in record { solving = searched_as (agenda_last q c.node-goal.ensures c.nest-n.ensures c.if-top-eq0.true) c.last.ensures.alone; stays = c.last.ensures.stays }
+    let q = c.requires.part_next in record {
+      solving = searched_as (agenda_last q c.node-goal.ensures c.nest-n.ensures c.if-top-eq0.true) c.last.ensures.alone;
+      stays = c.last.ensures.stays;
+    }
 
 pub behind-loop-r-init : goal.behind-loop-r-init
 behind-loop-r-init t c =
     let rd = c.requires.ready in
     let eq = c.requires.equipped in
     (turns_start _ _ _ rd, (eq, large_self))
-
-pub behind-lead-requires : goal.behind-lead-requires
-behind-lead-requires t c = c.loop-r.invariant.0.ready.counted
 
 pub behind-part-r-requires : goal.behind-part-r-requires
 behind-part-r-requires t c =
@@ -112,11 +105,10 @@ behind-returns-in_default t c =
     let turn = c.loop-r.invariant.0 in
     let large = c.loop-r.invariant.1.1 in
     let same_agenda = agenda_same q c.node-goal.ensures c.nest-n.ensures in
-    let R = searched_at c.lead.ensures.value c.part-r.ensures.alone in record { solving = searched_as (same_agenda) (behind_unsolved _ _ turn _ R (unsolved _ c.in_default.not-Solved _)); stays = stays_back large c.part-r.ensures.stays }
-
-pub behind-past_tensor-requires : goal.behind-past_tensor-requires
-behind-past_tensor-requires t c =
-    let q = c.requires.part_next in record { not_empty = q.some; counted = c.requires.ready.counted }
+    let R = searched_at c.lead.ensures.value c.part-r.ensures.alone in record {
+      solving = searched_as (same_agenda) (behind_unsolved _ _ turn _ R (unsolved _ c.in_default.not-Solved _));
+      stays = stays_back large c.part-r.ensures.stays;
+    }
 
 pub behind-solve-s-requires : goal.behind-solve-s-requires
 behind-solve-s-requires t c =
@@ -159,7 +151,10 @@ behind-returns-in-Solved-s t c =
       | behind-then-w w ↦ and_then _ w.if-w.true w.follow-is
       | behind-else-w w ↦ and_else _ w.if-w.false w.follow-is
     ] in
-    record { solving = rw (c.follow.ensures, kept) (searched_as (same_agenda) done); stays = stays_from large₂ c.solve-s.ensures.stays _ (weary_solved _) }
+    record {
+      solving = rw (c.follow.ensures, kept) (searched_as (same_agenda) done);
+      stays = stays_from large₂ c.solve-s.ensures.stays _ (weary_solved _);
+    }
 
 pub behind-returns-then-w-b : goal.behind-returns-then-w-b
 unfolding answer_in
@@ -220,7 +215,10 @@ behind-returns-in-Tired t c =
     let same_agenda = agenda_same q c.node-goal.ensures c.nest-n.ensures in
     let R = searched_at c.lead.ensures.value c.part-r.ensures.alone in
     let solved = solved_said c.in-Solved.is _ in
-    let Q₁ = rest_told _ _ turn _ R _ solved _ _ _ c.past-h.ensures c.past_tensor.ensures.value c.solve-s.ensures.solving in record { solving = searched_as (same_agenda) (behind_tired _ _ turn _ R _ solved _ Q₁); stays = stays_tired c.in-Tired.is large₂ c.solve-s.ensures.stays }
+    let Q₁ = rest_told _ _ turn _ R _ solved _ _ _ c.past-h.ensures c.past_tensor.ensures.value c.solve-s.ensures.solving in record {
+      solving = searched_as (same_agenda) (behind_tired _ _ turn _ R _ solved _ Q₁);
+      stays = stays_tired c.in-Tired.is large₂ c.solve-s.ensures.stays;
+    }
 
 pub both_ways-loop-first-init : goal.both_ways-loop-first-init
 both_ways-loop-first-init t c =
@@ -231,7 +229,11 @@ both_ways-loop-first-init t c =
 pub both_ways-left_alone-requires : goal.both_ways-left_alone-requires
 both_ways-left_alone-requires t c =
     let rd = c.requires.ready in
-    let gr = c.requires.goal_ready.0.0 in record { sound = rd.sound; goal_bound = (goal_low rd.sound gr, omega (arith, gr.kind)); nest_bound = gr.nested }
+    let gr = c.requires.goal_ready.0.0 in record {
+      sound = rd.sound;
+      goal_bound = (goal_low rd.sound gr, omega (arith, gr.kind));
+      nest_bound = gr.nested;
+    }
 
 pub both_ways-solve-first-requires : goal.both_ways-solve-first-requires
 both_ways-solve-first-requires t c =
@@ -255,16 +257,19 @@ both_ways-returns-in_default t c =
     let kd = c.requires.goal_ready.1 in
     let same_goal = ap (λ (G : Goal). task G c.args.n ∷ []) (either_goal rd.sound gr (replicate 104 0) refl kd) in
     let R = searched_as (one_task _ (replicate 104 0) gr.nested refl fb.len refl c.left_alone.ensures)
-    c.solve-first.ensures.solving in record { alone = searched_as (same_goal) (either_unsolved _ _ _ fb turn _ R (unsolved _ c.in_default.not-Solved _)); stays = stays_back large c.solve-first.ensures.stays }
+    c.solve-first.ensures.solving in record {
+      alone = searched_as (same_goal) (either_unsolved _ _ _ fb turn _ R (unsolved _ c.in_default.not-Solved _));
+      stays = stays_back large c.solve-first.ensures.stays;
+    }
 
 pub both_ways-right_alone-requires : goal.both_ways-right_alone-requires
 both_ways-right_alone-requires t c =
     let rd = c.requires.ready in
-    let gr = c.requires.goal_ready.0.0 in record { sound = rd.sound; goal_bound = (goal_low rd.sound gr, omega (arith, gr.kind)); nest_bound = gr.nested }
-
-pub both_ways-past_with-requires : goal.both_ways-past_with-requires
-both_ways-past_with-requires t c =
-    c.requires.ready.counted
+    let gr = c.requires.goal_ready.0.0 in record {
+      sound = rd.sound;
+      goal_bound = (goal_low rd.sound gr, omega (arith, gr.kind));
+      nest_bound = gr.nested;
+    }
 
 pub both_ways-solve-second-requires : goal.both_ways-solve-second-requires
 both_ways-solve-second-requires t c =
@@ -409,7 +414,10 @@ both_ways-returns-in-Tired t c =
     let solved = solved_said c.in-Solved.is _ in
     let Q₁ = searched_past c.past-h.ensures c.past_with.ensures.value
     (searched_as (one_task _ (replicate 104 0) gr.nested refl (with_len _ _ c.past_with.ensures.value) refl
-    c.right_alone.ensures) c.solve-second.ensures.solving) in record { alone = searched_as (same_goal) (either_tired _ _ _ fb turn _ R _ solved _ Q₁); stays = stays_tired c.in-Tired.is large₂ c.solve-second.ensures.stays }
+    c.right_alone.ensures) c.solve-second.ensures.solving) in record {
+      alone = searched_as (same_goal) (either_tired _ _ _ fb turn _ R _ solved _ Q₁);
+      stays = stays_tired c.in-Tired.is large₂ c.solve-second.ensures.stays;
+    }
 
 pub choose-returns-then-b : goal.choose-returns-then-b
 unfolding answer_in
@@ -417,24 +425,14 @@ choose-returns-then-b t c =
     let rd = c.requires.ready in
     let q = c.requires.choice_ready in record { entering = choice_room rd q c.if-b.true; stays = stays_stuck c.requires.equipped }
 
-pub choose-first_at-first-requires : goal.choose-first_at-first-requires
-choose-first_at-first-requires t c =
-    let rd = c.requires.ready in
-    (rd.fixed, rd.tape_room)
-
-pub choose-side-r-requires : goal.choose-side-r-requires
-choose-side-r-requires t c =
-    let rd = c.requires.ready in
-    let q = c.requires.choice_ready in
-    let number_is = c.decreases in
-    let room = c.if-b.false in
-    (omega (arith, number_is), (rd, ((q, record { choice = inl refl; room = omega (arith, room) }), c.requires.equipped)))
-
 pub choose-returns-in_default : goal.choose-returns-in_default
 choose-returns-in_default t c =
     let rd = c.requires.ready in
     let q = c.requires.choice_ready in
-    let room = c.if-b.false in record { entering = left_told rd q (omega (arith, room)) c.first_at-first.ensures c.side-r.ensures.siding (unstuck _ c.in_default.not-Stuck _); stays = c.side-r.ensures.stays }
+    let room = c.if-b.false in record {
+      entering = left_told rd q (omega (arith, room)) c.first_at-first.ensures c.side-r.ensures.siding (unstuck _ c.in_default.not-Stuck _);
+      stays = c.side-r.ensures.stays;
+    }
 
 pub choose-side-requires : goal.choose-side-requires
 choose-side-requires t c =
@@ -467,11 +465,12 @@ choose-returns t c =
 pub enter-push-p-requires : goal.enter-push-p-requires
 enter-push-p-requires t c =
     let rd = c.requires.ready in
-    let q = rw c.if-meets.true at c.requires.part_ready in let room = clause_room rd q in record { sound = rd.sound; a_clause = room.0; nest_bound = room.1.0; room = room.1.1.0 }
-
-pub enter-sized-c-requires : goal.enter-sized-c-requires
-enter-sized-c-requires t c =
-    c.requires.ready.counted
+    let q = rw c.if-meets.true at c.requires.part_ready in let room = clause_room rd q in record {
+      sound = rd.sound;
+      a_clause = room.0;
+      nest_bound = room.1.0;
+      room = room.1.1.0;
+    }
 
 pub enter-put-requires : goal.enter-put-requires
 enter-put-requires t c =
@@ -493,30 +492,24 @@ enter-solve-requires-2 t c =
 pub enter-returns : goal.enter-returns
 enter-returns t c =
     let rd = c.requires.ready in
-    let q = rw c.if-meets.false at c.requires.part_ready in record { entering = rw c.if-meets.false (goal_told rd q _ c.put.ensures _ c.longer.ensures.value c.solve-2.ensures.solving); stays = c.solve-2.ensures.stays }
-
-pub last-own-requires : goal.last-own-requires
-last-own-requires t c =
-    c.requires.ready.counted
-
-pub last-part-r-requires : goal.last-part-r-requires
-last-part-r-requires t c =
-    let rd = c.requires.ready in
-    let q = c.requires.goal_ready in
-    let eq = c.requires.equipped in
-    let number_is = c.decreases in
-    rw c.own.ensures.value (
-      omega (arith, number_is),
-      (ready_own rd, ((goal_own q, fresh_own c.args.b), eq)),
-    )
+    let q = rw c.if-meets.false at c.requires.part_ready in record {
+      entering = rw c.if-meets.false (goal_told rd q _ c.put.ensures _ c.longer.ensures.value c.solve-2.ensures.solving);
+      stays = c.solve-2.ensures.stays;
+    }
 
 pub last-returns-in_default : goal.last-returns-in_default
-last-returns-in_default t c = record { alone = own_unsolved (searched_at c.own.ensures.value c.part-r.ensures.alone) (unsolved _ c.in_default.not-Solved _); stays = c.part-r.ensures.stays }
+last-returns-in_default t c = record {
+  alone = own_unsolved (searched_at c.own.ensures.value c.part-r.ensures.alone) (unsolved _ c.in_default.not-Solved _);
+  stays = c.part-r.ensures.stays;
+}
 
 pub last-returns : goal.last-returns
 unfolding answer_in
 last-returns t c =
-    let solved = solved_said c.in-Solved.is _ in record { alone = rw c.joined.ensures (own_solved _ (searched_at c.own.ensures.value c.part-r.ensures.alone) solved); stays = stays_from large_self c.part-r.ensures.stays _ (weary_solved _) }
+    let solved = solved_said c.in-Solved.is _ in record {
+      alone = rw c.joined.ensures (own_solved _ (searched_at c.own.ensures.value c.part-r.ensures.alone) solved);
+      stays = stays_from large_self c.part-r.ensures.stays _ (weary_solved _);
+    }
 
 -- the prunings stay stocked past the entering
 opened_equipped : {bs waits tape nodes heads nodes' heads' agenda agenda' names table masks codes words : List ℕ} {f : Floor} {goal n : ℕ}
@@ -557,10 +550,6 @@ lent-returns-in_default t c =
       stays = c.solve-r.ensures.stays;
     }
 
-pub lent-close-requires : goal.lent-close-requires
-lent-close-requires t c =
-    let rd = c.requires.ready in record { sound = rd.sound; scoped = omega (arith, rd.scoped) }
-
 pub lent-returns : goal.lent-returns
 unfolding answer_in
 lent-returns t c =
@@ -568,12 +557,10 @@ lent-returns t c =
     let gr = c.requires.goal_ready.0.0 in
     let fb = c.requires.goal_ready.0.1 in
     let kd = c.requires.goal_ready.1 in
-    let solved = solved_said c.in-Solved.is _ in record { alone = rw c.close.ensures (opened_solved rd gr fb kd (replicate 104 0) refl _ c.open-c.ensures c.solve-r.ensures.solving solved); stays = stays_from large_self c.solve-r.ensures.stays _ (weary_solved _) }
-
-pub need-overflow_sub-b : goal.need-overflow_sub-b
-need-overflow_sub-b t c =
-    let q = c.requires.name_next in
-    let some = q.some in search rules
+    let solved = solved_said c.in-Solved.is _ in record {
+      alone = rw c.close.ensures (opened_solved rd gr fb kd (replicate 104 0) refl _ c.open-c.ensures c.solve-r.ensures.solving solved);
+      stays = stays_from large_self c.solve-r.ensures.stays _ (weary_solved _);
+    }
 
 pub need-nest-n-requires : goal.need-nest-n-requires
 need-nest-n-requires t c =
@@ -608,11 +595,6 @@ need-returns-then-dead t c =
     let q = c.requires.name_next in
     let eq = c.requires.equipped in record { solving = doomed_told rd q (c.doomed-dead.ensures c.if-dead.true); stays = stays_stuck eq }
 
-pub need-first_at-first-requires : goal.need-first_at-first-requires
-need-first_at-first-requires t c =
-    let rd = c.requires.ready in
-    (rd.fixed, rd.tape_room)
-
 pub need-others-requires : goal.need-others-requires
 need-others-requires t c =
     let rd = c.requires.ready in
@@ -621,14 +603,6 @@ need-others-requires t c =
     let number_is = c.decreases in
     let N = name_open q _ c.nest-n.ensures c.if-n-eq0.false c.if-b.false in
     (omega arith, (rd, ((N, c.first_at-first.ensures), eq)))
-
-pub need-returns : goal.need-returns
-need-returns t c = record { solving = c.others.ensures.solving; stays = c.others.ensures.stays }
-
-pub one_of-overflow_sub-top : goal.one_of-overflow_sub-top
-one_of-overflow_sub-top t c =
-    let q = c.requires.one_of_next in
-    omega (arith, q.some)
 
 pub one_of-node-goal-requires : goal.one_of-node-goal-requires
 one_of-node-goal-requires t c =
@@ -641,21 +615,6 @@ one_of-nest-n-requires t c =
     let rd = c.requires.ready in
     let q = c.requires.one_of_next in
     top_within c.args.b rd.sound q.laid q.some
-
-pub one_of-dropped-requires : goal.one_of-dropped-requires
-one_of-dropped-requires t c =
-    let q = c.requires.one_of_next in record { not_empty = q.some; counted = c.requires.ready.counted }
-
-pub others-overflow_sub-b : goal.others-overflow_sub-b
-others-overflow_sub-b t c =
-    let step = c.requires.name_open.0 in
-    let some = step.next.some in search rules
-
-pub others-node-requires : goal.others-node-requires
-others-node-requires t c =
-    let rd = c.requires.ready in
-    let step = c.requires.name_open.0 in
-    top_inside rd step.next
 
 pub others-left-name-requires : goal.others-left-name-requires
 others-left-name-requires t c =
@@ -686,7 +645,11 @@ others-dead_end-tired-requires t c =
     let kit = c.loop-e.invariant.1.0 in
     let name = name_of step.next _ _ c.left-name.ensures.0 c.node.ensures in
     let none = round_ends rd step _ name _ c.seek-next.ensures turn c.in_default.is in
-    let k = round_kept rd step turn in record { prune_asks = asks (round_ready rd step turn) step.next kit.rooted; memory = kit.stocked.memory; barren_in = λ o. dead_barren _ rd least k.1.0 none (sym c.unfloored.ensures ∙ o) }
+    let k = round_kept rd step turn in record {
+      prune_asks = asks (round_ready rd step turn) step.next kit.rooted;
+      memory = kit.stocked.memory;
+      barren_in = λ o. dead_barren _ rd least k.1.0 none (sym c.unfloored.ensures ∙ o);
+    }
 
 pub others-returns-in_default : goal.others-returns-in_default
 others-returns-in_default t c =
@@ -698,8 +661,8 @@ others-returns-in_default t c =
     let name = name_of step.next _ _ c.left-name.ensures.0 c.node.ensures in
     let none = round_ends rd step _ name _ c.seek-next.ensures turn c.in_default.is in record {
       solving = rw c.given_up.ensures (dead_told _ _ c.dead_end-tired.result none);
-      stays = rw c.given_up.ensures (stays_dead c.dead_end-tired.result kit large c.dead_end-tired.ensures.memory_2 c.dead_end-tired.ensures.codes_len_unchanged
-          c.dead_end-tired.ensures.words_len);
+      stays = rw c.given_up.ensures (stays_dead c.dead_end-tired.result kit large c.dead_end-tired.ensures.memory_kept c.dead_end-tired.ensures.rooms_kept
+          c.dead_end-tired.ensures.first_run);
     }
 
 pub others-use_clause-r-requires : goal.others-use_clause-r-requires
@@ -724,7 +687,10 @@ others-returns-in-Solved t c =
     let large = c.loop-e.invariant.1.1 in
     let name = name_of step.next _ _ c.left-name.ensures.0 c.node.ensures in
     let seen = seek_at step _ _ _ _ name _ c.seek-next.ensures _ c.in-Some.is in
-    let X = solved_using c.use_clause-r.ensures.using (solved_said c.in-Solved.is _) in record { solving = round_found rd step least turn seen _ _ c.keeps-same.ensures c.past.ensures _ X _ c.follow.ensures; stays = stays_from large c.use_clause-r.ensures.stays _ (weary_solved _) }
+    let X = solved_using c.use_clause-r.ensures.using (solved_said c.in-Solved.is _) in record {
+      solving = round_found rd step least turn seen _ _ c.keeps-same.ensures c.past.ensures _ X _ c.follow.ensures;
+      stays = stays_from large c.use_clause-r.ensures.stays _ (weary_solved _);
+    }
 
 pub others-overflow_add-from : goal.others-overflow_add-from
 others-overflow_add-from t c =
@@ -768,25 +734,16 @@ others-returns-in-Tired t c =
     let turn = c.loop-e.invariant.0 in
     let large = c.loop-e.invariant.1.1 in
     let name = name_of step.next _ _ c.left-name.ensures.0 c.node.ensures in
-    let seen = seek_at step _ _ _ _ name _ c.seek-next.ensures _ c.in-Some.is in record { solving = round_tired rd step least turn seen _ _ c.keeps-same.ensures c.past.ensures c.use_clause-r.ensures.using; stays = stays_tired c.in-Tired.is large c.use_clause-r.ensures.stays }
+    let seen = seek_at step _ _ _ _ name _ c.seek-next.ensures _ c.in-Some.is in record {
+      solving = round_tired rd step least turn seen _ _ c.keeps-same.ensures c.past.ensures c.use_clause-r.ensures.using;
+      stays = stays_tired c.in-Tired.is large c.use_clause-r.ensures.stays;
+    }
 
 pub side-returns-then-choice-first : goal.side-returns-then-choice-first
 unfolding answer_in
 side-returns-then-choice-first t c =
     let rd = c.requires.ready in
     let q = c.requires.choice_ready in record { siding = side_under rd q.0 q.1 c.if-choice-first.true; stays = stays_stuck c.requires.equipped }
-
-pub side-overflow_cast-tape : goal.side-overflow_cast-tape
-side-overflow_cast-tape t c =
-    let rd = c.requires.ready in
-    let q = c.requires.choice_ready in
-    let low = choice_byte rd q.0 q.1 in search rules
-
-pub side-bounds-tape-at : goal.side-bounds-tape-at
-side-bounds-tape-at t c =
-    let rd = c.requires.ready in
-    let q = c.requires.choice_ready in
-    let low = choice_tape rd q.0 q.1 in search rules
 
 pub side-side-part-requires : goal.side-side-part-requires
 side-side-part-requires t c =
@@ -805,12 +762,10 @@ side-returns-then-shut t c =
     let rd = c.requires.ready in
     let q = c.requires.choice_ready in
     let l = c.if-choice-first.false in
-    let h = sym c.shut.ensures ∙ c.if-shut.true in record { siding = side_shut rd q.0 q.1 l c.side-part.ensures h; stays = stays_stuck c.requires.equipped }
-
-pub side-chose-requires : goal.side-chose-requires
-side-chose-requires t c =
-    let rd = c.requires.ready in
-    let q = c.requires.choice_ready in record { room = choice_tape rd q.0 q.1; counted = rd.counted }
+    let h = sym c.shut.ensures ∙ c.if-shut.true in record {
+      siding = side_shut rd q.0 q.1 l c.side-part.ensures h;
+      stays = stays_stuck c.requires.equipped;
+    }
 
 pub side-enter-r-requires : goal.side-enter-r-requires
 side-enter-r-requires t c =
@@ -840,12 +795,6 @@ side-returns t c =
       stays = stays_from large_self c.enter-r.ensures.stays _ (weary_solved _);
     }
 
-pub solve-unwind-c-requires : goal.solve-unwind-c-requires
-solve-unwind-c-requires t c = record { sound = c.requires.ready.sound; laid = c.requires.laid; counted = c.requires.ready.counted }
-
-pub solve-closed-requires : goal.solve-closed-requires
-solve-closed-requires t c = c.unwind-c.ensures.unwound.counted
-
 pub solve-returns-then-c-eq0 : goal.solve-returns-then-c-eq0
 solve-returns-then-c-eq0 t c =
     let rd = c.requires.ready in
@@ -855,10 +804,6 @@ solve-returns-then-c-eq0 t c =
           (closed_searched (unwound_ready u rd) c.closed.ensures.words _ c.if-c-eq0.true c.closed.ensures.answer);
       stays = awake_stays eq c.closed.ensures.awake;
     }
-
-pub solve-overflow_sub-c : goal.solve-overflow_sub-c
-solve-overflow_sub-c t c =
-    omega (arith, c.if-c-eq0.false)
 
 pub solve-node-requires : goal.solve-node-requires
 solve-node-requires t c =
@@ -873,61 +818,21 @@ use_clause-overflow_cast-tape t c =
     let can = c.requires.can_use.0 in
     let low = entry_byte rd can.step.next can in search rules
 
-pub use_clause-bounds-tape-at : goal.use_clause-bounds-tape-at
-use_clause-bounds-tape-at t c =
-    let rd = c.requires.ready in
-    let can = c.requires.can_use.0 in
-    let low = at_inside rd can.step.next can in search rules
-
-pub use_clause-overflow_sub-top : goal.use_clause-overflow_sub-top
-use_clause-overflow_sub-top t c =
-    let can = c.requires.can_use.0 in
-    let some = can.step.next.some in search rules
-
-pub use_clause-offset_bounds-nodes-e : goal.use_clause-offset_bounds-nodes-e
-use_clause-offset_bounds-nodes-e t c =
-    let rd = c.requires.ready in
-    let can = c.requires.can_use.0 in
-    let low = entry_byte rd can.step.next can in omega arith
-
 pub use_clause-bounds-nodes-e : goal.use_clause-bounds-nodes-e
 use_clause-bounds-nodes-e t c =
     let rd = c.requires.ready in
     let can = c.requires.can_use.0 in
     let low = entry_byte rd can.step.next can in search rules
 
-pub use_clause-overflow_cast-clause : goal.use_clause-overflow_cast-clause
-use_clause-overflow_cast-clause t c =
-    let rd = c.requires.ready in
-    let can = c.requires.can_use.0 in
-    let low = clause_lower _ _ _ (entry_clause rd can.step.next can) in
-    let f = sound_front _ rd.sound in omega arith
-
-pub use_clause-inner-n-requires : goal.use_clause-inner-n-requires
-use_clause-inner-n-requires t c =
-    let rd = c.requires.ready in
-    let can = c.requires.can_use.0 in record { top_bound = top_inside rd can.step.next; bound = can.step.deep }
-
 pub use_clause-push-p-requires : goal.use_clause-push-p-requires
 use_clause-push-p-requires t c =
     let rd = c.requires.ready in
-    let can = c.requires.can_use.0 in let room = use_room rd can.step.next can _ _ _ _ _ _ refl c.inner-n.ensures c.requires.can_use.1 refl refl refl in record { sound = rd.sound; a_clause = room.0; nest_bound = room.1.0; room = room.1.1.0 }
-
-pub use_clause-byte-requires : goal.use_clause-byte-requires
-use_clause-byte-requires t c =
-    let rd = c.requires.ready in
-    card_front rd.sound 3 (omega arith)
-
-pub use_clause-byte-requires-2 : goal.use_clause-byte-requires-2
-use_clause-byte-requires-2 t c =
-    let rd = c.requires.ready in
-    card_front rd.sound 4 (omega arith)
-
-pub use_clause-using-c-requires : goal.use_clause-using-c-requires
-use_clause-using-c-requires t c =
-    let rd = c.requires.ready in
-    let can = c.requires.can_use.0 in
-    let few = (sound_front _ rd.sound).lines in record { room = at_inside rd can.step.next can; few_lines = omega (arith, c.byte-2.ensures.0, few); counted = rd.counted }
+    let can = c.requires.can_use.0 in let room = use_room rd can.step.next can _ _ _ _ _ _ refl c.inner-n.ensures c.requires.can_use.1 refl refl refl in record {
+      sound = rd.sound;
+      a_clause = room.0;
+      nest_bound = room.1.0;
+      room = room.1.1.0;
+    }
 
 pub enter-kind_of-requires : goal.enter-kind_of-requires
 enter-kind_of-requires t c =

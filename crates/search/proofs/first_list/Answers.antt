@@ -30,8 +30,8 @@ run-r-requires c = record {
     sound = c.requires;
     waiting = c.waits-waits.ensures;
     tape_room = search rules;
-    entered = c.enter.ensures.fact;
-    scope = c.enter.ensures.bs_after;
+    entered = c.enter.ensures.entered;
+    scope = c.enter.ensures.scope;
   };
   stocked = stocked_start refl refl;
 }

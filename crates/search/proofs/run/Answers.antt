@@ -21,7 +21,7 @@ pub put-requires : goal.put-requires
 put-requires c =
     let g = c.word-goal.ensures.0 in
     let d = c.byte-depth.ensures.0 in
-    let small = goal_code c.requires.starts.sound in record { i_bound = (omega arith, (omega (arith, small.0), omega (arith, small.1))); agenda_len = refl }
+    let small = goal_code c.requires.starts.sound in (omega arith, (omega (arith, small.0), omega (arith, small.1)))
 
 pub solve-requires : goal.solve-requires
 solve-requires c =
