@@ -4,12 +4,10 @@
 // cards. The buffer is filled with one byte beforehand.
 #![tactic(auto)]
 
-ghost use Rattle.std.specs.Prelude.{◌≤◌, ◌<◌, length, IfOk, IfSome};
+ghost use Rattle.std.specs.Prelude.{◌<◌, length, IfSome};
 
-use bench::Source;
-use benched::{BenchRefusal, Which};
+use bench::LineSource;
 use show::{Hex, Input, Sheet};
-use std::fmt;
 use std::io;
 use std::io::Write;
 
@@ -60,7 +58,7 @@ impl<'a> Record<'a> {
                 print_plan(out, joined)
             }
             Err(refusal) => {
-                writeln!(out, "  {}", Told(refusal))?;
+                writeln!(out, "  {refusal}")?;
                 print_kept(out, buffer)
             }
         }
@@ -71,34 +69,14 @@ impl<'a> Record<'a> {
         for i in 0..65 {
             write!(out, "  line {i}: ")?;
             match bench::locate(self.first, self.second, i) {
-                Ok(Source { card, at }) => {
+                Ok(LineSource { card, at }) => {
                     let line = bench::source(self.first, self.second, i);
-                    writeln!(out, "{} at {at}:{}", name(Some(card)), Hex(line))?;
+                    writeln!(out, "{card} card at {at}:{}", Hex(line))?;
                 }
-                Err(refusal) => return writeln!(out, "{}", Told(refusal)),
+                Err(refusal) => return writeln!(out, "{refusal}"),
             }
         }
         Ok(())
-    }
-}
-
-// Which card a refusal is about.
-fn name(card: Option<Which>) -> &'static str {
-    match card {
-        None => "neither card",
-        Some(Which::First) => "first card",
-        Some(Which::Second) => "second card",
-    }
-}
-
-// A refusal, told with which card it is about.
-#[derive(Drop)]
-struct Told(BenchRefusal);
-
-impl fmt::Display for Told {
-    fn fmt<W: fmt::Write>(&self, f: &mut fmt::Formatter<W>) -> fmt::Result {
-        let refusal = self.0.refusal;
-        write!(f, "{refusal}, {}", name(self.0.card))
     }
 }
 

@@ -32,10 +32,11 @@ impl<'a> Record<'a> {
     fn print(&self, out: &mut impl Write) -> io::Result<()> {
         let mut buffer = [FILL; 324];
         let size = self.size.min(buffer.len());
+        let lent = &mut buffer[..size];
         out.write_all(self.label)?;
-        let end = match planner::plan(self.card, &mut buffer[..size]) {
+        let end = match planner::plan(self.card, lent) {
             Ok(k) => {
-                let sheet = Sheet::new(&buffer, k);
+                let sheet = Sheet::new(lent, k);
                 write!(out, ": {sheet}")?;
                 sheet.end()
             }
