@@ -10,6 +10,7 @@ use card::format::{byte, word};
 use moved::put_node;
 
 // 11 + 5N + 2P + 3T of the joined card.
+#[tactic(auto, using(card::proofs::CardChecked::front_here))]
 pub fn joined_length(first: &[u8], second: &[u8]) -> usize
     requires first_sound { Sound first.now }
     requires second_sound { Sound second.now }
@@ -22,27 +23,27 @@ pub fn joined_length(first: &[u8], second: &[u8]) -> usize
 }
 
 // d: the greater.
+#[tactic(auto, using(card::proofs::CardChecked::front_here))]
 pub fn depth(first: &[u8], second: &[u8]) -> u8
     requires first_sound { Sound first.now }
     requires second_sound { Sound second.now }
     ensures { result ≡ joined_depth first.now second.now }
 {
-    let a = first[9];
-    let b = second[9];
-    if a < b { b } else { a }
+    first[9].max(second[9])
 }
 
 // s: the sum, or 255 if lower.
+#[tactic(auto, using(card::proofs::CardChecked::front_here))]
 pub fn steps(first: &[u8], second: &[u8]) -> u8
     requires first_sound { Sound first.now }
     requires second_sound { Sound second.now }
     ensures { result ≡ joined_steps first.now second.now }
 {
-    let sum = byte(first, 10) + byte(second, 10);
-    if sum < 255 { sum as u8 } else { 255 }
+    first[10].saturating_add(second[10])
 }
 
 // The new last node: both of the first's goal and the second's, shifted.
+#[tactic(auto, using(card::proofs::CardChecked::front_here))]
 pub fn put_both(first: &[u8], second: &[u8], out: &mut [u8], at: usize)
     requires first_sound { Sound first.now }
     requires second_sound { Sound second.now }

@@ -18,22 +18,19 @@ pub fn put_word(value: usize, out: &mut [u8], at: usize)
     requires room { at + 2 ≤ length out.old }
     ensures { Written out.old out.new at (word_bytes value) }
 {
-    out[at] = (value / 256) as u8;
-    out[at + 1] = (value % 256) as u8;
+    out[at..at + 2].copy_from_slice(&(value as u16).to_be_bytes());
 }
 
 // The value of a field of this reading: a part moves by n, a name and an unused field stay.
+#[tactic(auto, unfolding(joined::specs::Joined::shifted))]
 fn shift(n: usize, field: Field, value: usize) -> usize
     requires n_bound { n ≤ 512 }
     requires value_bound { value < 65536 }
     ensures { result ≡ shifted n field value }
 {
     match field {
-        Field::GoalPart => n + value,
-        Field::ClausePart => n + value,
-        Field::Unused => value,
-        Field::Name => value,
-        Field::Unknown => value,
+        Field::GoalPart | Field::ClausePart => n + value,
+        Field::Unused | Field::Name | Field::Unknown => value,
     }
 }
 
@@ -59,10 +56,8 @@ fn put_moved(card: &[u8], n: usize, i: usize, out: &mut [u8], at: usize)
 {
     let k = kind(card, i);
     let asked = row(k);
-    let l = asked.left;
-    let r = asked.right;
-    let a = shift(n, l, left(card, i));
-    let b = shift(n, r, right(card, i));
+    let a = shift(n, asked.left, left(card, i));
+    let b = shift(n, asked.right, right(card, i));
     put_node(k as u8, a, b, out, at);
 }
 
@@ -73,11 +68,8 @@ pub fn put_nodes(card: &[u8], n: usize, out: &mut [u8], at: usize)
     requires room { at + 5 * node_count card.now ≤ length out.old }
     ensures { Written out.old out.new at (moved_nodes n card.now) }
 {
-    let m = word(card, 5);
-    let mut i = 0;
-    while i < m {
+    for i in 0..word(card, 5) {
         put_moved(card, n, i, out, at + 5 * i);
-        i += 1;
     }
 }
 
@@ -88,11 +80,8 @@ pub fn put_rules(card: &[u8], n: usize, out: &mut [u8], at: usize)
     requires room { at + 2 * rule_count card.now ≤ length out.old }
     ensures { Written out.old out.new at (moved_rules n card.now) }
 {
-    let m = byte(card, 3);
-    let mut i = 0;
-    while i < m {
+    for i in 0..byte(card, 3) {
         put_word(n + rule_node(card, i), out, at + 2 * i);
-        i += 1;
     }
 }
 
@@ -113,11 +102,8 @@ pub fn put_lines(card: &[u8], n: usize, out: &mut [u8], at: usize)
     requires room { at + 3 * line_count card.now ≤ length out.old }
     ensures { Written out.old out.new at (moved_lines n card.now) }
 {
-    let m = byte(card, 4);
-    let mut i = 0;
-    while i < m {
+    for i in 0..byte(card, 4) {
         let must = line_byte(card, i) as u8;
         put_line(n + line_node(card, i), must, out, at + 3 * i);
-        i += 1;
     }
 }

@@ -20,13 +20,12 @@ use Rattle.lines.specs.declared.LineSet.{LineSet}
 use Rattle.lines.specs.Set.{member, Words}
 use Rattle.lines.specs.Count.{bit}
 use Rattle.lines.proofs.CountLaws.{bit_one}
-use Rattle.card.specs.declared.Place.{Place}
-use Rattle.card.specs.declared.Refusal.{Refusal}
-use Rattle.card.specs.Verdict.{where_of, step}
+use Rattle.card.specs.declared.faults.Refusal.{Refusal}
+use Rattle.card.specs.Verdict.{where_of, number_of, step}
 use Rattle.scope.specs.Inner.Sets.{LinesOf}
 use Rattle.summary.specs.declared.Position.{Position}
 use Rattle.summary.specs.declared.Summary.{Summary}
-use Rattle.summary.specs.Inner.Values.{MetCounted, on_b, lent_p, stepped_b, ended_w, tensor_w, pick_w, with_w, without_s, using_w, wrong_f}
+use Rattle.summary.specs.Inner.Values.{MetCounted, on_b, lent_p, stepped_b, ended_w, tensor_w, pick_w, with_w, without_s, using_w}
 use Rattle.summary.specs.Inner.Walks.{from, gathered, EndsWith, StopsWith, CannotChoose}
 use Rattle.summary.proofs.SummariesGather.{ended_gathers, never_gathers, tensor_gathers, with_gathers, lend_gathers, item_gathers}
 use Rattle.summary.proofs.SummariesGather.{rule_gathers}
@@ -278,7 +277,7 @@ module _ {steps : List ℕ} {b : Position} {es : Scope} where
       index = s.index;
       place = s.place;
       walk =
-          subst (λ n. part_walk n (goal (atomᴳ a)) es b.at (from steps b b.at) ≡ stops f.number s.index)
+          subst (λ n. part_walk n (goal (atomᴳ a)) es b.at (from steps b b.at) ≡ stops (number_of f.fault) s.index)
           (let d = deep in omega arith)
           (ap (part_walk (suc (b.depth - 1)) (goal (atomᴳ a)) es b.at) next
           ∙ walk_use (b.depth - 1) a es b.at e (from steps b (b.at + 1)) u ∙ s.walk);
@@ -286,19 +285,20 @@ module _ {steps : List ℕ} {b : Position} {es : Scope} where
 
   -- What is wrong at a name
 
-  module _ {a : ℕ} {place : Place} (here : where_of place ≡ step b.at) where
-    stops_here : {m : ℕ} → part_walk b.depth (goal (atomᴳ a)) es b.at (from steps b b.at) ≡ stops m b.at
-        → StopsWith steps b es (goal (atomᴳ a)) (wrong_f m place)
-    stops_here w = record { index = b.at; place = here; walk = w }
+  module _ {a : ℕ} {f : Refusal} (here : where_of f.place ≡ step b.at) where
+    stops_here : {m : ℕ} → number_of f.fault ≡ m → part_walk b.depth (goal (atomᴳ a)) es b.at (from steps b b.at) ≡ stops m b.at
+        → StopsWith steps b es (goal (atomᴳ a)) f
+    stops_here n w = record { index = b.at; place = here; walk = rw n w }
 
-    pub none_left : from steps b b.at ≡ [] → StopsWith steps b es (goal (atomᴳ a)) (wrong_f 18 place)
-    none_left z = stops_here (ap (part_walk b.depth (goal (atomᴳ a)) es b.at) z ∙ walk_none b.depth a es b.at)
+    pub none_left : number_of f.fault ≡ 18 → from steps b b.at ≡ [] → StopsWith steps b es (goal (atomᴳ a)) f
+    none_left n z = stops_here n (ap (part_walk b.depth (goal (atomᴳ a)) es b.at) z ∙ walk_none b.depth a es b.at)
 
     module _ {e : ℕ} (next : from steps b b.at ≡ e ∷ from steps b (b.at + 1)) where
-      pub unfit : usable es.fits a (clause_at es e) ≡ false → StopsWith steps b es (goal (atomᴳ a)) (wrong_f 13 place)
-      unfit u = stops_here (ap (part_walk b.depth (goal (atomᴳ a)) es b.at) next
+      pub unfit : number_of f.fault ≡ 13 → usable es.fits a (clause_at es e) ≡ false → StopsWith steps b es (goal (atomᴳ a)) f
+      unfit n u = stops_here n (ap (part_walk b.depth (goal (atomᴳ a)) es b.at) next
           ∙ walk_unfit b.depth a es b.at e (from steps b (b.at + 1)) u)
 
-      pub too_deep : usable es.fits a (clause_at es e) ≡ true → b.depth ≡ 0 → StopsWith steps b es (goal (atomᴳ a)) (wrong_f 17 place)
-      too_deep u z = stops_here (ap₂ (λ n l. part_walk n (goal (atomᴳ a)) es b.at l) z next
+      pub too_deep : number_of f.fault ≡ 17 → usable es.fits a (clause_at es e) ≡ true → b.depth ≡ 0
+          → StopsWith steps b es (goal (atomᴳ a)) f
+      too_deep n u z = stops_here n (ap₂ (λ m l. part_walk m (goal (atomᴳ a)) es b.at l) z next
           ∙ walk_deep a es b.at e (from steps b (b.at + 1)) u)

@@ -3,14 +3,19 @@
 #![tactic(auto)]
 
 ghost use Rattle.std.specs.Prelude.{◌≡◌, ◌+◌, ◌*◌, ◌≤◌, ◌<◌, length};
+ghost use Rattle.calculus.specs.Formula.{usable as usableM};
+ghost use Rattle.calculus.specs.Derivation.{clause_at};
+ghost use Rattle.card.specs.Fault.{Sound};
+ghost use Rattle.card.specs.Verdict.{where_of, step};
 ghost use Rattle.lines.specs.Set.{Words};
-ghost use Rattle.summary.specs.Inner.Values.{on_b, lent_p, stepped_b, ended_w, astray_w, cover_w, pick_w, tensor_w, with_w, without_s, using_w, wrong_f};
-ghost use Rattle.summary.specs.declared.Step.TheVariants.{Wrong};
-ghost use Rattle.summary.specs.Inner.Walks.{WalkReady, Stepping, SideTaking};
+ghost use Rattle.scope.specs.Inner.Tables.{table_scope, TableEntered};
+ghost use Rattle.summary.specs.Inner.Values.{on_b, lent_p, stepped_b, ended_w, cover_w, pick_w, tensor_w, with_w, without_s, using_w};
+ghost use Rattle.summary.specs.Inner.Walks.{WalkReady, StepGiven, Stepping, SideTaking};
 
 use card::format::{byte, left, right};
-use card::{Place, Refusal, both, either};
+use card::{Fault, Place, Refusal, refuse};
 use lines::{LineSet, LineWord};
+use scope::{Tables, usable};
 
 // Where a walk stands: P and how many steps are given; its place in the list, how many entries stand in scope, and the nesting left; and
 // how many must lines were met (used) on the way here.
@@ -37,33 +42,12 @@ pub struct Summary {
     pub sure: LineWord,
 }
 
-// What a walk answers: what it gathered, or its first wrong step.
-#[derive(Clone, Copy)]
-pub enum Walked {
-    Ended(Summary),
-    Astray(Refusal),
-}
-
-// The entry that serves a name or the part that a choice takes, or what is wrong at its step.
-#[derive(Clone, Copy)]
-pub enum Step {
-    Taken(usize),
-    Wrong(Refusal),
-}
-
 impl Position {
     // Further on in the list, behind as many must lines.
     pub fn on(self, at: usize, met: usize) -> Position
         ensures { result ≡ on_b self at met }
     {
-        Position {
-            rules: self.rules,
-            given: self.given,
-            at,
-            count: self.count,
-            depth: self.depth,
-            met,
-        }
+        Position { at, met, ..self }
     }
 
     // The goal of a ⊸: one entry more in scope.
@@ -72,12 +56,8 @@ impl Position {
         ensures { result ≡ lent_p self }
     {
         Position {
-            rules: self.rules,
-            given: self.given,
-            at: self.at,
             count: self.count + 1,
-            depth: self.depth,
-            met: self.met,
+            ..self
         }
     }
 
@@ -87,13 +67,19 @@ impl Position {
         ensures { result ≡ stepped_b self nested }
     {
         Position {
-            rules: self.rules,
-            given: self.given,
             at: self.at + 1,
-            count: self.count,
             depth: self.depth - nested,
-            met: self.met,
+            ..self
         }
+    }
+
+    // The next step, as the place of what is wrong there.
+    #[tactic(auto, unfolding(card::specs::Verdict::where_of))]
+    fn here(self) -> Place
+        requires { self.at < 65536 }
+        ensures { where_of result ≡ step self.at }
+    {
+        Place::Step(self.at as u16)
     }
 
     // 1, ⊤, a head or 0: no step is taken. Only 0 is never divided.
@@ -111,19 +97,6 @@ impl Position {
     }
 }
 
-// A step's answer as the walk's: what is wrong there; 13 of a step that is taken, where nothing is wrong.
-pub fn astray(step: Step) -> Walked
-    ensures { result ≡ astray_w step }
-{
-    match step {
-        Step::Taken(_) => Walked::Astray(Refusal {
-            number: 13,
-            place: Place::Steps,
-        }),
-        Step::Wrong(refusal) => Walked::Astray(refusal),
-    }
-}
-
 impl Summary {
     // Both parts of a ⊗: their shares are apart, and the right one was walked from the left one's count. The words of both sets are those of
     // the machine.
@@ -131,16 +104,13 @@ impl Summary {
         ensures value { result ≡ tensor_w self w }
         ensures words { Words self.used × Words w.used }
     {
-        let used = self.used;
-        let sure = self.sure;
-        let apart = used.meet(w.used).is_empty();
+        let apart = self.used.meet(w.used).is_empty();
         Summary {
-            at: w.at,
-            used: used.join(w.used),
-            slack: either(self.slack, w.slack),
-            alive: both(both(self.alive, w.alive), apart),
-            met: w.met,
-            sure: sure.join(w.sure),
+            used: self.used.join(w.used),
+            slack: self.slack || w.slack,
+            alive: self.alive && w.alive && apart,
+            sure: self.sure.join(w.sure),
+            ..w
         }
     }
 
@@ -148,18 +118,15 @@ impl Summary {
     fn covers(self, w: Summary) -> bool
         ensures { result ≡ cover_w self w }
     {
-        let other = w.used;
-        either(self.slack, other.cut(self.used).is_empty())
+        self.slack || w.used.cut(self.used).is_empty()
     }
 
     // The count of both sides of a &, each walked from the same count: that of a side without slack, which takes all that the other takes.
+    #[tactic(auto, unfolding(crate::specs::Inner::Values::pick_w))]
     fn pick(self, w: Summary) -> usize
         ensures { result ≡ pick_w self w }
     {
-        if self.slack {
-            return w.met;
-        }
-        self.met
+        if self.slack { w.met } else { self.met }
     }
 
     // Both sides of a &: each covers the other, and what each surely uses is sure. The words of both sets are those of the machine.
@@ -167,16 +134,14 @@ impl Summary {
         ensures value { result ≡ with_w self w }
         ensures words { Words self.used × Words w.used }
     {
-        let used = self.used;
-        let sure = self.sure;
-        let agree = both(self.covers(w), w.covers(self));
+        let agree = self.covers(w) && w.covers(self);
         Summary {
             at: w.at,
-            used: used.join(w.used),
-            slack: both(self.slack, w.slack),
-            alive: both(both(self.alive, w.alive), agree),
+            used: self.used.join(w.used),
+            slack: self.slack && w.slack,
+            alive: self.alive && w.alive && agree,
             met: self.pick(w),
-            sure: sure.meet(w.sure),
+            sure: self.sure.meet(w.sure),
         }
     }
 
@@ -184,16 +149,11 @@ impl Summary {
     pub fn without(self, item: usize) -> Summary
         ensures { result ≡ without_s self item }
     {
-        let used = self.used;
-        let sure = self.sure;
-        let gone = either(self.slack, used.has(item));
+        let gone = self.slack || self.used.has(item);
         Summary {
-            at: self.at,
-            used: used.take(item),
-            slack: self.slack,
-            alive: both(self.alive, gone),
-            met: self.met,
-            sure,
+            used: self.used.take(item),
+            alive: self.alive && gone,
+            ..self
         }
     }
 
@@ -202,25 +162,35 @@ impl Summary {
         requires { self.met + due ≤ 256 }
         ensures { result ≡ using_w self item due }
     {
-        let used = self.used;
-        let sure = self.sure;
-        let free = !used.has(item);
+        let free = !self.used.has(item);
         Summary {
-            at: self.at,
-            used: used.add(item),
-            slack: self.slack,
-            alive: both(self.alive, free),
+            used: self.used.add(item),
+            alive: self.alive && free,
             met: self.met + due,
-            sure: sure.add(item),
+            sure: self.sure.add(item),
+            ..self
         }
     }
 }
 
-// What is wrong at a step.
-fn wrong(number: u8, place: Place) -> Step
-    ensures { result ≡ Wrong (wrong_f number place) }
+// The next step, or 18 where there is none left.
+fn next(steps: &[u8], b: Position) -> Result<usize, Refusal>
+    requires { (b.at ≤ b.given) × ((b.given ≤ length steps.now) × (b.given ≤ 255)) }
+    ensures { StepGiven steps.now b result }
 {
-    Step::Wrong(Refusal { number, place })
+    refuse(b.at == b.given, Fault::StepCount, b.here())?;
+    Ok(byte(steps, b.at))
+}
+
+// Whether e is an entry in scope that can be used for the name.
+fn fits(card: &[u8], tables: &Tables, b: Position, e: usize, name: usize) -> bool
+    requires sound { Sound card.now }
+    requires entered { TableEntered card.now tables.now.nodes tables.now.linear b.count }
+    requires room { e < 256 }
+    ensures { let es = table_scope card.now tables.now.nodes tables.now.linear b.count in
+        result ≡ usableM es.fits name (clause_at es e) }
+{
+    e < b.count && usable(card, tables.nodes[e] as usize, name)
 }
 
 // The next step: the entry that is used for the name, or 18 (there is none left), 13 (no entry in scope whose head is the name) or 17
@@ -228,35 +198,17 @@ fn wrong(number: u8, place: Place) -> Step
 pub fn next_step(
     card: &[u8],
     steps: &[u8],
-    nodes: &[u16; 256],
-    linear: &[bool; 256],
+    tables: &Tables,
     b: Position,
     name: usize,
-) -> Step
-    requires { WalkReady card.now steps.now nodes.now linear.now b }
-    ensures { Stepping card.now steps.now nodes.now linear.now
-        b name result }
+) -> Result<usize, Refusal>
+    requires { WalkReady card.now steps.now tables.now b }
+    ensures { Stepping card.now steps.now tables.now b name result }
 {
-    let at = b.at;
-    let here = Place::Step(at as u16);
-    let ahead = b.given - at;
-    if ahead == 0 {
-        return wrong(18, here);
-    }
-    let e = byte(steps, at);
-    if b.count <= e {
-        return wrong(13, here);
-    }
-    let node = nodes[e] as usize;
-    let unfit = !scope::usable(card, node, name);
-    let deeper = b.depth;
-    if unfit {
-        return wrong(13, here);
-    }
-    if deeper == 0 {
-        return wrong(17, here);
-    }
-    Step::Taken(e)
+    let e = next(steps, b)?;
+    refuse(!fits(card, tables, b, e, name), Fault::Step, b.here())?;
+    refuse(b.depth == 0, Fault::Depth, b.here())?;
+    Ok(e)
 }
 
 // The next step at a node whose parts are chosen from, where some may be taken: the part that it takes, 254 the left and 255 the right, or
@@ -268,24 +220,20 @@ pub fn next_side(
     node: usize,
     first: bool,
     second: bool,
-) -> Step
+) -> Result<usize, Refusal>
     requires node_in_bounds { 16 + 5 * node ≤ length card.now }
-    requires at_le_given { (b.at ≤ b.given) × ((b.given ≤ length steps.now) × (b.given ≤ 255)) }
+    requires given { (b.at ≤ b.given) × ((b.given ≤ length steps.now) × (b.given ≤ 255)) }
     ensures { SideTaking card.now steps.now b node first second result }
 {
-    let at = b.at;
-    let here = Place::Step(at as u16);
-    if b.given == at {
-        return wrong(18, here);
+    let c = next(steps, b)?;
+    if c == 254 && first {
+        return Ok(left(card, node));
     }
-    let c = byte(steps, at);
-    let is_left = both(c == 254, first);
-    if is_left {
-        return Step::Taken(left(card, node));
+    if c == 255 && second {
+        return Ok(right(card, node));
     }
-    let is_right = both(c == 255, second);
-    if is_right {
-        return Step::Taken(right(card, node));
-    }
-    wrong(13, here)
+    Err(Refusal {
+        fault: Fault::Step,
+        place: b.here(),
+    })
 }

@@ -10,34 +10,35 @@ ghost use Rattle.lines.specs.Count.{bit};
 ghost use Rattle.scope.specs.Inner.Sets.{strict_of};
 ghost use Rattle.summary.specs.Inner.Walks.{WalkReady, GoalWalkReady, ClauseReady, StepUsable, GoalWalks, ClauseWalks, UseWalks};
 
+use card::Refusal;
 use card::format::{byte, kind, left, line_byte, right};
-use summary::{Position, Step, Walked, astray, next_side, next_step};
+use card::kinds::{Kind, kind_of};
+use scope::{Tables, usable};
+use summary::{Position, Summary, next_side, next_step};
 
 // A goal.
 #[cycle(walk_list)]
 pub fn walk(
     card: &[u8],
     steps: &[u8],
-    nodes: &mut [u16; 256],
-    linear: &mut [bool; 256],
+    tables: &mut Tables,
     b: Position,
     node: usize,
-) -> Walked
-    requires walk_ready { WalkReady card.now steps.now nodes.old linear.old b }
+) -> Result<Summary, Refusal>
+    requires walk_ready { WalkReady card.now steps.now tables.old b }
     requires goal_walk_ready { GoalWalkReady card.now b node }
-    ensures { GoalWalks card.now steps.now nodes.old nodes.new
-        linear.old linear.new b node result }
+    ensures { GoalWalks card.now steps.now tables.old tables.new b node result }
 {
-    let k = kind(card, node);
-    match k {
-        1 => walk_atom(card, steps, nodes, linear, b, node),
-        2 => Walked::Ended(b.ended(true, true)),
-        3 => Walked::Ended(b.ended(false, true)),
-        4 => walk_tensor(card, steps, nodes, linear, b, node),
-        5 => walk_with(card, steps, nodes, linear, b, node),
-        6 => walk_lend(card, steps, nodes, linear, b, node),
-        8 => walk_one_of(card, steps, nodes, linear, b, node),
-        _ => Walked::Ended(b.ended(false, false)),
+    match kind_of(card, node) {
+        Kind::Atom => walk_atom(card, steps, tables, b, node),
+        Kind::Top => Ok(b.ended(true, true)),
+        Kind::One => Ok(b.ended(false, true)),
+        Kind::Tensor => walk_tensor(card, steps, tables, b, node),
+        Kind::With => walk_with(card, steps, tables, b, node),
+        Kind::Lend => walk_lend(card, steps, tables, b, node),
+        Kind::Oplus => walk_one_of(card, steps, tables, b, node),
+        // 0. A goal is neither a recipe nor a menu, nor of an unknown kind.
+        Kind::Zero | Kind::Recipe | Kind::Menu | Kind::Unknown => Ok(b.ended(false, false)),
     }
 }
 
@@ -46,28 +47,18 @@ pub fn walk(
 fn walk_tensor(
     card: &[u8],
     steps: &[u8],
-    nodes: &mut [u16; 256],
-    linear: &mut [bool; 256],
+    tables: &mut Tables,
     b: Position,
     node: usize,
-) -> Walked
-    requires walk_ready { WalkReady card.now steps.now nodes.old linear.old b }
+) -> Result<Summary, Refusal>
+    requires walk_ready { WalkReady card.now steps.now tables.old b }
     requires goal_walk_ready { GoalWalkReady card.now b node }
-    requires node_value { kind_at card.now node ≡ 4 }
-    ensures { GoalWalks card.now steps.now nodes.old nodes.new
-        linear.old linear.new b node result }
+    requires kind { kind_at card.now node ≡ 4 }
+    ensures { GoalWalks card.now steps.now tables.old tables.new b node result }
 {
-    let l = left(card, node);
-    let first = walk(card, steps, nodes, linear, b, l);
-    let Walked::Ended(w) = first else {
-        return first;
-    };
-    let r = right(card, node);
-    let second = walk(card, steps, nodes, linear, b.on(w.at, w.met), r);
-    let Walked::Ended(v) = second else {
-        return second;
-    };
-    Walked::Ended(w.tensor(v))
+    let w = walk(card, steps, tables, b, left(card, node))?;
+    let v = walk(card, steps, tables, b.on(w.at, w.met), right(card, node))?;
+    Ok(w.tensor(v))
 }
 
 // G & H.
@@ -75,28 +66,18 @@ fn walk_tensor(
 fn walk_with(
     card: &[u8],
     steps: &[u8],
-    nodes: &mut [u16; 256],
-    linear: &mut [bool; 256],
+    tables: &mut Tables,
     b: Position,
     node: usize,
-) -> Walked
-    requires walk_ready { WalkReady card.now steps.now nodes.old linear.old b }
+) -> Result<Summary, Refusal>
+    requires walk_ready { WalkReady card.now steps.now tables.old b }
     requires goal_walk_ready { GoalWalkReady card.now b node }
-    requires node_value { kind_at card.now node ≡ 5 }
-    ensures { GoalWalks card.now steps.now nodes.old nodes.new
-        linear.old linear.new b node result }
+    requires kind { kind_at card.now node ≡ 5 }
+    ensures { GoalWalks card.now steps.now tables.old tables.new b node result }
 {
-    let l = left(card, node);
-    let first = walk(card, steps, nodes, linear, b, l);
-    let Walked::Ended(w) = first else {
-        return first;
-    };
-    let r = right(card, node);
-    let second = walk(card, steps, nodes, linear, b.on(w.at, b.met), r);
-    let Walked::Ended(v) = second else {
-        return second;
-    };
-    Walked::Ended(w.beside(v))
+    let w = walk(card, steps, tables, b, left(card, node))?;
+    let v = walk(card, steps, tables, b.on(w.at, b.met), right(card, node))?;
+    Ok(w.beside(v))
 }
 
 // D ⊸ G.
@@ -104,26 +85,18 @@ fn walk_with(
 fn walk_lend(
     card: &[u8],
     steps: &[u8],
-    nodes: &mut [u16; 256],
-    linear: &mut [bool; 256],
+    tables: &mut Tables,
     b: Position,
     node: usize,
-) -> Walked
-    requires walk_ready { WalkReady card.now steps.now nodes.old linear.old b }
+) -> Result<Summary, Refusal>
+    requires walk_ready { WalkReady card.now steps.now tables.old b }
     requires goal_walk_ready { GoalWalkReady card.now b node }
-    requires node_value { kind_at card.now node ≡ 6 }
-    ensures { GoalWalks card.now steps.now nodes.old nodes.new
-        linear.old linear.new b node result }
+    requires kind { kind_at card.now node ≡ 6 }
+    ensures { GoalWalks card.now steps.now tables.old tables.new b node result }
 {
-    let n = b.count;
-    scope::put(nodes, linear, n, left(card, node), true);
-    let item = n - b.rules;
-    let r = right(card, node);
-    let inner = walk(card, steps, nodes, linear, b.lent(), r);
-    let Walked::Ended(w) = inner else {
-        return inner;
-    };
-    Walked::Ended(w.without(item))
+    tables.put(b.count, left(card, node), true);
+    let w = walk(card, steps, tables, b.lent(), right(card, node))?;
+    Ok(w.without(b.count - b.rules))
 }
 
 // G ⊕ H: the part that the next step chooses.
@@ -131,22 +104,17 @@ fn walk_lend(
 fn walk_one_of(
     card: &[u8],
     steps: &[u8],
-    nodes: &mut [u16; 256],
-    linear: &mut [bool; 256],
+    tables: &mut Tables,
     b: Position,
     node: usize,
-) -> Walked
-    requires walk_ready { WalkReady card.now steps.now nodes.old linear.old b }
+) -> Result<Summary, Refusal>
+    requires walk_ready { WalkReady card.now steps.now tables.old b }
     requires goal_walk_ready { GoalWalkReady card.now b node }
-    requires node_value { kind_at card.now node ≡ 8 }
-    ensures { GoalWalks card.now steps.now nodes.old nodes.new
-        linear.old linear.new b node result }
+    requires kind { kind_at card.now node ≡ 8 }
+    ensures { GoalWalks card.now steps.now tables.old tables.new b node result }
 {
-    let next = next_side(card, steps, b, node, true, true);
-    let Step::Taken(side) = next else {
-        return astray(next);
-    };
-    walk(card, steps, nodes, linear, b.stepped(0), side)
+    let side = next_side(card, steps, b, node, true, true)?;
+    walk(card, steps, tables, b.stepped(0), side)
 }
 
 // A name.
@@ -154,23 +122,18 @@ fn walk_one_of(
 fn walk_atom(
     card: &[u8],
     steps: &[u8],
-    nodes: &mut [u16; 256],
-    linear: &mut [bool; 256],
+    tables: &mut Tables,
     b: Position,
     node: usize,
-) -> Walked
-    requires walk_ready { WalkReady card.now steps.now nodes.old linear.old b }
+) -> Result<Summary, Refusal>
+    requires walk_ready { WalkReady card.now steps.now tables.old b }
     requires goal_walk_ready { GoalWalkReady card.now b node }
-    requires node_value { kind_at card.now node ≡ 1 }
-    ensures { GoalWalks card.now steps.now nodes.old nodes.new
-        linear.old linear.new b node result }
+    requires kind { kind_at card.now node ≡ 1 }
+    ensures { GoalWalks card.now steps.now tables.old tables.new b node result }
 {
     let name = left(card, node);
-    let next = next_step(card, steps, nodes, linear, b, name);
-    let Step::Taken(e) = next else {
-        return astray(next);
-    };
-    use_clause(card, steps, nodes, linear, b, name, e)
+    let e = next_step(card, steps, tables, b, name)?;
+    use_clause(card, steps, tables, b, name, e)
 }
 
 // 1 where the item is a must line, else 0.
@@ -179,9 +142,10 @@ fn due(card: &[u8], item: usize) -> usize
     ensures { result ≡ bit (member (strict_of card.now) item) }
 {
     if item < byte(card, 4) {
-        return line_byte(card, item);
+        line_byte(card, item)
+    } else {
+        0
     }
-    0
 }
 
 // The use of an entry for a name.
@@ -189,29 +153,24 @@ fn due(card: &[u8], item: usize) -> usize
 fn use_clause(
     card: &[u8],
     steps: &[u8],
-    nodes: &mut [u16; 256],
-    linear: &mut [bool; 256],
+    tables: &mut Tables,
     b: Position,
     name: usize,
     e: usize,
-) -> Walked
-    requires walk_ready { WalkReady card.now steps.now nodes.old linear.old b }
-    requires step_usable { StepUsable card.now steps.now nodes.old b name e }
-    requires depth_bound { b.count + 1 + 6 * b.depth ≤ b.rules + 168 }
-    ensures { UseWalks card.now steps.now nodes.old nodes.new
-        linear.old linear.new b name result }
+) -> Result<Summary, Refusal>
+    requires walk_ready { WalkReady card.now steps.now tables.old b }
+    requires step_usable { StepUsable card.now steps.now tables.old b name e }
+    requires deep { b.count + 1 + 6 * b.depth ≤ b.rules + 168 }
+    ensures { UseWalks card.now steps.now tables.old tables.new b name result }
 {
-    let node = nodes[e] as usize;
-    let gone = linear[e];
-    let inner = clause(card, steps, nodes, linear, b.stepped(1), name, node);
-    let Walked::Ended(w) = inner else {
-        return inner;
-    };
+    let node = tables.nodes[e] as usize;
+    let gone = tables.linear[e];
+    let w = clause(card, steps, tables, b.stepped(1), name, node)?;
     if gone {
         let item = e - b.rules;
-        return Walked::Ended(w.using(item, due(card, item)));
+        return Ok(w.using(item, due(card, item)));
     }
-    Walked::Ended(w)
+    Ok(w)
 }
 
 // A clause in use for a name. Most are a head alone, which is met here: it has no conditions to go to.
@@ -219,21 +178,19 @@ fn use_clause(
 fn clause(
     card: &[u8],
     steps: &[u8],
-    nodes: &mut [u16; 256],
-    linear: &mut [bool; 256],
+    tables: &mut Tables,
     b: Position,
     name: usize,
     node: usize,
-) -> Walked
-    requires walk_ready { WalkReady card.now steps.now nodes.old linear.old b }
+) -> Result<Summary, Refusal>
+    requires walk_ready { WalkReady card.now steps.now tables.old b }
     requires clause_ready { ClauseReady card.now b name node }
-    ensures { ClauseWalks card.now steps.now nodes.old nodes.new
-        linear.old linear.new b name node result }
+    ensures { ClauseWalks card.now steps.now tables.old tables.new b name node result }
 {
     if kind(card, node) == 1 {
-        return Walked::Ended(b.ended(false, true));
+        return Ok(b.ended(false, true));
     }
-    conditions(card, steps, nodes, linear, b, name, node)
+    conditions(card, steps, tables, b, name, node)
 }
 
 // The conditions of a clause in use for a name: a head has none, a menu those of the part chosen.
@@ -241,25 +198,21 @@ fn clause(
 fn conditions(
     card: &[u8],
     steps: &[u8],
-    nodes: &mut [u16; 256],
-    linear: &mut [bool; 256],
+    tables: &mut Tables,
     b: Position,
     name: usize,
     node: usize,
-) -> Walked
-    requires walk_ready { WalkReady card.now steps.now nodes.old linear.old b }
+) -> Result<Summary, Refusal>
+    requires walk_ready { WalkReady card.now steps.now tables.old b }
     requires clause_ready { ClauseReady card.now b name node }
-    ensures { ClauseWalks card.now steps.now nodes.old nodes.new
-        linear.old linear.new b name node result }
+    ensures { ClauseWalks card.now steps.now tables.old tables.new b name node result }
 {
-    let k = kind(card, node);
-    if k == 1 {
-        return Walked::Ended(b.ended(false, true));
+    match kind_of(card, node) {
+        Kind::Atom => Ok(b.ended(false, true)),
+        Kind::Menu => menu(card, steps, tables, b, name, node),
+        // Of the other clauses only a recipe can be used for a name.
+        _ => recipe(card, steps, tables, b, name, node),
     }
-    if k == 10 {
-        return menu(card, steps, nodes, linear, b, name, node);
-    }
-    recipe(card, steps, nodes, linear, b, name, node)
 }
 
 // G ⊸ D in use for a name: the conditions of D, which are nearer the head, then G.
@@ -267,29 +220,19 @@ fn conditions(
 fn recipe(
     card: &[u8],
     steps: &[u8],
-    nodes: &mut [u16; 256],
-    linear: &mut [bool; 256],
+    tables: &mut Tables,
     b: Position,
     name: usize,
     node: usize,
-) -> Walked
-    requires walk_ready { WalkReady card.now steps.now nodes.old linear.old b }
+) -> Result<Summary, Refusal>
+    requires walk_ready { WalkReady card.now steps.now tables.old b }
     requires clause_ready { ClauseReady card.now b name node }
-    requires node_value { kind_at card.now node ≡ 7 }
-    ensures { ClauseWalks card.now steps.now nodes.old nodes.new
-        linear.old linear.new b name node result }
+    requires kind { kind_at card.now node ≡ 7 }
+    ensures { ClauseWalks card.now steps.now tables.old tables.new b name node result }
 {
-    let r = right(card, node);
-    let first = clause(card, steps, nodes, linear, b, name, r);
-    let Walked::Ended(w) = first else {
-        return first;
-    };
-    let l = left(card, node);
-    let second = walk(card, steps, nodes, linear, b.on(w.at, w.met), l);
-    let Walked::Ended(v) = second else {
-        return second;
-    };
-    Walked::Ended(w.tensor(v))
+    let w = clause(card, steps, tables, b, name, right(card, node))?;
+    let v = walk(card, steps, tables, b.on(w.at, w.met), left(card, node))?;
+    Ok(w.tensor(v))
 }
 
 // D & E in use for a name: the part that the next step chooses, one with a head that is the name.
@@ -297,23 +240,18 @@ fn recipe(
 fn menu(
     card: &[u8],
     steps: &[u8],
-    nodes: &mut [u16; 256],
-    linear: &mut [bool; 256],
+    tables: &mut Tables,
     b: Position,
     name: usize,
     node: usize,
-) -> Walked
-    requires walk_ready { WalkReady card.now steps.now nodes.old linear.old b }
+) -> Result<Summary, Refusal>
+    requires walk_ready { WalkReady card.now steps.now tables.old b }
     requires clause_ready { ClauseReady card.now b name node }
-    requires node_value { kind_at card.now node ≡ 10 }
-    ensures { ClauseWalks card.now steps.now nodes.old nodes.new
-        linear.old linear.new b name node result }
+    requires kind { kind_at card.now node ≡ 10 }
+    ensures { ClauseWalks card.now steps.now tables.old tables.new b name node result }
 {
-    let first = scope::usable(card, left(card, node), name);
-    let second = scope::usable(card, right(card, node), name);
-    let next = next_side(card, steps, b, node, first, second);
-    let Step::Taken(side) = next else {
-        return astray(next);
-    };
-    conditions(card, steps, nodes, linear, b.stepped(0), name, side)
+    let first = usable(card, left(card, node), name);
+    let second = usable(card, right(card, node), name);
+    let side = next_side(card, steps, b, node, first, second)?;
+    conditions(card, steps, tables, b.stepped(0), name, side)
 }

@@ -1,10 +1,6 @@
-use Prim.Native.Nat.{◌-◌, ◌≤◌}
 use Rattle.joined.specs.Joined.{moved_node, in_turn}
 use Rattle.joined.specs.Inner.Written.{Written}
 use Rattle.moved.proofs.put_nodes.Given as goal
 
 abbrev pub invariant-loop-i : goal.invariant-loop-i
-invariant-loop-i l = (l.i ≤ l.m) × Written l.initial.out l.out l.at (in_turn l.i (moved_node l.n l.card))
-
-abbrev pub decreases-loop-i : goal.decreases-loop-i
-decreases-loop-i l = l.m - l.i
+invariant-loop-i l = Written l.initial.out l.out l.at (in_turn l.i (moved_node l.n l.card))

@@ -1,16 +1,13 @@
-use Prim.Native.Nat.{◌+◌, ◌/◌, ◌%◌}
-use native.Mathlib.Omega.{arith}
-use mathlib.Core.Path.{refl}
-use lib.ListN.{length-set}
+-- `put_word` meets its contract: the high byte stands before the low one.
+use Rattle.std.proofs.Common.{◌≡◌, ◌+◌, ◌-◌, ◌/◌, ◌%◌, arith}
 use Rattle.card.specs.Sheet.{word}
-use Rattle.joined.proofs.WrittenInTurn.{one_written, written_byte}
+use Rattle.moved.proofs.SlicesWritten.{slice_written}
 use Rattle.moved.proofs.put_word.Goals as goal
-
-pub bounds-out-at-2 : goal.bounds-out-at-2
-bounds-out-at-2 c = simp length-set (omega arith)
 
 pub returns : goal.returns
 unfolding word
 returns c =
-    let s = c.args in
-    written_byte (one_written s.out.now s.at (s.value / 256) (omega arith)) (s.at + 1) (s.value % 256) refl (omega arith)
+    let v = c.args.value in
+    let high : v / 256 % 256 ≡ v / 256 = omega (arith, c.requires.value_bound) in
+    let two : c.args.at + 2 - c.args.at ≡ 2 = omega arith in
+    rw (c.copy_from_slice.ensures.after, c.to_be_bytes.ensures, high) (slice_written _ _ _ _ two)

@@ -1,9 +1,10 @@
 -- A scope as two tables: each entry's node, and whether it is linear.
-use Rattle.std.specs.Prelude.{ℕ, ◌<◌, ◌≤◌, ◌≡◌, Bool, true, false, List, length, get_or, take}
+use Rattle.std.specs.Prelude.{ℕ, ◌<◌, ◌≤◌, ◌≡◌, Bool, true, false, List, length, get_or, set, take}
 use Rattle.calculus.specs.Derivation.{Scope}
 use Rattle.card.specs.Format.{rule_count, node_count, listing}
 use Rattle.card.specs.Fault.{clause_part}
 use Rattle.card.specs.Decode.{clause_of, scope_of}
+use Rattle.scope.specs.declared.Tables.{Tables}
 
 -- The scope that the first n entries of the tables stand for, with the card's test of heads.
 unfoldable pub table_scope : List ℕ → List ℕ → List Bool → ℕ → Scope
@@ -23,3 +24,7 @@ pub record TableEntered (bs nodes : List ℕ) (linear : List Bool) (n : ℕ) : T
 pub record Kept {A : Type 0} (n : ℕ) (xs ys : List A) : Type 0 where
   pub size : length ys ≡ length xs
   pub same : take n ys ≡ take n xs
+
+-- The tables with the entry e, of this node, linear or not.
+abbrev pub put_t : Tables → ℕ → ℕ → Bool → Tables
+put_t t e node linear = record { nodes = set t.nodes e node; linear = set t.linear e linear }

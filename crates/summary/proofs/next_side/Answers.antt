@@ -1,36 +1,26 @@
 -- By the tests: a step left, the left choice, the right choice.
-use Prim.Native.Nat.{◌<◌}
-use native.Mathlib.Omega.{arith}
-use mathlib.Core.Path.{refl}
-use Rattle.card.specs.Verdict.{where_of}
+use Rattle.std.proofs.Common.{refl}
+use Rattle.std.proofs.lemmas.Result.{err_from_is_err_and}
 use Rattle.summary.proofs.StepsTell.{side_past, side_left, side_right, side_none}
 use Rattle.summary.proofs.next_side.Goals as goal
 
-pub returns-then-b-at : goal.returns-then-b-at
-unfolding where_of
-returns-then-b-at c =
+pub returns-in_err-c : goal.returns-in_err-c
+returns-in_err-c c =
     let a = c.args in
-    rw c.wrong.ensures (side_past _ _ a.b c.requires.at_le_given.1.0 a.node a.first a.second _ refl (omega (arith, c.if-b-at.true)))
+    let p = err_from_is_err_and c.from_residual.result c.from_residual.ensures.1 in
+    rw (p.1, p.2) (side_past _ _ a.b a.node a.first a.second _ c.in_err-c.ensures)
 
-pub byte-c-requires : goal.byte-c-requires
-byte-c-requires c = omega arith
+pub returns-then-first : goal.returns-then-first
+returns-then-first c =
+    let a = c.args in
+    side_left _ _ a.b a.node a.first a.second _ c.in_ok-c.ensures c.if-c-eq254.true c.if-first.true c.left.ensures.0
 
-pub returns-then-is_left : goal.returns-then-is_left
-returns-then-is_left c =
-    let room : c.args.b.at < c.args.b.given = omega arith in
-    side_left _ _ c.args.b c.requires.at_le_given.1.0 c.args.node c.args.first c.args.second _ room
-    c.byte-c.ensures.0 _ c.both-is_left.ensures c.if-is_left.true _ c.left.ensures.0
-
-pub returns-then-is_right : goal.returns-then-is_right
-returns-then-is_right c =
-    let room : c.args.b.at < c.args.b.given = omega arith in
-    side_right _ _ c.args.b c.requires.at_le_given.1.0 c.args.node c.args.first c.args.second _ room
-    c.byte-c.ensures.0 _ c.both-is_left.ensures _ c.both-is_right.ensures c.if-is_right.true _ c.right.ensures.0
+pub returns-then-second : goal.returns-then-second
+returns-then-second c =
+    let a = c.args in
+    side_right _ _ a.b a.node a.first a.second _ c.in_ok-c.ensures c.if-c-eq255.true c.if-second.true c.right.ensures.0
 
 pub returns : goal.returns
-unfolding where_of
 returns c =
-    let room : c.args.b.at < c.args.b.given = omega arith in
-    rw c.wrong-2.ensures
-    (side_none _ _ c.args.b c.requires.at_le_given.1.0 c.args.node c.args.first c.args.second _ room
-    c.byte-c.ensures.0 _ c.both-is_left.ensures _ c.both-is_right.ensures c.if-is_left.false c.if-is_right.false _ refl)
+    let a = c.args in
+    side_none _ _ a.b a.node a.first a.second _ c.in_ok-c.ensures c.else-c-eq254.either c.else-c-eq255.either _ c.here.ensures refl

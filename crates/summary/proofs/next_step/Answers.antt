@@ -1,62 +1,33 @@
--- By the tests: a step left, an entry in scope, a head that fits, nesting left.
-use native.Mathlib.Omega.{arith}
-use mathlib.Core.Path.{refl}
-use Rattle.card.specs.Verdict.{where_of}
-use Rattle.card.proofs.CardChecked.{sound_front}
-use Rattle.card.proofs.SoundNodes.{clause_lower}
-use Rattle.summary.proofs.StepsTell.{step_past, step_outside, step_unfit, step_deep, step_taken}
+-- By the tests: a step left, an entry in scope whose head fits, nesting left.
+use Rattle.std.proofs.Common.{◌∙◌}
+use Rattle.std.proofs.lemmas.Bool.{eqb-false}
+use Rattle.std.proofs.lemmas.Result.{err_from_is_err_and}
+use borrow.Author.Tests.{eqb-true, not-true, not-false}
+use Rattle.summary.proofs.StepsTell.{test_refused, test_passed, step_past, step_unfit, step_deep, step_taken, step_small}
 use Rattle.summary.proofs.next_step.Goals as goal
 
-pub overflow_cast-here : goal.overflow_cast-here
-overflow_cast-here c = omega (arith, c.requires.at, c.requires.short)
+pub returns-in_err-e : goal.returns-in_err-e
+returns-in_err-e c =
+    let p = err_from_is_err_and c.from_residual.result c.from_residual.ensures.1 in
+    rw (p.1, p.2) (step_past _ _ _ _ c.args.name _ c.in_err-e.ensures)
 
-pub overflow_sub-ahead : goal.overflow_sub-ahead
-overflow_sub-ahead c = c.requires.at
+pub returns-in_err-refuse : goal.returns-in_err-refuse
+returns-in_err-refuse c =
+    let r = test_refused _ _ _ _ c.in_err-refuse.ensures in
+    let p = err_from_is_err_and c.from_residual-in_err-refuse.result c.from_residual-in_err-refuse.ensures.1 in
+    rw (p.1, p.2) (step_unfit _ _ _ _ c.args.name _ c.in_ok-e.ensures _ c.fits.ensures _ (r.place ∙ c.here.ensures) r.number (not-true _ r.applied))
 
-pub returns-then-ahead-eq0 : goal.returns-then-ahead-eq0
-unfolding where_of
-returns-then-ahead-eq0 c =
-    rw c.wrong.ensures (step_past c.requires c.args.name _ refl (omega (arith, c.if-ahead-eq0.true, c.requires.at)))
-
-pub byte-e-requires : goal.byte-e-requires
-byte-e-requires c = omega (arith, c.if-ahead-eq0.false, c.requires.at, c.requires.given)
-
-pub returns-then-b-e : goal.returns-then-b-e
-unfolding where_of
-returns-then-b-e c =
-    rw c.wrong-then-b-e.ensures
-    (step_outside c.requires c.args.name _ (omega (arith, c.if-ahead-eq0.false, c.requires.at)) c.byte-e.ensures.0 _ refl c.if-b-e.true)
-
-pub offset_bounds-nodes-e : goal.offset_bounds-nodes-e
-offset_bounds-nodes-e c = omega (arith, c.byte-e.ensures.1)
-
-pub bounds-nodes-e : goal.bounds-nodes-e
-bounds-nodes-e c = c.byte-e.ensures.1
-
-pub overflow_cast-node : goal.overflow_cast-node
-overflow_cast-node c =
-    let low = clause_lower c.args.card.now _ _ (c.requires.entered.clauses _ c.if-b-e.false) in
-    let f = sound_front c.args.card.now c.requires.sound in
-    omega (arith, low, f.few)
-
-pub usable-unfit-requires : goal.usable-unfit-requires
-usable-unfit-requires c = record { sound = c.requires.sound; node_value = c.requires.entered.clauses _ c.if-b-e.false }
-
-pub returns-then-unfit : goal.returns-then-unfit
-unfolding where_of
-returns-then-unfit c =
-    rw c.wrong-then-unfit.ensures
-    (step_unfit c.requires c.args.name _ (omega (arith, c.if-ahead-eq0.false, c.requires.at)) c.byte-e.ensures.0 c.if-b-e.false _ refl
-    _ c.usable-unfit.ensures _ refl c.if-unfit.true)
-
-pub returns-then-deeper-eq0 : goal.returns-then-deeper-eq0
-unfolding where_of
-returns-then-deeper-eq0 c =
-    rw c.wrong-then-deeper-eq0.ensures
-    (step_deep c.requires c.args.name _ (omega (arith, c.if-ahead-eq0.false, c.requires.at)) c.byte-e.ensures.0 c.if-b-e.false _ refl
-    _ c.usable-unfit.ensures _ refl c.if-unfit.false c.if-deeper-eq0.true)
+pub returns-in_err-refuse-2 : goal.returns-in_err-refuse-2
+returns-in_err-refuse-2 c =
+    let r = test_refused _ _ _ _ c.in_err-refuse-2.ensures in
+    let p = err_from_is_err_and c.from_residual-in_err-refuse-2.result c.from_residual-in_err-refuse-2.ensures.1 in
+    rw (p.1, p.2) (step_deep _ _ _ _ c.args.name _ c.in_ok-e.ensures _ c.fits.ensures _ (r.place ∙ c.here-2.ensures) r.number
+    (not-false _ (test_passed _ _ _ c.in_ok-refuse.ensures)) (eqb-true _ _ r.applied))
 
 pub returns : goal.returns
 returns c =
-    step_taken c.requires c.args.name _ (omega (arith, c.if-ahead-eq0.false, c.requires.at)) c.byte-e.ensures.0 c.if-b-e.false _ refl
-    _ c.usable-unfit.ensures c.if-unfit.false (omega (arith, c.if-deeper-eq0.false))
+    step_taken _ _ _ _ c.args.name _ c.in_ok-e.ensures _ c.fits.ensures (not-false _ (test_passed _ _ _ c.in_ok-refuse.ensures))
+    (eqb-false _ _ (test_passed _ _ _ c.in_ok-refuse-2.ensures))
+
+pub fits-requires-clause-room : goal.fits-requires-clause-room
+fits-requires-clause-room c = step_small _ _ c.in_ok-e.ensures

@@ -5,15 +5,8 @@ use Rattle.lines.specs.declared.LineSet.{LineSet}
 use Rattle.lines.specs.Set.{member, is_empty_s, empty_s, add_s, take_s, cut_s, meet_s, join_s}
 use Rattle.lines.specs.Count.{count_s}
 use Rattle.lines.specs.Inner.Word.{empty_l, add_l, meet_l, join_l}
-use Rattle.card.specs.declared.Place.{Place}
-use Rattle.card.specs.declared.Place.TheVariants.{Steps}
-use Rattle.card.specs.declared.Refusal.{Refusal}
 use Rattle.summary.specs.declared.Position.{Position}
 use Rattle.summary.specs.declared.Summary.{Summary}
-use Rattle.summary.specs.declared.Walked.{Walked}
-use Rattle.summary.specs.declared.Walked.TheVariants.{Astray}
-use Rattle.summary.specs.declared.Step.{Step}
-use Rattle.summary.specs.declared.Step.TheVariants.{Taken, Wrong}
 
 -- how many of the must lines are used, by a scan
 abbrev pub scanned : LineSet → LineSet → ℕ
@@ -45,11 +38,6 @@ stepped_b b n = record { rules = b.rules; given = b.given; at = b.at + 1; count 
 
 abbrev pub ended_w : Position → Bool → Bool → Summary
 ended_w b slack alive = record { at = b.at; used = empty_s; slack = slack; alive = alive; met = b.met; sure = empty_l }
-
--- what a walk answers by its step's answer: what is wrong there; 13 of a step that is taken, where nothing is wrong
-unfoldable pub astray_w : Step → Walked
-astray_w (Taken e) = Astray (record { number = 13; place = Steps })
-astray_w (Wrong f) = Astray f
 
 abbrev pub tensor_w : Summary → Summary → Summary
 tensor_w w v = record {
@@ -97,6 +85,3 @@ using_w w item due = record {
   met = w.met + due;
   sure = add_l w.sure item;
 }
-
-abbrev pub wrong_f : ℕ → Place → Refusal
-wrong_f number place = record { number = number; place = place }
