@@ -15,7 +15,7 @@ fn read_sheet(card: &[u8], sheet: &[u8]) -> Result<u8, Refusal>
     sheet_front::front_check(card, sheet)?;
     let k = byte(sheet, 3);
     let steps = &sheet[5..5 + k];
-    let sure = trace::steps_check(card, steps)?;
+    let sure = trace::steps_check(card, steps, k)?;
     marks::marks_check(card, steps, sure, &sheet[5 + k..])?;
     Ok(k as u8)
 }

@@ -1,11 +1,9 @@
 -- `read_sheet` meets its contract: each check's refusal is the outcome, and where none refuses, acceptance is.
-use Rattle.std.proofs.Common.{◌≡◌, refl, sym, arith}
+use Rattle.std.proofs.Common.{refl, arith}
 use Rattle.std.proofs.lemmas.Result.{err_from_is_err_and}
-use Rattle.card.specs.Verdict.{sound}
 use Rattle.card.proofs.CardChecked.{passed, sound_front}
-use Rattle.sheet_front.specs.Front.{sheet_fault}
 use Rattle.sheet_front.proofs.SheetFits.{fitting}
-use Rattle.reader.proofs.ReaderExits.{found_misfit, steps_few, marks_room, found_wrong, found_list, found_sure, found_mark, found_right}
+use Rattle.reader.proofs.ReaderExits.{found_misfit, steps_room, marks_room, found_wrong, found_list, found_sure, found_mark, found_right}
 use Rattle.reader.proofs.read_sheet.Goals as goal
 
 pub front_check-requires : goal.front_check-requires
@@ -22,9 +20,11 @@ byte-k-requires c = let f = fitting _ _ (passed _ _ refl c.in_ok-front_check.ens
 pub slice_bounds-steps-end : goal.slice_bounds-steps-end
 slice_bounds-steps-end c = let f = fitting _ _ (passed _ _ refl c.in_ok-front_check.ensures) in omega arith
 
-pub steps_check-requires-clause-few_steps : goal.steps_check-requires-clause-few_steps
-steps_check-requires-clause-few_steps c =
-    steps_few _ _ _ c.requires (passed _ _ refl c.in_ok-front_check.ensures) c.byte-k.ensures.0
+pub steps_check-requires : goal.steps_check-requires
+steps_check-requires c =
+    let fits = passed _ _ refl c.in_ok-front_check.ensures in
+    let f = fitting _ _ fits in
+    record { sound = c.requires; k_in_bounds = steps_room _ _ _ c.requires fits c.byte-k.ensures.0; k_bound = omega arith }
 
 pub returns-in_err-sure : goal.returns-in_err-sure
 returns-in_err-sure c =
