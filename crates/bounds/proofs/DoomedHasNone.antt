@@ -18,7 +18,7 @@ use Rattle.agenda.specs.Inner.Sought.{Place, None, Spares}
 use Rattle.segment.specs.Inner.Tasks.{node_of, task_of, agenda_of}
 use Rattle.bounds.specs.Inner.Bound.{least_a, low_a, high_a, LendsA, too_long, too_few, too_many}
 use Rattle.bounds.specs.Inner.Table.{classes, OfCard, Settled, names_of, class_of}
-use Rattle.bounds.specs.Inner.Doom.{Coded, ScopeOfCard, least_sum, low_sum, high_sum, Short, few, many, Doomed, long, short}
+use Rattle.bounds.specs.Inner.Doom.{Coded, ScopeOfCard, task_sum, least_sum, low_sum, high_sum, Short, few, many, Doomed, long, short}
 use Rattle.bounds.proofs.NodesBounded.{goal_under, goal_lends, closed}
 use Rattle.bounds.proofs.AgendasBounded.{hopeless_none, least_spares}
 use Rattle.bounds.proofs.StockCounted.{stock_scoped, stock_counts}
@@ -35,7 +35,7 @@ module _ {bs names t masks : List ℕ} (s : Sound bs) (z : Settled bs names t ma
 
   module _ (c : ℕ) (q : c < classes names) where
     least_under : (n : ℕ) → Coded bs codes n → least_sum t codes n ≤ least_a (class_of names c) (names_of names t c) (agenda_of bs codes n)
-    unfolding least_sum least_a agenda_of task_of node_of
+    unfolding least_sum task_sum least_a agenda_of task_of node_of
     least_under zero g = omega arith
     least_under (suc n) g =
         let i = get_or codes n 0 / 32 in
@@ -44,7 +44,7 @@ module _ {bs names t masks : List ℕ} (s : Sound bs) (z : Settled bs names t ma
         omega arith
 
     low_under : (n : ℕ) → Coded bs codes n → low_sum t codes c n ≤ low_a (class_of names c) (names_of names t c) (agenda_of bs codes n)
-    unfolding low_sum low_a agenda_of task_of node_of
+    unfolding low_sum task_sum low_a agenda_of task_of node_of
     low_under zero g = omega arith
     low_under (suc n) g =
         let i = get_or codes n 0 / 32 in
@@ -54,7 +54,7 @@ module _ {bs names t masks : List ℕ} (s : Sound bs) (z : Settled bs names t ma
 
     high_under : (n : ℕ) → Coded bs codes n → high_sum t codes c n < 255
         → high_a (class_of names c) (names_of names t c) (agenda_of bs codes n) ≤ high_sum t codes c n
-    unfolding high_sum high_a agenda_of task_of node_of
+    unfolding high_sum task_sum high_a agenda_of task_of node_of
     high_under zero g h = omega arith
     high_under (suc n) g h =
         let i = get_or codes n 0 / 32 in

@@ -9,3 +9,4 @@ pub mod WordCounted
 pub mod CellsKept
 pub mod CodesRowed
 pub mod WaysSmall
+pub mod EachBelow

@@ -4,50 +4,34 @@ ghost use Rattle.card.specs.Format.{rule_count, line_count};
 ghost use Rattle.card.specs.Fault.{Sound};
 ghost use Rattle.lines.specs.Set.{member, join_s};
 ghost use Rattle.bounds.specs.Inner.Table.{NameCells, in_class};
-ghost use Rattle.bounds.specs.Inner.Doom.{Filed, Asked, Stores, least_sum, low_sum, high_sum, line_stock, lent_stock, stock, Unbalanced};
+ghost use Rattle.bounds.specs.Inner.Doom.{Filed, Rowed, Asked, Stores, task_sum, least_sum, low_sum, high_sum, line_stock, lent_stock, stock, Unbalanced};
 
 use crate::table::{class, classes, head, high, least, low, of_head};
 use card::format::byte;
 use lines::{LineSet, LineWord};
 
-// The bounds of the first len tasks, added up.
+// A bound by row, of the first len tasks together.
+fn task_sum<F: Fn(usize) -> usize>(agenda: &[u16; 104], len: usize, bound: F) -> usize
+    requires tasks { (len ≤ 104) × Rowed agenda.now len }
+    requires callable { (row : ℕ) → row ≤ 512 → F.pre bound row }
+    requires small { (row r : ℕ) → row ≤ 512 → F.post bound row r → r < 256 }
+    ensures total { (value : ℕ → ℕ) → ((row r : ℕ) → row ≤ 512 → F.post bound row r → r ≡ value row)
+        → result ≡ task_sum value agenda.now len }
+    ensures at_most { result ≤ 255 * len }
+{
+    let mut sum = 0;
+    for task in &agenda[..len] {
+        sum += bound(*task as usize / 32);
+    }
+    sum
+}
+
+// The least steps of the first len tasks together.
 pub fn least_sum(table: &[u8], agenda: &[u16; 104], len: usize) -> usize
     requires { Asked table.now agenda.now len }
     ensures { (result ≡ least_sum table.now agenda.now len) × (result ≤ 255 * len) }
 {
-    let mut sum = 0;
-    let mut i = 0;
-    while i < len {
-        sum += least(table, agenda[i] as usize / 32);
-        i += 1;
-    }
-    sum
-}
-
-fn low_sum(table: &[u8], agenda: &[u16; 104], len: usize, c: usize) -> usize
-    requires { Asked table.now agenda.now len × (c < 64) }
-    ensures { (result ≡ low_sum table.now agenda.now c len) × (result ≤ 255 * len) }
-{
-    let mut sum = 0;
-    let mut i = 0;
-    while i < len {
-        sum += low(table, agenda[i] as usize / 32, c);
-        i += 1;
-    }
-    sum
-}
-
-fn high_sum(table: &[u8], agenda: &[u16; 104], len: usize, c: usize) -> usize
-    requires { Asked table.now agenda.now len × (c < 64) }
-    ensures { (result ≡ high_sum table.now agenda.now c len) × (result ≤ 255 * len) }
-{
-    let mut sum = 0;
-    let mut i = 0;
-    while i < len {
-        sum += high(table, agenda[i] as usize / 32, c);
-        i += 1;
-    }
-    sum
+    task_sum(agenda, len, |row| least(table, row))
 }
 
 // The lines of class c in the set.
@@ -65,10 +49,7 @@ fn held(names: &[u16], s: LineSet, item: usize, node: usize, c: usize) -> bool
     requires { (node < 512) × ((c < 64) × NameCells names.now) }
     ensures { result ≡ (member s item && in_class names.now node c) }
 {
-    if !s.has(item) {
-        return false;
-    }
-    of_head(class(names, c), head(names, node))
+    s.has(item) && of_head(class(names, c), head(names, node))
 }
 
 // The first n lent clauses that are of class c and in the set.
@@ -81,17 +62,15 @@ fn lent_stock(
     n: usize,
     c: usize,
 ) -> usize
-    requires lines_bound { (lines ≤ 64) × ((first + n ≤ 256) × (c < 64)) }
-    requires name_cells { NameCells names.now × ((length nodes.now ≡ 256) × Filed nodes.now (first + n)) }
+    requires room { (lines ≤ 64) × ((first + n ≤ 256) × (c < 64)) }
+    requires stores { NameCells names.now × Filed nodes.now (first + n) }
     ensures { (result ≡ lent_stock names.now nodes.now s lines first c n) × (result ≤ n) }
 {
     let mut sum = 0;
-    let mut k = 0;
-    while k < n {
+    for k in 0..n {
         if held(names, s, lines + k, nodes[first + k] as usize, c) {
             sum += 1;
         }
-        k += 1;
     }
     sum
 }
@@ -107,7 +86,7 @@ fn in_stock(
     c: usize,
 ) -> usize
     requires sound { Sound card.now }
-    requires card_bound { (rule_count card.now + line_count card.now ≤ count) × ((count ≤ 256) × (c < 64)) }
+    requires counted { (rule_count card.now + line_count card.now ≤ count) × ((count ≤ 256) × (c < 64)) }
     requires stores { Stores names.now masks.now nodes.now count }
     ensures { result ≡ stock card.now names.now masks.now
         nodes.now count s c }
@@ -132,17 +111,14 @@ fn too_few(
     c: usize,
 ) -> bool
     requires sound { Sound card.now }
-    requires card_bound { (rule_count card.now + line_count card.now ≤ count) × ((count ≤ 256) × (c < 64)) }
+    requires counted { (rule_count card.now + line_count card.now ≤ count) × ((count ≤ 256) × (c < 64)) }
     requires stores { Stores names.now masks.now nodes.now count × Asked table.now agenda.now len }
     ensures { result ≡ true → (let bs = card.now in
         stock bs names.now masks.now nodes.now count (join_s strict lax) c
         < low_sum table.now agenda.now c len) }
 {
-    let lowest = low_sum(table, agenda, len, c);
-    if lowest == 0 {
-        return false;
-    }
-    in_stock(card, names, masks, nodes, count, strict.join(lax), c) < lowest
+    let lowest = task_sum(agenda, len, |row| low(table, row, c));
+    lowest != 0 && in_stock(card, names, masks, nodes, count, strict.join(lax), c) < lowest
 }
 
 // Whether more items of class c are strict than the agenda can take.
@@ -159,7 +135,7 @@ fn too_many(
     c: usize,
 ) -> bool
     requires sound { Sound card.now }
-    requires card_bound { (rule_count card.now + line_count card.now ≤ count) × ((count ≤ 256) × (c < 64)) }
+    requires counted { (rule_count card.now + line_count card.now ≤ count) × ((count ≤ 256) × (c < 64)) }
     requires stores { Stores names.now masks.now nodes.now count × Asked table.now agenda.now len }
     ensures { result ≡ true → (let bs = card.now in let h = high_sum table.now
         agenda.now c len in
@@ -169,11 +145,8 @@ fn too_many(
     if items == 0 {
         return false;
     }
-    let highest = high_sum(table, agenda, len, c);
-    if 255 <= highest {
-        return false;
-    }
-    highest < items
+    let highest = task_sum(agenda, len, |row| high(table, row, c));
+    highest < 255 && highest < items
 }
 
 // Whether some class has too few or too many items.
@@ -190,25 +163,16 @@ pub fn unbalanced(
     lax: LineSet,
 ) -> bool
     requires sound { Sound card.now }
-    requires card_bound { (rule_count card.now + line_count card.now ≤ count) × (count ≤ 256) }
+    requires counted { (rule_count card.now + line_count card.now ≤ count) × (count ≤ 256) }
     requires stores { Stores names.now masks.now nodes.now count × Asked table.now agenda.now len }
     ensures { result ≡ true → (let bs = card.now in Unbalanced bs names.now table.now
         masks.now nodes.now agenda.now len count strict lax) }
 {
-    let n = classes(names);
-    let mut c = 0;
-    while c < n {
-        if too_few(
+    (0..classes(names)).any(|c| {
+        too_few(
             card, names, table, masks, nodes, agenda, len, count, strict, lax, c,
-        ) {
-            return true;
-        }
-        if too_many(
+        ) || too_many(
             card, names, table, masks, nodes, agenda, len, count, strict, c,
-        ) {
-            return true;
-        }
-        c += 1;
-    }
-    false
+        )
+    })
 }

@@ -29,34 +29,31 @@ pub fn hopeless(
     room: usize,
 ) -> bool
     requires table_held { ready ≡ true → TableHeld card.now names.now table.now × (length masks.now ≡ 64) }
-    requires sound { Sound card.now × (length nodes.now ≡ 256) }
-    requires card_bound { (rule_count card.now + line_count card.now ≤ count) × (count ≤ 256) }
-    requires by_index { (e : ℕ) → e < count → clause_part card.now (node_count card.now) (get_or nodes.now e 0) ≡ true }
-    requires agenda_len { (length agenda.now ≡ 104) × ((len ≤ 104) × Coded card.now agenda.now len) }
+    requires sound { Sound card.now }
+    requires counted { (rule_count card.now + line_count card.now ≤ count) × (count ≤ 256) }
+    requires clauses { (e : ℕ) → e < count → clause_part card.now (node_count card.now) (get_or nodes.now e 0) ≡ true }
+    requires tasks { (len ≤ 104) × Coded card.now agenda.now len }
     ensures { result ≡ true → (ready ≡ true) × (let bs = card.now in
         Doomed bs names.now table.now masks.now nodes.now
         agenda.now len count strict lax room) }
 {
-    if !ready {
-        return false;
-    }
-    if room < doom::least_sum(table, agenda, len) {
-        return true;
-    }
-    doom::unbalanced(
-        card, names, table, masks, nodes, agenda, len, count, strict, lax,
-    )
+    ready
+        && (room < doom::least_sum(table, agenda, len)
+            || doom::unbalanced(
+                card, names, table, masks, nodes, agenda, len, count, strict, lax,
+            ))
 }
 
 // How many steps to keep free for the agenda. Without a table none.
 pub fn spared(ready: bool, card: &[u8], table: &[u8], agenda: &[u16; 104], len: usize) -> usize
     requires sound { Sound card.now × (ready ≡ true → TableCells table.now) }
-    requires agenda_len { (length agenda.now ≡ 104) × ((len ≤ 104) × Coded card.now agenda.now len) }
-    ensures upper_bound { (result ≤ least_sum table.now agenda.now len) × (result < 32768) }
-    ensures value { ready ≡ false → result ≡ 0 }
+    requires tasks { (len ≤ 104) × Coded card.now agenda.now len }
+    ensures at_most { (result ≤ least_sum table.now agenda.now len) × (result < 32768) }
+    ensures without_table { ready ≡ false → result ≡ 0 }
 {
-    if !ready {
-        return 0;
+    if ready {
+        doom::least_sum(table, agenda, len)
+    } else {
+        0
     }
-    doom::least_sum(table, agenda, len)
 }

@@ -1,10 +1,12 @@
 // The nodes of a sound card.
 ghost use Rattle.std.specs.Prelude.{◌≡◌, ◌<◌, ◌≤◌};
 ghost use Rattle.card.specs.Format.{node_count, rule_count, line_count, kind_at, left_at, right_at, rule_node, line_node};
+ghost use Rattle.card.specs.Kinds.{Numbered};
 ghost use Rattle.card.specs.Fault.{Sound};
 ghost use Rattle.bounds.specs.Inner.Table.{Node};
 
-use card::format::{kind, left, line_node, right, rule_node, word};
+use card::format::{left, line_node, right, rule_node, word};
+use card::kinds::{Kind, kind_of};
 
 pub fn node_count(card: &[u8]) -> usize
     requires { Sound card.now }
@@ -13,19 +15,19 @@ pub fn node_count(card: &[u8]) -> usize
     word(card, 5)
 }
 
-pub fn kind_at(card: &[u8], i: usize) -> usize
+pub fn kind_at(card: &[u8], i: usize) -> Kind
     requires sound { Sound card.now }
     requires node { Node card.now i }
-    ensures { result ≡ kind_at card.now i }
+    ensures { Numbered result (kind_at card.now i) }
 {
-    kind(card, i)
+    kind_of(card, i)
 }
 
-// The name of a node of kind 1.
+// The name of a node that is one.
 pub fn name_at(card: &[u8], i: usize) -> usize
     requires sound { Sound card.now }
     requires node { Node card.now i }
-    requires i_value { kind_at card.now i ≡ 1 }
+    requires atom { kind_at card.now i ≡ 1 }
     ensures { (result ≡ left_at card.now i) × (result < 1000) }
 {
     left(card, i)
@@ -35,7 +37,7 @@ pub fn name_at(card: &[u8], i: usize) -> usize
 pub fn left_part(card: &[u8], i: usize) -> usize
     requires sound { Sound card.now }
     requires node { Node card.now i }
-    requires bound { (3 < kind_at card.now i) × (kind_at card.now i ≡ 9 → ⊥) }
+    requires parts { (3 < kind_at card.now i) × (kind_at card.now i ≡ 9 → ⊥) }
     ensures { (result ≡ left_at card.now i) × Node card.now result }
 {
     left(card, i)
@@ -44,7 +46,7 @@ pub fn left_part(card: &[u8], i: usize) -> usize
 pub fn right_part(card: &[u8], i: usize) -> usize
     requires sound { Sound card.now }
     requires node { Node card.now i }
-    requires bound { (3 < kind_at card.now i) × (kind_at card.now i ≡ 9 → ⊥) }
+    requires parts { (3 < kind_at card.now i) × (kind_at card.now i ≡ 9 → ⊥) }
     ensures { (result ≡ right_at card.now i) × Node card.now result }
 {
     right(card, i)

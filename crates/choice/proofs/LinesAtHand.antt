@@ -1,13 +1,12 @@
--- Which entries can be used: a rule by its head alone, a line at hand by its head and the lines that it waits for. What is left of a set
--- of lines once its lowest is looked at.
+-- Of the lines only those at hand can be used. What is left of a set of lines once its lowest is looked at.
 use Prim.Native.Nat.{ℕ, ◌+◌, ◌-◌, ◌^◌, ◌≤◌, ◌<◌}
 use native.Mathlib.Omega.{arith}
 use mathlib.Core.Path.{◌≡◌, refl, sym, ap, ap₂, ◌∙◌}
-use mathlib.Core.Bool.{Bool, true, false, not, cond, ◌&&◌, ◌||◌, false≢true, and-true, and-false}
+use mathlib.Core.Bool.{Bool, true, false, not, ◌&&◌, ◌||◌, and-true, and-false}
 use mathlib.Core.List.{List}
 use lib.ListN.{get_or}
 use lib.Dec.{ltb, eqb}
-use borrow.Author.Tests.{lt-ltb, le-ltb, lt-leb, le-leb, ltb-false, eqb-true, not-true, not-false}
+use borrow.Author.Tests.{lt-ltb, le-ltb, le-leb, ltb-false, eqb-true, not-true, not-false}
 use Rattle.calculus.specs.Items.{◌∪◌}
 use Rattle.calculus.proofs.SetLaws.{and_left, and_right}
 use Rattle.card.specs.Format.{rule_count, line_count}
@@ -16,29 +15,10 @@ use Rattle.lines.specs.Inner.Word.{line_in, is_empty_l, lowest_l, rest_l}
 use Rattle.lines.proofs.LineLaws.{line_of, no_line, under_lowest, lowest_in, line_rest, rest_less}
 use Rattle.scope.specs.Inner.Sets.{items}
 use Rattle.entries.specs.Inner.Entries.{code_fits}
-use Rattle.entries.specs.Inner.Masks.{ready_by}
 use Rattle.branch.specs.declared.Branch.{Branch}
-use Rattle.choice.specs.Inner.Choice.{at_hand_by, open_to, takable_by, misses_by, RulesMissed, line_at_hand, HandFrom, Skips}
-
--- an entry whose code misses the name, and one whose code does not and has no menu
-misses_not : (bs : List ℕ) (code name : ℕ) → misses_by code name ≡ true → code_fits bs code name ≡ false
-unfolding misses_by code_fits
-misses_not bs code name m = go (ltb 1000 code) refl m
-  where
-    go : (t : Bool) → ltb 1000 code ≡ t → cond t false (not (eqb code name)) ≡ true → code_fits bs code name ≡ false
-    go true e m = absurd (false≢true m)
-    go false e m = rw (lt-ltb code 1001 (let h = ltb-false 1000 code e in omega arith)) (not-true (eqb code name) m)
-
-fits_plain : (bs : List ℕ) (code name : ℕ) → code ≤ 1000 → misses_by code name ≡ false → code_fits bs code name ≡ true
-unfolding misses_by code_fits
-fits_plain bs code name h m =
-    rw (lt-ltb code 1001 (omega arith)) (not-false (eqb code name) (rw (le-ltb 1000 code h) at m))
+use Rattle.choice.specs.Inner.Choice.{at_hand_by, open_to, takable_by, line_at_hand, HandFrom, ReachesAt}
 
 module _ (bs waits heads : List ℕ) (b : Branch) (name : ℕ) where
-  unfit : (e : ℕ) → code_fits bs (get_or heads e 0) name ≡ false → takable_by bs waits heads b name e ≡ false
-  unfolding takable_by
-  unfit e h = rw h (and-false (ltb e b.count))
-
   away : (e : ℕ) → open_to bs waits b e ≡ false → takable_by bs waits heads b name e ≡ false
   unfolding takable_by
   away e h = rw (h, and-false (code_fits bs (get_or heads e 0) name)) (and-false (ltb e b.count))
@@ -48,20 +28,6 @@ module _ (bs waits heads : List ℕ) (b : Branch) (name : ℕ) where
       → takable_by bs waits heads b name e ≡ r
   unfolding takable_by
   takes e r h k = rw (lt-ltb e b.count h) k
-
-  -- a rule
-  rule_open : (e : ℕ) → e < rule_count bs → open_to bs waits b e ≡ true
-  unfolding open_to at_hand_by ready_by
-  rule_open e h = rw (lt-leb (rule_count bs) e h, ready_by) refl
-
-  -- the rules that miss the name cannot be used
-  pub rules_skipped : {from e : ℕ} → RulesMissed bs heads name from e → rule_count bs ≤ b.count
-      → Skips bs waits heads b name (rule_count bs) from e
-  rules_skipped {from} {e} m s = record {
-    onward = m.onward;
-    passed = λ x h k. unfit x (misses_not bs (get_or heads x 0) name (m.passed x h k));
-    takable = λ h k. takes e true (omega arith) (rw (fits_plain bs (get_or heads e 0) name k (m.stops h), rule_open e h) refl);
-  }
 
   -- a line is at hand where one of the two sets has it
   hand_line : (x : ℕ) → x < 64 → at_hand_by (rule_count bs) (rule_count bs + x) b ≡ line_at_hand b x
@@ -76,17 +42,10 @@ module _ (bs waits heads : List ℕ) (b : Branch) (name : ℕ) where
   unfolding open_to
   line_gone x h g = away (rule_count bs + x) (rw (hand_line x h, g) refl)
 
-  line_here : (x : ℕ) (r : Bool) → x < 64 → rule_count bs + x < b.count → line_at_hand b x ≡ true
-      → (code_fits bs (get_or heads (rule_count bs + x) 0) name && ready_by (rule_count bs) (line_count bs) waits b.seen (rule_count bs + x)) ≡ r
-      → takable_by bs waits heads b name (rule_count bs + x) ≡ r
-  unfolding open_to
-  line_here x r h s g k = takes (rule_count bs + x) r s (rw (hand_line x h, g) k)
-
-  -- What a set of lines says that are still to be looked at, from the entry `from` on: they are at hand, and of the others none can be used.
+  -- What a set of lines says that are still to be looked at, from the entry `from` on: of the others none can be used.
   pub record Left (from : ℕ) (hand : LineWord) : Type 0 where
     pub fits : hand.bits < 2 ^ 64
     pub above : (x : ℕ) → line_in hand x ≡ true → from ≤ rule_count bs + x
-    pub held : (x : ℕ) → line_in hand x ≡ true → line_at_hand b x ≡ true
     pub others : (x : ℕ) → x < line_count bs → from ≤ rule_count bs + x → line_in hand x ≡ false
         → takable_by bs waits heads b name (rule_count bs + x) ≡ false
 
@@ -98,7 +57,6 @@ module _ (bs waits heads : List ℕ) (b : Branch) (name : ℕ) where
         let late = and_right (line_at_hand b x) (not (ltb x (from - rule_count bs))) (sym (h.line x) ∙ s) in
         let q = ltb-false x (from - rule_count bs) (not-true (ltb x (from - rule_count bs)) late) in
         omega arith;
-    held = λ x s. and_left (line_at_hand b x) (not (ltb x (from - rule_count bs))) (sym (h.line x) ∙ s);
     others = λ x k l s.
         line_gone x (omega arith)
         (sym (and-true (line_at_hand b x)) ∙ ap (λ (u : Bool). line_at_hand b x && not u) (sym (le-ltb x (from - rule_count bs) (omega arith)))
@@ -124,16 +82,11 @@ module _ (bs waits heads : List ℕ) (b : Branch) (name : ℕ) where
     pub left_none : is_empty_l hand ≡ true → (x : ℕ) → from ≤ x → x < rule_count bs + line_count bs → takable_by bs waits heads b name x ≡ false
     left_none z x h l = unlit x h l (no_line hand z (x - rule_count bs))
 
-    -- the lowest, if there is one
-    left_lowest : is_empty_l hand ≡ false → (from ≤ rule_count bs + low) × (line_at_hand b low ≡ true)
-    left_lowest n = let s = lowest_in hand L.fits n in (L.above low s, L.held low s)
-
     -- those behind it, where it cannot be used either
     left_more : is_empty_l hand ≡ false → takable_by bs waits heads b name (rule_count bs + low) ≡ false → Left from (rest_l hand)
     left_more n g = record {
       fits = let l = L.fits in omega (arith, rest_less hand L.fits n);
       above = λ x s. L.above x (and_left (line_in hand x) (not (eqb x low)) (sym (line_rest hand L.fits n x) ∙ s));
-      held = λ x s. L.held x (and_left (line_in hand x) (not (eqb x low)) (sym (line_rest hand L.fits n x) ∙ s));
       others = λ x k l s. go x k l (sym (line_rest hand L.fits n x) ∙ s) (line_in hand x) refl;
     }
       where
@@ -144,26 +97,20 @@ module _ (bs waits heads : List ℕ) (b : Branch) (name : ℕ) where
             ap (λ (y : ℕ). takable_by bs waits heads b name (rule_count bs + y)) q ∙ g
         go x k l s false e = L.others x k l e
 
-    -- the end of the lines, and a line that is not passed
-    pub lines_end : (e : ℕ) → e ≡ rule_count bs + line_count bs → from ≤ e
-        → ((x : ℕ) → from ≤ x → x < e → takable_by bs waits heads b name x ≡ false)
-        → Skips bs waits heads b name (rule_count bs + line_count bs) from e
-    lines_end e q o p = record { onward = o; passed = p; takable = λ h k. absurd (omega arith) }
-
-    pub line_reached : is_empty_l hand ≡ false → (e : ℕ) → e ≡ rule_count bs + low → e < rule_count bs + line_count bs → line_count bs ≤ 64
+    -- the lowest is not passed
+    pub line_reached : is_empty_l hand ≡ false → (e : ℕ) → e ≡ rule_count bs + low → e < rule_count bs + line_count bs
         → rule_count bs + line_count bs ≤ b.count
-        → (get_or heads e 0 ≤ 1000 → (code_fits bs (get_or heads e 0) name && ready_by (rule_count bs) (line_count bs) waits b.seen e) ≡ true)
-        → Skips bs waits heads b name (rule_count bs + line_count bs) from e
-    line_reached n e q k t s u = record {
-      onward = let o = (left_lowest n).0 in omega arith;
+        → (get_or heads e 0 ≤ 1000 → (code_fits bs (get_or heads e 0) name && open_to bs waits b e) ≡ true)
+        → ReachesAt bs waits heads b name from (rule_count bs + line_count bs) e
+    line_reached n e q k s u = record {
+      onward = let o = L.above low (lowest_in hand L.fits n) in omega arith;
+      ends = k;
+      reached = record { inside = omega arith; takable = λ p. takes e true (omega arith) (u p) };
       passed = left_passed e (omega arith) (omega arith);
-      takable = λ h p. ap (takable_by bs waits heads b name) q
-          ∙ line_here low true (omega arith) (omega arith) (left_lowest n).1 (rw q at (u p));
     }
 
-    -- a line that is passed
-    pub line_passed : is_empty_l hand ≡ false → (e : ℕ) → e ≡ rule_count bs + low → e < rule_count bs + line_count bs → line_count bs ≤ 64
+    -- the lowest is passed
+    pub line_passed : is_empty_l hand ≡ false → (e : ℕ) → e ≡ rule_count bs + low → e < rule_count bs + line_count bs
         → rule_count bs + line_count bs ≤ b.count
-        → (code_fits bs (get_or heads e 0) name && ready_by (rule_count bs) (line_count bs) waits b.seen e) ≡ false
-        → Left from (rest_l hand)
-    line_passed n e q k t s u = left_more n (line_here low false (omega arith) (omega arith) (left_lowest n).1 (rw q at u))
+        → (code_fits bs (get_or heads e 0) name && open_to bs waits b e) ≡ false → Left from (rest_l hand)
+    line_passed n e q k s u = left_more n (rw q at (takes e false (omega arith) u))

@@ -5,61 +5,45 @@ ghost use Rattle.std.specs.Prelude.{◌≡◌, ℕ, ◌+◌, ◌-◌, ◌≤◌,
 ghost use Rattle.card.specs.Format.{node_count, rule_count, line_count};
 ghost use Rattle.card.specs.Fault.{Sound, clause_part};
 ghost use Rattle.entries.specs.Inner.Entries.{code_fits};
-ghost use Rattle.choice.specs.Inner.Choice.{at_hand_by, open_to, takable_by, Testing, Passes, PassesLine, misses_by, RulesMissed};
-ghost use Rattle.choice.specs.Inner.Choice.{HandFrom, Skips, Reached, Seeks, FirstEntry, keeps_by, open_by, gives};
+ghost use Rattle.choice.specs.Inner.Choice.{at_hand_by, open_to, takable_by, Testing, Passes};
+ghost use Rattle.choice.specs.Inner.Choice.{HandFrom, Reaches, Reached, Seeks, FirstEntry, keeps_by, open_by, gives};
 
 use branch::{Branch, Floor, Outcome};
 use card::format::byte;
 use lines::{LineSet, LineWord};
 
-// The least usable entry.
-#[derive(Clone, Copy)]
-pub enum Sought {
-    At(usize),
-    Nothing,
-}
-
 // The entry is a rule or an item at hand.
 pub fn at_hand(rules: usize, e: usize, b: Branch) -> bool
     ensures { result ≡ at_hand_by rules e b }
 {
-    let strict = b.strict;
-    let lax = b.lax;
-    if e < rules {
-        return true;
-    }
-    if strict.has(e - rules) {
-        return true;
-    }
-    lax.has(e - rules)
+    e < rules || b.strict.has(e - rules) || b.lax.has(e - rules)
 }
 
 // Some head of the code is the name.
+#[tactic(auto, unfolding(entries::specs::Inner::Entries::code_fits))]
 fn fits(card: &[u8], code: usize, name: usize) -> bool
     requires sound { Sound card.now }
-    requires code_value { 1001 ≤ code → clause_part card.now (node_count card.now) (code - 1001) ≡ true }
+    requires a_menu { 1001 ≤ code → clause_part card.now (node_count card.now) (code - 1001) ≡ true }
     ensures { result ≡ code_fits card.now code name }
 {
     if code < 1001 {
-        return code == name;
+        code == name
+    } else {
+        scope::usable(card, code - 1001, name)
     }
-    scope::usable(card, code - 1001, name)
 }
 
 // The entry is at hand, and the lines that it waits for are seen.
 fn open(card: &[u8], waits: &[u64; 64], b: Branch, e: usize) -> bool
-    requires { Sound card.now × (length waits.now ≡ 64) }
+    requires { Sound card.now }
     ensures { result ≡ open_to card.now waits.now b e }
 {
     let rules = byte(card, 3);
-    let hand = at_hand(rules, e, b);
-    if !hand {
-        return false;
-    }
-    entries::ready(rules, byte(card, 4), waits, b.seen, e)
+    at_hand(rules, e, b) && entries::ready(rules, byte(card, 4), waits, b.seen, e)
 }
 
 // The entry can be used for the name.
+#[tactic(auto, unfolding(crate::specs::Inner::Choice::takable_by))]
 pub fn usable(
     card: &[u8],
     waits: &[u64; 64],
@@ -71,59 +55,37 @@ pub fn usable(
     requires { Testing card.now waits.now heads.now b }
     ensures { result ≡ takable_by card.now waits.now heads.now b name e }
 {
-    if b.count <= e {
-        return false;
-    }
-    let code = heads[e] as usize;
-    let good = fits(card, code, name);
-    if !good {
-        return false;
-    }
-    open(card, waits, b, e)
+    e < b.count && fits(card, heads[e] as usize, name) && open(card, waits, b, e)
 }
 
 // The entry cannot be used for the name; where it has a menu, that is not asked.
 fn passes(card: &[u8], waits: &[u64; 64], b: Branch, name: usize, code: usize, e: usize) -> bool
-    requires { Sound card.now × (length waits.now ≡ 64) }
+    requires { Sound card.now }
     ensures { Passes card.now waits.now b name code e result }
 {
-    if 1000 < code {
-        return false;
-    }
-    if code != name {
-        return true;
-    }
-    let free = open(card, waits, b, e);
-    !free
+    code <= 1000 && (code != name || !open(card, waits, b, e))
 }
 
-// The entry has neither a menu nor the name for its head.
-fn misses(code: usize, name: usize) -> bool
-    ensures { result ≡ misses_by code name }
+// The least of the entries from one on and below the end that is not passed.
+fn reach(
+    card: &[u8],
+    waits: &[u64; 64],
+    heads: &[u16; 256],
+    b: Branch,
+    name: usize,
+    from: usize,
+    end: usize,
+) -> Option<usize>
+    requires testing { Testing card.now waits.now heads.now b }
+    requires within { end ≤ b.count }
+    ensures { Reaches card.now waits.now heads.now b name from end result }
 {
-    if 1000 < code {
-        return false;
-    }
-    code != name
-}
-
-// Past the rules that miss the name, from the given entry on: to the least that does not, or to their end.
-fn skip_rules(card: &[u8], heads: &[u16; 256], name: usize, from: usize) -> usize
-    requires sound { Sound card.now × (length heads.now ≡ 256) }
-    requires by_index { (e : ℕ) → e < rule_count card.now → get_or heads.now e 0 < 1513 }
-    ensures { RulesMissed card.now heads.now name from result }
-{
-    let rules = byte(card, 3);
-    let mut e = from;
-    while e < rules {
-        let code = heads[e] as usize;
-        let on = misses(code, name);
-        if !on {
-            return e;
+    for e in from..end {
+        if !passes(card, waits, b, name, heads[e] as usize, e) {
+            return Some(e);
         }
-        e += 1;
     }
-    e
+    None
 }
 
 // The lines at hand from line i on.
@@ -131,90 +93,41 @@ fn hand_from(b: Branch, i: usize) -> LineWord
     requires { i < 64 }
     ensures { HandFrom b i result }
 {
-    let strict = b.strict;
-    let hand = strict.join(b.lax);
-    let late = hand.cut(LineSet::full(i));
-    late.lines()
+    let hand = b.strict.join(b.lax);
+    hand.cut(LineSet::full(i)).lines()
 }
 
-// The line at hand cannot be used for the name; where it has a menu, that is not asked.
-fn passes_line(
-    card: &[u8],
-    waits: &[u64; 64],
-    b: Branch,
-    name: usize,
-    code: usize,
-    e: usize,
-) -> bool
-    requires { Sound card.now × (length waits.now ≡ 64) }
-    ensures { PassesLine card.now waits.now b name code e result }
-{
-    if 1000 < code {
-        return false;
-    }
-    if code != name {
-        return true;
-    }
-    let seen = entries::ready(byte(card, 3), byte(card, 4), waits, b.seen, e);
-    !seen
-}
-
-// Past the lines that cannot be used, from the given entry on, which is no rule. Only those at hand are looked at, the lowest first.
-fn skip_lines(
+// The least line from an entry on, which is no rule, that is not passed. Only those at hand are looked at, the lowest first.
+fn reach_line(
     card: &[u8],
     waits: &[u64; 64],
     heads: &[u16; 256],
     b: Branch,
     name: usize,
     from: usize,
-) -> usize
-    requires { Testing card.now waits.now heads.now b × (rule_count card.now ≤ from) }
+) -> Option<usize>
+    requires testing { Testing card.now waits.now heads.now b }
+    requires past_rules { rule_count card.now ≤ from }
     ensures { let bs = card.now in
-        Skips bs waits.now heads.now b name (rule_count bs + line_count bs) from result }
+        Reaches bs waits.now heads.now b name from (rule_count bs + line_count bs) result }
 {
     let rules = byte(card, 3);
     let end = rules + byte(card, 4);
     if end <= from {
-        return from;
+        return None;
     }
     let mut hand = hand_from(b, from - rules);
     while !hand.is_empty() {
         let e = rules + hand.lowest();
         if end <= e {
-            return end;
+            return None;
         }
-        let code = heads[e] as usize;
-        let on = passes_line(card, waits, b, name, code, e);
-        if !on {
-            return e;
+        if !passes(card, waits, b, name, heads[e] as usize, e) {
+            return Some(e);
         }
         hand = hand.without_lowest();
     }
-    end
-}
-
-// Past the lent clauses that cannot be used, from the given entry on.
-fn skip_lent(
-    card: &[u8],
-    waits: &[u64; 64],
-    heads: &[u16; 256],
-    b: Branch,
-    name: usize,
-    from: usize,
-) -> usize
-    requires { Testing card.now waits.now heads.now b }
-    ensures { Skips card.now waits.now heads.now b name b.count from result }
-{
-    let mut e = from;
-    while e < b.count {
-        let code = heads[e] as usize;
-        let on = passes(card, waits, b, name, code, e);
-        if !on {
-            return e;
-        }
-        e += 1;
-    }
-    e
+    None
 }
 
 // The least usable entry from one with a menu on.
@@ -225,19 +138,16 @@ fn seek_on(
     b: Branch,
     name: usize,
     from: usize,
-) -> Sought
+) -> Option<usize>
     requires { Testing card.now waits.now heads.now b }
     ensures { Seeks card.now waits.now heads.now b name from result }
 {
-    let mut e = from;
-    while e < b.count {
-        let good = usable(card, waits, heads, b, name, e);
-        if good {
-            return Sought::At(e);
+    for e in from..b.count {
+        if usable(card, waits, heads, b, name, e) {
+            return Some(e);
         }
-        e += 1;
     }
-    Sought::Nothing
+    None
 }
 
 // The entry itself, where it has no menu, and so is usable; else the least usable one from it on.
@@ -248,16 +158,16 @@ fn found(
     b: Branch,
     name: usize,
     e: usize,
-) -> Sought
+) -> Option<usize>
     requires testing { Testing card.now waits.now heads.now b }
     requires reached { Reached card.now waits.now heads.now b name e }
     ensures { Seeks card.now waits.now heads.now b name e result }
 {
-    let code = heads[e] as usize;
-    if code < 1001 {
-        return Sought::At(e);
+    if heads[e] < 1001 {
+        Some(e)
+    } else {
+        seek_on(card, waits, heads, b, name, e)
     }
-    seek_on(card, waits, heads, b, name, e)
 }
 
 // The least usable entry from the given one on: a rule, a line, or a lent clause.
@@ -268,66 +178,61 @@ pub fn seek(
     b: Branch,
     name: usize,
     from: usize,
-) -> Sought
+) -> Option<usize>
     requires { Testing card.now waits.now heads.now b }
     ensures { Seeks card.now waits.now heads.now b name from result }
 {
     let rules = byte(card, 3);
-    let rule = skip_rules(card, heads, name, from);
-    if rule < rules {
-        return found(card, waits, heads, b, name, rule);
+    let scope = rules + byte(card, 4);
+    if let Some(e) = reach(card, waits, heads, b, name, from, rules) {
+        return found(card, waits, heads, b, name, e);
     }
-    let line = skip_lines(card, waits, heads, b, name, rule);
-    if line < rules + byte(card, 4) {
-        return found(card, waits, heads, b, name, line);
+    if let Some(e) = reach_line(card, waits, heads, b, name, from.max(rules)) {
+        return found(card, waits, heads, b, name, e);
     }
-    let e = skip_lent(card, waits, heads, b, name, line);
-    if b.count <= e {
-        return Sought::Nothing;
-    }
+    let e = reach(card, waits, heads, b, name, from.max(scope), b.count)?;
     found(card, waits, heads, b, name, e)
 }
 
 // The least entry to be taken at a place: the given step, or the least after the given ones.
+#[tactic(auto, unfolding(crate::specs::Inner::Choice::first_at, crate::specs::Inner::Choice::from_at))]
 pub fn first_at(tape: &[u8], f: Floor, at: usize) -> usize
     requires { (f.fixed ≤ 255) × (length tape.now ≡ 255) }
     ensures { FirstEntry f at tape.now result }
 {
     if at < f.fixed {
-        return byte(tape, at);
+        byte(tape, at)
+    } else if at == f.fixed {
+        f.from
+    } else {
+        0
     }
-    if at == f.fixed {
-        return f.from;
-    }
-    0
 }
 
 // The entry is a given step.
+#[tactic(auto, unfolding(crate::specs::Inner::Choice::keeps_by))]
 pub fn keeps(f: Floor, at: usize, first: usize, e: usize) -> bool
     ensures { result ≡ keeps_by f at first e }
 {
-    if at < f.fixed {
-        return e == first;
-    }
-    false
+    at < f.fixed && e == first
 }
 
 // No floor bears on the place.
+#[tactic(auto, unfolding(crate::specs::Inner::Choice::open_by))]
 pub fn unfloored(f: Floor, at: usize, first: usize) -> bool
     ensures { result ≡ open_by f at first }
 {
-    if at < f.fixed {
-        return false;
-    }
-    first == 0
+    f.fixed <= at && first == 0
 }
 
 // Nothing is found, or the search gives up.
+#[tactic(auto, unfolding(crate::specs::Inner::Choice::gives))]
 pub fn given_up(tired: bool) -> Outcome
     ensures { result ≡ gives tired }
 {
     if tired {
-        return Outcome::Tired;
+        Outcome::Tired
+    } else {
+        Outcome::Stuck
     }
-    Outcome::Stuck
 }

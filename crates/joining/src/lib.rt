@@ -12,6 +12,7 @@ use fields::{depth, joined_length, put_both, steps};
 use moved::{put_lines, put_nodes, put_rules, put_word};
 
 // Bytes 2 to 4: the version, P and T.
+#[tactic(auto, using(card::proofs::CardChecked::front_here))]
 fn put_counts(first: &[u8], second: &[u8], out: &mut [u8])
     requires first_sound { Sound first.now }
     requires second_sound { Sound second.now }
@@ -19,11 +20,7 @@ fn put_counts(first: &[u8], second: &[u8], out: &mut [u8])
     ensures { Written out.old out.new 2
         (joined_counts first.now second.now) }
 {
-    let rules = byte(first, 3) + byte(second, 3);
-    let lines = byte(first, 4) + byte(second, 4);
-    out[2] = 1;
-    out[3] = rules as u8;
-    out[4] = lines as u8;
+    out[2..5].copy_from_slice(&[1, first[3] + second[3], first[4] + second[4]]);
 }
 
 // Bytes 9 and 10: d and s.
@@ -34,11 +31,11 @@ fn put_limits(first: &[u8], second: &[u8], out: &mut [u8])
     ensures { Written out.old out.new 9
         (joined_limits first.now second.now) }
 {
-    out[9] = depth(first, second);
-    out[10] = steps(first, second);
+    out[9..11].copy_from_slice(&[depth(first, second), steps(first, second)]);
 }
 
 // Bytes 0 to 10.
+#[tactic(auto, using(card::proofs::CardChecked::front_here))]
 fn put_front(first: &[u8], second: &[u8], out: &mut [u8])
     requires first_sound { Sound first.now }
     requires second_sound { Sound second.now }
@@ -55,6 +52,7 @@ fn put_front(first: &[u8], second: &[u8], out: &mut [u8])
 }
 
 // The nodes: the first's, the second's shifted, and both of the two goals.
+#[tactic(auto, using(card::proofs::CardChecked::front_here))]
 fn put_all_nodes(first: &[u8], second: &[u8], out: &mut [u8])
     requires first_sound { Sound first.now }
     requires second_sound { Sound second.now }
@@ -70,6 +68,7 @@ fn put_all_nodes(first: &[u8], second: &[u8], out: &mut [u8])
 }
 
 // The rules, from this place on: the first's, and the second's shifted.
+#[tactic(auto, using(card::proofs::CardChecked::front_here))]
 fn put_all_rules(first: &[u8], second: &[u8], out: &mut [u8], at: usize)
     requires first_sound { Sound first.now }
     requires second_sound { Sound second.now }
@@ -83,6 +82,7 @@ fn put_all_rules(first: &[u8], second: &[u8], out: &mut [u8], at: usize)
 }
 
 // The lines, from this place on: the first's, and the second's shifted.
+#[tactic(auto, using(card::proofs::CardChecked::front_here))]
 fn put_all_lines(first: &[u8], second: &[u8], out: &mut [u8], at: usize)
     requires first_sound { Sound first.now }
     requires second_sound { Sound second.now }
@@ -96,6 +96,7 @@ fn put_all_lines(first: &[u8], second: &[u8], out: &mut [u8], at: usize)
 }
 
 // The whole joined card. Bytes past it keep what they held.
+#[tactic(auto, using(card::proofs::CardChecked::front_here))]
 pub fn put_joined(first: &[u8], second: &[u8], out: &mut [u8])
     requires first_sound { Sound first.now }
     requires second_sound { Sound second.now }

@@ -12,20 +12,15 @@ pub fn words_of(b: Branch) -> [u64; 9]
     requires { b.at ≤ b.limit }
     ensures { result ≡ key_words b }
 {
-    let strict = b.strict;
-    let lax = b.lax;
-    let seen = b.seen;
-    let len = b.len as u64;
-    let room = (b.limit - b.at) as u64;
     [
-        strict.low,
-        strict.mid,
-        strict.high,
-        lax.low,
-        lax.mid,
-        lax.high,
-        seen.bits,
-        len,
-        room,
+        b.strict.low,
+        b.strict.mid,
+        b.strict.high,
+        b.lax.low,
+        b.lax.mid,
+        b.lax.high,
+        b.seen.bits,
+        b.len as u64,
+        (b.limit - b.at) as u64,
     ]
 }

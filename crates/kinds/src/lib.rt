@@ -44,6 +44,7 @@ pub fn row(k: usize) -> KindRow
 }
 
 // The part is below i and reads as a goal.
+#[tactic(auto, unfolding(card::specs::Fault::goal_part))]
 pub fn goal_part(card: &[u8], i: usize, part: usize) -> bool
     requires { 11 + 5 * i ≤ length card.now }
     ensures { result ≡ goal_part card.now i part }
@@ -52,6 +53,7 @@ pub fn goal_part(card: &[u8], i: usize, part: usize) -> bool
 }
 
 // The part is below i and reads as a clause.
+#[tactic(auto, unfolding(card::specs::Fault::clause_part))]
 pub fn clause_part(card: &[u8], i: usize, part: usize) -> bool
     requires { 11 + 5 * i ≤ length card.now }
     ensures { result ≡ clause_part card.now i part }

@@ -20,67 +20,62 @@ pub fn raise(tape: &[u8], at: usize) -> Floor
     ensures value { result ≡ raised_f tape.now at }
     ensures by_index { (i : ℕ) → byte_at tape.now i < 256 }
 {
-    let from = byte(tape, at - 1) + 1;
     Floor {
         fixed: at - 1,
-        from,
+        from: byte(tape, at - 1) + 1,
     }
 }
 
 // The nesting left to the conditions of an entry that is used for the name at the given place: one less.
 pub fn inner(agenda: &[u16; 104], top: usize) -> usize
-    requires top_bound { (top < 104) × (length agenda.now ≡ 104) }
+    requires top_bound { top < 104 }
     requires bound { 1 ≤ nest_of (get_or agenda.now top 0) }
     ensures { result ≡ nest_of (get_or agenda.now top 0) - 1 }
 {
-    let n = nest(agenda, top);
-    n - 1
+    nest(agenda, top) - 1
 }
 
 // The side that a choice takes.
+#[tactic(auto, unfolding(crate::specs::Inner::Moves::side_at))]
 pub fn side(card: &[u8], node: usize, choice: usize) -> usize
     requires { 16 + 5 * node ≤ length card.now }
     ensures { result ≡ side_at card.now node choice }
 {
     if choice == 254 {
-        return left(card, node);
+        left(card, node)
+    } else {
+        right(card, node)
     }
-    right(card, node)
 }
 
 // Whether it is shut: of a menu, a side whose heads are not the name wanted.
+#[tactic(auto, unfolding(crate::specs::Inner::Moves::shut_by))]
 pub fn shut(card: &[u8], meets: bool, name: usize, part: usize) -> bool
     requires sound { Sound card.now }
     requires part_value { meets ≡ true → clause_part card.now (node_count card.now) part ≡ true }
     ensures { result ≡ shut_by card.now meets name part }
 {
-    if meets {
-        let fits = scope::usable(card, part, name);
-        return !fits;
-    }
-    false
+    meets && !scope::usable(card, part, name)
 }
 
 // The left part of the goal at the node as the only task.
 pub fn left_alone(card: &[u8], agenda: &mut [u16; 104], goal: usize, nest: usize)
     requires sound { Sound card.now }
     requires goal_bound { (goal < node_count card.now) × ((3 < kind_at card.now goal) × (kind_at card.now goal < 9)) }
-    requires nest_bound { (nest < 32) × (length agenda.old ≡ 104) }
+    requires nest_bound { nest < 32 }
     ensures { agenda.new ≡ set agenda.old 0 (left_at card.now goal * 32 + nest) }
 {
-    let part = left(card, goal);
-    put(agenda, 0, part, nest);
+    put(agenda, 0, left(card, goal), nest);
 }
 
 // Its right part.
 pub fn right_alone(card: &[u8], agenda: &mut [u16; 104], goal: usize, nest: usize)
     requires sound { Sound card.now }
     requires goal_bound { (goal < node_count card.now) × ((3 < kind_at card.now goal) × (kind_at card.now goal < 9)) }
-    requires nest_bound { (nest < 32) × (length agenda.old ≡ 104) }
+    requires nest_bound { nest < 32 }
     ensures { agenda.new ≡ set agenda.old 0 (right_at card.now goal * 32 + nest) }
 {
-    let other = right(card, goal);
-    put(agenda, 0, other, nest);
+    put(agenda, 0, right(card, goal), nest);
 }
 
 // The item that a clause is which is lent where so many entries are in scope.
@@ -97,24 +92,19 @@ pub fn start(card: &[u8]) -> Branch
     ensures value { result ≡ start_b card.now }
     ensures counted { Counted result }
 {
-    let p = byte(card, 3);
-    let t = byte(card, 4);
-    let limit = byte(card, 10);
+    let lines = byte(card, 4);
     let strict = scope::strict_lines(card);
-    let lax = LineSet::full(t).cut(strict);
-    let used = LineSet::empty();
-    let seen = LineWord::empty();
-    let due = strict.count();
+    let lax = LineSet::full(lines).cut(strict);
     Branch {
         at: 0,
-        count: p + t,
+        count: byte(card, 3) + lines,
         len: 1,
-        limit,
-        due,
+        limit: byte(card, 10),
+        due: strict.count(),
         strict,
         lax,
-        used,
-        seen,
+        used: LineSet::empty(),
+        seen: LineWord::empty(),
         slack: false,
     }
 }

@@ -14,6 +14,7 @@ use card::{Fault, Place, Refusal, refuse};
 use kinds::{clause_part, goal_part, row};
 
 // The value fits a field of node i that is to hold this.
+#[tactic(auto, unfolding(card::specs::Fault::fits_field))]
 fn fits_field(card: &[u8], i: usize, field: Field, value: usize) -> bool
     requires { 11 + 5 * i ≤ length card.now }
     ensures { result ≡ fits_field card.now i field value }
@@ -28,6 +29,7 @@ fn fits_field(card: &[u8], i: usize, field: Field, value: usize) -> bool
 }
 
 // Node i is as its kind asks.
+#[tactic(auto, unfolding(card::specs::Fault::well_built))]
 fn well_built(card: &[u8], i: usize) -> bool
     requires { 16 + 5 * i ≤ length card.now }
     ensures { result ≡ well_built card.now i }
@@ -38,6 +40,7 @@ fn well_built(card: &[u8], i: usize) -> bool
 }
 
 // The height of the part in a field; 0 where the field holds none.
+#[tactic(auto, unfolding(card::specs::Fault::part_height, card::specs::Inner::Checks::PartBelow))]
 fn part_height(field: Field, value: usize, heights: &[u8; 512]) -> u8
     requires { PartBelow 512 field value }
     ensures { result ≡ part_height heights.now field value }

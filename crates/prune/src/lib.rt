@@ -16,24 +16,19 @@ fn unlent(card: &[u8], count: usize) -> bool
     requires { Sound card.now }
     ensures { (result ≡ true) ↔ (count ≡ job_count card.now) }
 {
-    let rules = byte(card, 3);
-    let lines = byte(card, 4);
-    count == rules + lines
+    count == byte(card, 3) + byte(card, 4)
 }
 
 // One dead end more: whether no more are put up with.
 fn tired(words: &mut [u64]) -> bool
     requires { length words.old ≡ 1 }
-    ensures variant { (result ≡ true) ↔ (get_or words.old 0 0 ≡ 0) }
-    ensures words_len { (length words.new ≡ 1)
+    ensures spent { (result ≡ true) ↔ (get_or words.old 0 0 ≡ 0) }
+    ensures counted { (length words.new ≡ 1)
         × (get_or words.new 0 0 ≡ get_or words.old 0 0 - 1) }
 {
     let left = words[0];
-    if left == 0 {
-        return true;
-    }
-    words[0] = left - 1;
-    false
+    words[0] = left.saturating_sub(1);
+    left == 0
 }
 
 // Whether nothing is to be found for the agenda: so the table of bounds says, or the memory, which is of the job's scope alone. `false` is free:
@@ -56,20 +51,11 @@ pub fn doomed(
     if words.len() == 1 {
         return false;
     }
-    let strict = b.strict;
-    let lax = b.lax;
     let ready = masks.len() == 64;
     let room = b.limit - b.at;
-    if bounds::hopeless(
-        ready, card, names, table, masks, nodes, agenda, b.len, b.count, strict, lax, room,
-    ) {
-        return true;
-    }
-    let bare = unlent(card, b.count);
-    if !bare {
-        return false;
-    }
-    dead::known(codes, words, agenda, b)
+    bounds::hopeless(
+        ready, card, names, table, masks, nodes, agenda, b.len, b.count, b.strict, b.lax, room,
+    ) || unlent(card, b.count) && dead::known(codes, words, agenda, b)
 }
 
 // A dead end: remembered if no floor bore on it and nothing is lent. Whether the search gives up: a first run that met too many. When a first
@@ -86,22 +72,16 @@ pub fn dead_end(
     requires prune_asks { PruneAsks card.now nodes.now agenda.now b }
     requires memory { Memory card.now codes.old words.old }
     requires barren_in { «open» ≡ true → BarrenIn card.now (scope_in card.now nodes.now b.count) agenda.now b }
-    ensures memory_2 { Memory card.now codes.new words.new }
-    ensures codes_len_unchanged { (length codes.new ≡ length codes.old)
+    ensures memory_kept { Memory card.now codes.new words.new }
+    ensures rooms_kept { (length codes.new ≡ length codes.old)
         × (length words.new ≡ length words.old) }
-    ensures words_len { result ≡ true → length words.new ≡ 1 }
+    ensures first_run { result ≡ true → length words.new ≡ 1 }
 {
-    let first = words.len() == 1;
-    if first {
+    if words.len() == 1 {
         return tired(words);
     }
-    if !open {
-        return false;
+    if open && unlent(card, b.count) {
+        dead::remember(codes, words, agenda, b);
     }
-    let own = unlent(card, b.count);
-    if !own {
-        return false;
-    }
-    dead::remember(codes, words, agenda, b);
     false
 }

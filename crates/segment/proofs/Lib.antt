@@ -1,3 +1,4 @@
 -- Laws of segments.
 pub mod TasksAreAgendas
 pub mod TurnsTell
+pub mod KindsNumbered

@@ -25,7 +25,7 @@ use Rattle.branch.specs.declared.Branch.{Branch}
 use Rattle.branch.specs.Inner.Values.{Counted, dropped_b, longer_b, eased_b}
 use Rattle.branch.proofs.CountsKept.{counted_freed}
 use Rattle.segment.specs.Inner.Tasks.{node_of, nest_of, task_of, agenda_of, task_weight, total, Fit, Laid}
-use Rattle.segment.specs.Inner.Tasks.{Splitting, halves, Turning, items_at, Unwound, Lighter}
+use Rattle.segment.specs.Inner.Tasks.{Splitting, halves, items_at, Unwound}
 use Rattle.card.specs.Inner.Size.{weight}
 use Rattle.card.proofs.WeightsFall.{weight_pos, weights_times, both_weight}
 use Rattle.segment.proofs.TasksAreAgendas.{nest_low, task_code, weight_code, fit_code, agenda_next, total_next, laid_less}
@@ -84,7 +84,13 @@ eased_at : (es : Scope) (P : ℕ) (b : Branch) (p : Place) → items_at P (eased
 eased_at es P b p = ap₂ (λ (S L : Items). holding p S L p.room) (items_empty P ∙ sym (eased_none es (items P b.strict)))
     (items_join P b.strict b.lax ∙ sym (eased_all es (items P b.strict) (items P b.lax)))
 
-module _ {bs codes : List ℕ} {b : Branch} {k : ℕ} (s : Sound bs) (t : Turning bs codes b k) where
+-- There is a next task.
+pub record Turning (bs codes : List ℕ) (b : Branch) : Type 0 where
+  pub laid : Laid bs codes b.len b.count
+  pub some : 1 ≤ b.len
+  pub counted : Counted b
+
+module _ {bs codes : List ℕ} {b : Branch} (s : Sound bs) (t : Turning bs codes b) where
   abbrev i : ℕ
   i = b.len - 1
 
@@ -105,10 +111,10 @@ module _ {bs codes : List ℕ} {b : Branch} {k : ℕ} (s : Sound bs) (t : Turnin
   lighter : total bs codes i < total bs codes b.len
   lighter = let e = total_next bs codes b.len t.some in let p = task_pos bs c in omega arith
 
-  pub rest_turn : k ≡ 2 → Unwound bs codes codes b (eased_b b) × Lighter bs codes codes b (eased_b b)
+  pub rest_turn : kind_at bs (node_of c) ≡ 2 → Unwound bs codes codes b (eased_b b) × (total bs codes i < total bs codes b.len)
   unfolding ∅ ◌∪◌
   rest_turn q =
-      let e = top (reads_rest bs (node_of c) (t.kind ∙ q)).0 in (
+      let e = top (reads_rest bs (node_of c) q).0 in (
         record {
           laid = laid_less t.laid;
           same_at = refl;
@@ -130,12 +136,12 @@ module _ {bs codes : List ℕ} {b : Branch} {k : ℕ} (s : Sound bs) (t : Turnin
           );
           counted = counted_freed b;
         },
-        record { lighter = lighter },
+        lighter,
       )
 
-  pub done_turn : k ≡ 3 → Unwound bs codes codes b (dropped_b b) × Lighter bs codes codes b (dropped_b b)
+  pub done_turn : kind_at bs (node_of c) ≡ 3 → Unwound bs codes codes b (dropped_b b) × (total bs codes i < total bs codes b.len)
   done_turn q =
-      let e = top (reads_done bs (node_of c) (t.kind ∙ q)) in (
+      let e = top (reads_done bs (node_of c) q) in (
         record {
           laid = laid_less t.laid;
           same_at = refl;
@@ -156,13 +162,10 @@ module _ {bs codes : List ℕ} {b : Branch} {k : ℕ} (s : Sound bs) (t : Turnin
           );
           counted = t.counted;
         },
-        record { lighter = lighter },
+        lighter,
       )
 
-  module _ (q : k ≡ 4) where
-    is_both : kind_at bs (node_of c) ≡ 4
-    is_both = t.kind ∙ q
-
+  module _ (is_both : kind_at bs (node_of c) ≡ 4) where
     abbrev l : ℕ
     l = left_at bs (node_of c)
 
@@ -233,7 +236,7 @@ module _ {bs codes : List ℕ} {b : Branch} {k : ℕ} (s : Sound bs) (t : Turnin
         let z = total_next bs codes b.len t.some in
         omega arith
 
-    pub both_turn : Unwound bs codes (halves bs codes i) b (longer_b b) × Lighter bs codes (halves bs codes i) b (longer_b b)
+    pub both_turn : Unwound bs codes (halves bs codes i) b (longer_b b) × (total bs (halves bs codes i) (b.len + 1) < total bs codes b.len)
     both_turn =
         let e = top (sound_both s (node_of c) below is_both) in (
           record {
@@ -258,5 +261,5 @@ module _ {bs codes : List ℕ} {b : Branch} {k : ℕ} (s : Sound bs) (t : Turnin
             );
             counted = t.counted;
           },
-          record { lighter = both_total },
+          both_total,
         )

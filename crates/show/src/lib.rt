@@ -1,14 +1,15 @@
-// What the programs share: reading the input, printing refusals, sheets and bytes, and the parts of a record of the input.
+// What the programs share: reading the input and its records, and printing sheets and bytes.
 #![tactic(auto)]
 
-ghost use Rattle.std.specs.Prelude.{◌≡◌, ◌+◌, ◌≤◌, ◌<◌, length, take, IfOk};
+ghost use Rattle.std.specs.Prelude.{◌≡◌, ◌+◌, ◌≤◌, ◌<◌, ℕ, List, length, take, drop, Some, IfOk, IfSome, MatchOption};
+ghost use Rattle.std.specs.Iterator.{at_most};
+ghost use Rattle.std.specs.Int.{from_be_bytes, w16};
 ghost use Rattle.std.specs.Io.KnownBytes.{Consumes, IsAtEnd};
-ghost use Rattle.show.specs.Parts.{lesser, part_end};
+ghost use Rattle.card.specs.Format.{byte_at};
 
-use card::format::byte;
-use card::{Place, Refusal};
-use std::io;
-use std::io::{Read, Write};
+use std::io::Read;
+use std::marker::Model;
+use std::{fmt, io};
 
 // Reads until the buffer is full or the input ends, and tells how many bytes it put at the buffer's start. What the input has behind
 // them is left alone.
@@ -29,96 +30,155 @@ pub fn read_full<R: Read>(input: &mut R, buffer: &mut [u8]) -> io::Result<usize>
     Ok(done)
 }
 
-// Of this and of all that prints: an Err is the writer's own. What is lent to be printed is as it was, and what was written before the
-// error stays written.
-pub fn print_word<W: Write>(out: &mut W, text: &[u8]) -> io::Result<()> {
-    out.write_all(text)
+// The bytes of the input that are left, from which a record's parts are taken one after another.
+#[derive(Drop)]
+pub struct Input<'a> {
+    rest: &'a [u8],
 }
 
-fn print_indexed<W: Write>(out: &mut W, text: &[u8], i: u16) -> io::Result<()> {
-    print_word(out, text)?;
-    write!(out, "{i}")
+impl<'a> Model for Input<'a> {
+    ghost Value = { List ℕ };
+
+    ghost view = { λ input. input.rest.now };
 }
 
-// A place's word, and its index where it has one.
-fn print_place<W: Write>(out: &mut W, place: Place) -> io::Result<()> {
-    match place {
-        Place::Card => print_word(out, b"card"),
-        Place::Node(i) => print_indexed(out, b"node ", i),
-        Place::Rule(i) => print_indexed(out, b"rule ", i),
-        Place::Line(i) => print_indexed(out, b"line ", i),
-        Place::Sheet => print_word(out, b"sheet"),
-        Place::Steps => print_word(out, b"steps"),
-        Place::Mark(i) => print_indexed(out, b"mark ", i),
-        Place::Step(i) => print_indexed(out, b"step ", i),
+impl<'a> Input<'a> {
+    pub fn new(bytes: &'a [u8]) -> Self
+        ensures { result ≡ bytes.now }
+    {
+        Input { rest: bytes }
+    }
+
+    // The next n bytes; all that are left where they are fewer.
+    pub fn part(&mut self, n: usize) -> &'a [u8]
+        ensures taken { result.now ≡ take n self.old }
+        ensures left { self.new ≡ drop n self.old }
+    {
+        let (part, rest) = self.rest.split_at(n.min(self.rest.len()));
+        self.rest = rest;
+        part
+    }
+
+    // A number of one byte, where one is left.
+    fn byte(&mut self) -> Option<usize>
+        ensures { MatchOption result ((length self.old ≡ 0) × (self.new ≡ self.old)) (λ n. (0 < length self.old) × (n ≡ byte_at self.old 0) × (self.new ≡ drop 1 self.old)) }
+    {
+        let (byte, rest) = self.rest.split_first()?;
+        self.rest = rest;
+        Some(*byte as usize)
+    }
+
+    // A number of two bytes, where two are left.
+    pub fn word(&mut self) -> Option<usize>
+        ensures { MatchOption result ((length self.old < 2) × (self.new ≡ self.old)) (λ n. (2 ≤ length self.old) × (n ≡ from_be_bytes w16 (take 2 self.old)) × (self.new ≡ drop 2 self.old)) }
+    {
+        let (bytes, rest) = self.rest.split_first_chunk()?;
+        self.rest = rest;
+        Some(u16::from_be_bytes(*bytes) as usize)
+    }
+
+    // A label: its length in one byte, then its bytes.
+    pub fn label(&mut self) -> Option<&'a [u8]>
+        ensures { MatchOption result ((length self.old ≡ 0) × (self.new ≡ self.old)) (λ label. (0 < length self.old)
+            × (label.now ≡ take (byte_at self.old 0) (drop 1 self.old))
+            × (self.new ≡ drop (byte_at self.old 0) (drop 1 self.old))) }
+    {
+        let n = self.byte()?;
+        Some(self.part(n))
+    }
+
+    // The records that are left.
+    pub fn records<T, R: Fn(&mut Input<'a>) -> Option<T>>(self, read: R) -> Records<'a, R>
+        ensures { (result.input ≡ self.entry) × (result.read ≡ read) }
+    {
+        Records { input: self, read }
     }
 }
 
-// "refused", the number and the place.
-pub fn print_refusal<W: Write>(out: &mut W, refusal: Refusal) -> io::Result<()> {
-    let number = refusal.number;
-    let place = refusal.place;
-    write!(out, "refused {number} ")?;
-    print_place(out, place)
+// The records of an input: `read` takes one after another, until there is none.
+#[derive(Drop)]
+pub struct Records<'a, R> {
+    input: Input<'a>,
+    read: R,
 }
 
-pub fn print_number<W: Write>(out: &mut W, n: usize) -> io::Result<()> {
-    write!(out, " {n}")
-}
+impl<'a, T, R: Fn(&mut Input<'a>) -> Option<T>> Iterator for Records<'a, R> {
+    type Item = T;
 
-pub fn print_numbers<W: Write>(out: &mut W, numbers: &[u8]) -> io::Result<()> {
-    let mut i = 0;
-    while i < numbers.len() {
-        print_number(out, byte(numbers, i))?;
-        i += 1;
+    ghost can_next = { λ s. R.IsAlwaysCallable s.read × ((before : _) (item : _) (after : _) → R.post s.read before (Some item) after → length after.now < length before.now) };
+
+    ghost next_gives = { λ s r t. (t.read ≡ s.read) × ((before : _) × (after : _) × R.post s.read before r after × (before.now ≡ s.input) × (after.now ≡ t.input)) };
+
+    ghost remaining = { λ s. at_most (length s.input) };
+
+    fn next(&mut self) -> Option<T> {
+        (self.read)(&mut self.input)
     }
-    Ok(())
 }
 
-fn print_byte<W: Write>(out: &mut W, n: usize) -> io::Result<()> {
-    write!(out, " {n:02x}")
-}
+// Each byte as a number, a space before it.
+#[derive(Drop)]
+struct Numbers<'a>(&'a [u8]);
 
-// Each byte as two hexadecimal digits.
-pub fn print_bytes<W: Write>(out: &mut W, bytes: &[u8]) -> io::Result<()> {
-    let mut i = 0;
-    while i < bytes.len() {
-        print_byte(out, byte(bytes, i))?;
-        i += 1;
+impl fmt::Display for Numbers<'_> {
+    fn fmt<W: fmt::Write>(&self, f: &mut fmt::Formatter<W>) -> fmt::Result {
+        for n in self.0 {
+            write!(f, " {n}")?;
+        }
+        Ok(())
     }
-    Ok(())
 }
 
-// A sheet of k steps and t marks; tells where it ends.
-pub fn print_sheet<W: Write>(out: &mut W, sheet: &[u8], k: usize, t: usize) -> io::Result<usize>
-    requires { 5 + k + t ≤ length sheet.now }
-    ensures { IfOk result (λ end. end ≡ 5 + k + t) }
-{
-    let marks = 5 + k;
-    let end = marks + t;
-    print_word(out, b"plan")?;
-    print_number(out, k)?;
-    print_numbers(out, &sheet[5..marks])?;
-    print_word(out, b" marks")?;
-    print_numbers(out, &sheet[marks..end])?;
-    Ok(end)
-}
+// Each byte as two hexadecimal digits, a space before them.
+#[derive(Drop)]
+pub struct Hex<'a>(pub &'a [u8]);
 
-// The lesser of two.
-pub fn at_most(n: usize, most: usize) -> usize
-    ensures { (result ≡ lesser n most) × ((result ≤ n) × (result ≤ most)) }
-{
-    if most < n {
-        return most;
+impl fmt::Display for Hex<'_> {
+    fn fmt<W: fmt::Write>(&self, f: &mut fmt::Formatter<W>) -> fmt::Result {
+        for byte in self.0 {
+            write!(f, " {byte:02x}")?;
+        }
+        Ok(())
     }
-    n
 }
 
-// Where a record's part of n bytes at `from` ends; the input's end where it would run past that.
-pub fn part_end(input: &[u8], from: usize, n: usize) -> usize
-    requires { from ≤ length input.now }
-    ensures { (result ≡ part_end input.now from n)
-        × ((from ≤ result) × (result ≤ length input.now)) }
-{
-    from + at_most(n, input.len() - from)
+// A sheet's steps and marks, of each fewer than 256.
+#[derive(Drop)]
+pub struct Sheet<'a> {
+    pub steps: &'a [u8],
+    pub marks: &'a [u8],
+    ghost counted: { (length steps.now < 256) × (length marks.now < 256) },
+}
+
+impl<'a> Sheet<'a> {
+    // The sheet at the buffer's start, of k steps; its byte 4 says how many marks it has.
+    pub fn new(buffer: &'a [u8], k: u8) -> Self
+        requires { 5 + k + byte_at buffer.now 4 ≤ length buffer.now }
+        ensures steps { result.steps.now ≡ take k (drop 5 buffer.now) }
+        ensures marks { result.marks.now ≡ take (byte_at buffer.now 4) (drop (5 + k) buffer.now) }
+    {
+        let t = buffer[4] as usize;
+        let (steps, rest) = buffer[5..].split_at(k as usize);
+        let marks = &rest[..t];
+        Sheet { steps, marks }
+    }
+
+    // Where it ends.
+    pub fn end(&self) -> usize
+        ensures { result ≡ 5 + length self.now.steps.now + length self.now.marks.now }
+    {
+        5 + self.steps.len() + self.marks.len()
+    }
+}
+
+impl fmt::Display for Sheet<'_> {
+    fn fmt<W: fmt::Write>(&self, f: &mut fmt::Formatter<W>) -> fmt::Result {
+        let k = self.steps.len();
+        write!(
+            f,
+            "plan {k}{} marks{}",
+            Numbers(self.steps),
+            Numbers(self.marks)
+        )
+    }
 }

@@ -24,7 +24,6 @@ pub record Filed (nodes : List ℕ) (n : ℕ) : Type 0 where
 -- what adding up is handed
 pub record Asked (t codes : List ℕ) (n : ℕ) : Type 0 where
   pub cells : TableCells t
-  pub codes_room : length codes ≡ 104
   pub few : n ≤ 104
   pub rowed : Rowed codes n
 
@@ -32,7 +31,6 @@ pub record Asked (t codes : List ℕ) (n : ℕ) : Type 0 where
 pub record Stores (names masks nodes : List ℕ) (n : ℕ) : Type 0 where
   pub cells : NameCells names
   pub masks_room : length masks ≡ 64
-  pub nodes_room : length nodes ≡ 256
   pub filed : Filed nodes n
 
 -- The entries in scope are clauses of rules, of lines and of lends; the lines stand behind the rules.
@@ -41,18 +39,19 @@ pub record ScopeOfCard (bs nodes : List ℕ) (linear : List Bool) (n : ℕ) : Ty
   pub kin : (e : ℕ) → e < n → OfCard bs (clause_of bs (get_or nodes e 0)) (get_or linear e false)
   pub lines : (k : ℕ) → k < line_count bs → clause_of bs (get_or nodes (rule_count bs + k) 0) ≡ clause_of bs (line_node bs k)
 
--- the bounds of the first n tasks
+-- a bound by row, of the first n tasks together
+unfoldable pub task_sum : (ℕ → ℕ) → List ℕ → ℕ → ℕ
+task_sum bound codes zero = 0
+task_sum bound codes (suc n) = task_sum bound codes n + bound (get_or codes n 0 / 32)
+
 unfoldable pub least_sum : List ℕ → List ℕ → ℕ → ℕ
-least_sum t codes zero = 0
-least_sum t codes (suc n) = least_sum t codes n + least_at t (get_or codes n 0 / 32)
+least_sum t = task_sum (least_at t)
 
 unfoldable pub low_sum : List ℕ → List ℕ → ℕ → ℕ → ℕ
-low_sum t codes c zero = 0
-low_sum t codes c (suc n) = low_sum t codes c n + low_at t (get_or codes n 0 / 32) c
+low_sum t codes c = task_sum (λ i. low_at t i c) codes
 
 unfoldable pub high_sum : List ℕ → List ℕ → ℕ → ℕ → ℕ
-high_sum t codes c zero = 0
-high_sum t codes c (suc n) = high_sum t codes c n + high_at t (get_or codes n 0 / 32) c
+high_sum t codes c = task_sum (λ i. high_at t i c) codes
 
 -- how many items of the class a line set has: lines, by the class's word, and the first n lent clauses
 unfoldable pub line_stock : List ℕ → LineSet → ℕ → ℕ

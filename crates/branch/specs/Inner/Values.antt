@@ -1,5 +1,5 @@
 -- What each change of a branch, of a way and of a floor is.
-use Rattle.std.specs.Prelude.{ℕ, ◌+◌, ◌-◌, ◌≡◌, Bool, true, false, cond, ◌&&◌, ◌||◌, List, get_or, ltb, eqb}
+use Rattle.std.specs.Prelude.{ℕ, ◌+◌, ◌-◌, ◌≡◌, Bool, true, false, cond, ◌&&◌, ◌||◌, ltb}
 use Rattle.lines.specs.Count.{count_s}
 use Rattle.lines.specs.Set.{member, is_empty_s, empty_s, add_s, take_s, cut_s, join_s}
 use Rattle.lines.specs.Inner.Word.{add_l}
@@ -19,24 +19,11 @@ pub data Answer : Type 0 where
   Stuck : Answer
   Tired : Answer
 
--- A way as seven words, and as they are read.
-unfoldable pub flag_of : Bool → ℕ
-flag_of true = 1
-flag_of false = 0
-
-unfoldable pub way_in : List ℕ → Way
-way_in words = record {
-  at = get_or words 0 0;
-  used = record { low = get_or words 1 0; mid = get_or words 2 0; high = get_or words 3 0 };
-  seen = record { bits = get_or words 4 0 };
-  slack = eqb (get_or words 5 0) 1;
-  kept = eqb (get_or words 6 0) 1;
-}
-
-unfoldable pub answer_in : Outcome → List ℕ → Answer
-answer_in IsSolved words = Solved (way_in words)
-answer_in IsStuck words = Stuck
-answer_in IsTired words = Tired
+-- The answer of an outcome and of the place where the way found stands.
+unfoldable pub answer_in : Outcome → Way → Answer
+answer_in IsSolved w = Solved w
+answer_in IsStuck w = Stuck
+answer_in IsTired w = Tired
 
 -- an answer past a step that keeps to the given steps or not
 unfoldable pub followed : Bool → Answer → Answer

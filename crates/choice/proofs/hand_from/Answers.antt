@@ -1,5 +1,5 @@
 -- The lines of both sets, less those below.
-use Prim.Native.Nat.{◌-◌, ◌^◌, ◌<◌}
+use Prim.Native.Nat.{◌-◌, ◌^◌}
 use native.Mathlib.Omega.{arith}
 use native.Mathlib.Nat.{lt_of_le_of_lt}
 use mathlib.Core.Path.{ap₂, ◌∙◌}
@@ -8,16 +8,10 @@ use borrow.Author.Rules.{rules}
 use lib.Bits.{bit_and, bit_or, or_lt, xor_lt, and_le_l}
 use Rattle.lines.specs.Set.{each, less, full_s, join_s, cut_s}
 use Rattle.lines.proofs.Word.{bit_or_lem, bit_less, bit_ones}
-use Rattle.choice.proofs.hand_from.Lts as lts
-use Rattle.choice.proofs.hand_from.Reads as reads
-use Rattle.choice.proofs.hand_from.Tie as tie
 use Rattle.choice.proofs.hand_from.Goals as goal
 
 pub full-requires : goal.full-requires
 full-requires c = let low = c.requires in omega arith
-
-words : (s : lts.Start tie.the-claims reads.Pre reads.Post) → (s.args.b.strict.low < 2 ^ 64) × (s.args.b.lax.low < 2 ^ 64)
-words s = search rules
 
 pub returns : goal.returns
 unfolding join_s cut_s full_s each less
@@ -25,8 +19,8 @@ returns c =
     let b = c.args.b in
     let i = c.args.i in
     let hand = bit_or b.strict.low b.lax.low in
-    let fits = or_lt 64 b.strict.low b.lax.low (words c.before.before.before.before.before.before).0 (words c.before.before.before.before.before.before).1 in
-    rw (c.lines.ensures, c.cut-late.ensures, c.join-hand.ensures, c.full.ensures) (record {
+    let fits = or_lt 64 b.strict.low b.lax.low (search rules) (search rules) in
+    rw (c.lines.ensures, c.cut.ensures, c.join-hand.ensures, c.full.ensures) (record {
       fits = xor_lt 64 hand (bit_and hand (2 ^ i - 1)) fits (lt_of_le_of_lt (and_le_l hand (2 ^ i - 1)) fits);
       line = λ x. bit_less hand (2 ^ i - 1) x ∙ ap₂ (λ (p q : Bool). p && not q) (bit_or_lem b.strict.low b.lax.low x) (bit_ones i x);
     })

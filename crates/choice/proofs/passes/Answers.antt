@@ -1,38 +1,23 @@
 -- A code without a menu that is not the name, or an entry that is not open.
-use Prim.Native.Nat.{ℕ, ◌≤◌, ◌<◌}
-use native.Mathlib.Omega.{arith}
-use mathlib.Core.Path.{refl, sym, ◌∙◌}
-use mathlib.Core.Bool.{true≢false, false≢true}
+use Rattle.std.proofs.Common.{refl, sym, ◌∙◌, arith}
+use mathlib.Core.Bool.{true≢false}
 use borrow.Author.Tests.{lt-ltb, ne_eqb, eq-eqb, not-true, not-false}
 use Rattle.entries.specs.Inner.Entries.{code_fits}
 use Rattle.choice.proofs.passes.Goals as goal
 
-low : (n : ℕ) → n ≤ 1000 → n < 1001
-low n h = omega arith
-
-pub returns-then-code-gt1000 : goal.returns-then-code-gt1000
-returns-then-code-gt1000 c = record { unusable = λ h. absurd (false≢true h); usable = λ h k. let t = c.if-code-gt1000.true in absurd (omega arith) }
-
 pub returns-then-code-name : goal.returns-then-code-name
 unfolding code_fits
 returns-then-code-name c =
-    record {
-      unusable = λ h. rw (
-        lt-ltb c.args.code 1001 (low _ c.if-code-gt1000.false),
-        ne_eqb c.args.code c.args.name c.if-code-name.true,
-      ) refl;
-      usable = λ h k. absurd (true≢false h);
-    }
+    let plain = lt-ltb c.args.code 1001 (omega arith) in
+    let other = ne_eqb c.args.code c.args.name c.if-code-name.true in
+    rw other (record { unusable = λ h. rw (plain, other) refl; usable = λ h k. absurd (true≢false h) })
 
-pub open-free-requires : goal.open-free-requires
-open-free-requires c = c.requires
-
-pub returns : goal.returns
+pub returns-else-code-name : goal.returns-else-code-name
 unfolding code_fits
-returns c =
-    let plain = lt-ltb c.args.code 1001 (low _ c.if-code-gt1000.false) in
+returns-else-code-name c =
+    let plain = lt-ltb c.args.code 1001 (omega arith) in
     let same = eq-eqb c.args.code c.args.name c.if-code-name.false in
     record {
-      unusable = λ h. rw (plain, same) (sym c.open-free.ensures ∙ not-true _ h);
-      usable = λ h k. rw (plain, same) (sym c.open-free.ensures ∙ not-false _ h);
+      unusable = λ h. rw (plain, same) (sym c.open.ensures ∙ not-true _ h);
+      usable = λ h k. rw (plain, same) (sym c.open.ensures ∙ not-false _ h);
     }

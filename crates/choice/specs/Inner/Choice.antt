@@ -1,5 +1,5 @@
 -- The terms of the contracts: which entry is tried next at a name, and where the given steps bear on it.
-use Rattle.std.specs.Prelude.{ℕ, ◌+◌, ◌-◌, ◌^◌, ◌≤◌, ◌<◌, ◌≡◌, Bool, true, false, not, cond, ◌&&◌, ◌||◌, List, length, get_or, take, drop, leb, ltb, eqb}
+use Rattle.std.specs.Prelude.{ℕ, ◌+◌, ◌-◌, ◌^◌, ◌≤◌, ◌<◌, ◌≡◌, Bool, true, false, not, cond, ◌&&◌, ◌||◌, List, length, get_or, take, drop, leb, ltb, eqb, Option, None, Some}
 use Rattle.calculus.specs.Items.{◌∪◌}
 use Rattle.card.specs.Format.{rule_count, line_count, node_count, byte_at}
 use Rattle.card.specs.Fault.{Sound, clause_part}
@@ -12,8 +12,6 @@ use Rattle.branch.specs.declared.Branch.{Branch}
 use Rattle.branch.specs.declared.Floor.{Floor}
 use Rattle.branch.specs.declared.Outcome.{Outcome}
 use Rattle.branch.specs.declared.Outcome.TheVariants.{Stuck as IsStuck, Tired as IsTired}
-use Rattle.choice.specs.declared.Sought.{Sought}
-use Rattle.choice.specs.declared.Sought.TheVariants.{At, Nothing}
 
 -- the entry is a rule or an item at hand
 unfoldable pub at_hand_by : ℕ → ℕ → Branch → Bool
@@ -43,21 +41,6 @@ pub record Passes (bs waits : List ℕ) (b : Branch) (name code e : ℕ) (r : Bo
   pub unusable : r ≡ true → (code_fits bs code name && open_to bs waits b e) ≡ false
   pub usable : r ≡ false → code ≤ 1000 → (code_fits bs code name && open_to bs waits b e) ≡ true
 
--- The same of a line at hand.
-pub record PassesLine (bs waits : List ℕ) (b : Branch) (name code e : ℕ) (r : Bool) : Type 0 where
-  pub unusable : r ≡ true → (code_fits bs code name && ready_by (rule_count bs) (line_count bs) waits b.seen e) ≡ false
-  pub usable : r ≡ false → code ≤ 1000 → (code_fits bs code name && ready_by (rule_count bs) (line_count bs) waits b.seen e) ≡ true
-
--- the entry has neither a menu nor the name for its head
-unfoldable pub misses_by : ℕ → ℕ → Bool
-misses_by code name = cond (ltb 1000 code) false (not (eqb code name))
-
--- What the rules from the given entry up to e are, which miss the name, and e itself, if it is one.
-pub record RulesMissed (bs heads : List ℕ) (name from e : ℕ) : Type 0 where
-  pub onward : from ≤ e
-  pub passed : (x : ℕ) → from ≤ x → x < e → misses_by (get_or heads x 0) name ≡ true
-  pub stops : e < rule_count bs → misses_by (get_or heads e 0) name ≡ false
-
 -- line x is at hand
 abbrev pub line_at_hand : Branch → ℕ → Bool
 line_at_hand b x = line_in (lines_of b.strict) x || line_in (lines_of b.lax) x
@@ -67,16 +50,25 @@ pub record HandFrom (b : Branch) (i : ℕ) (hand : LineWord) : Type 0 where
   pub fits : hand.bits < 2 ^ 64
   pub line : (x : ℕ) → line_in hand x ≡ (line_at_hand b x && not (ltb x i))
 
--- What the entries from the given one up to e are, which cannot be used, and e itself, if it is below the end and has no menu.
-pub record Skips (bs waits heads : List ℕ) (b : Branch) (name end from e : ℕ) : Type 0 where
-  pub onward : from ≤ e
-  pub passed : (x : ℕ) → from ≤ x → x < e → takable_by bs waits heads b name x ≡ false
-  pub takable : e < end → get_or heads e 0 ≤ 1000 → takable_by bs waits heads b name e ≡ true
-
--- What an entry in scope is at which they end.
+-- What an entry in scope is that is not passed.
 pub record Reached (bs waits heads : List ℕ) (b : Branch) (name e : ℕ) : Type 0 where
   pub inside : e < b.count
   pub takable : get_or heads e 0 ≤ 1000 → takable_by bs waits heads b name e ≡ true
+
+-- Of the entries from the given one on and below the end, e is the least that is not passed; those before it cannot be used.
+pub record ReachesAt (bs waits heads : List ℕ) (b : Branch) (name from end e : ℕ) : Type 0 where
+  pub onward : from ≤ e
+  pub ends : e < end
+  pub reached : Reached bs waits heads b name e
+  pub passed : (x : ℕ) → from ≤ x → x < e → takable_by bs waits heads b name x ≡ false
+
+-- none of the entries from one on and below the end can be used
+abbrev pub NoneTakable : List ℕ → List ℕ → List ℕ → Branch → ℕ → ℕ → ℕ → Type 0
+NoneTakable bs waits heads b name from end = (x : ℕ) → from ≤ x → x < end → takable_by bs waits heads b name x ≡ false
+
+unfoldable pub Reaches : List ℕ → List ℕ → List ℕ → Branch → ℕ → ℕ → ℕ → Option ℕ → Type 0
+Reaches bs waits heads b name from end (Some e) = ReachesAt bs waits heads b name from end e
+Reaches bs waits heads b name from end None = NoneTakable bs waits heads b name from end
 
 -- What the least usable entry from the given one on is.
 pub record SeeksAt (bs waits heads : List ℕ) (b : Branch) (name from e : ℕ) : Type 0 where
@@ -85,9 +77,9 @@ pub record SeeksAt (bs waits heads : List ℕ) (b : Branch) (name from e : ℕ) 
   pub takable : takable_by bs waits heads b name e ≡ true
   pub passed : (x : ℕ) → from ≤ x → x < e → takable_by bs waits heads b name x ≡ false
 
-unfoldable pub Seeks : List ℕ → List ℕ → List ℕ → Branch → ℕ → ℕ → Sought → Type 0
-Seeks bs waits heads b name from (At e) = SeeksAt bs waits heads b name from e
-Seeks bs waits heads b name from Nothing = (x : ℕ) → from ≤ x → x < b.count → takable_by bs waits heads b name x ≡ false
+unfoldable pub Seeks : List ℕ → List ℕ → List ℕ → Branch → ℕ → ℕ → Option ℕ → Type 0
+Seeks bs waits heads b name from (Some e) = SeeksAt bs waits heads b name from e
+Seeks bs waits heads b name from None = NoneTakable bs waits heads b name from b.count
 
 -- The floor at a place of the tape: the given steps from there on, and the least entry after them.
 unfoldable pub given_at : Floor → ℕ → List ℕ → List ℕ

@@ -1,6 +1,7 @@
 -- The row of the key is told.
-use native.Mathlib.Omega.{arith}
-use mathlib.Core.Path.{refl}
+use Rattle.std.proofs.Common.{◌+◌, ◌-◌, ◌*◌, ◌∙◌, refl, sym, arith}
+use Rattle.keys.specs.Inner.Keys.{key_words}
+use Rattle.dead.proofs.RowsKept.{part_put}
 use Rattle.dead.proofs.remember.Goals as goal
 
 pub returns-then-b-gt-WIDTH : goal.returns-then-b-gt-WIDTH
@@ -10,17 +11,18 @@ returns-then-b-gt-WIDTH c = record {
   long = λ h. (refl, refl);
 }
 
-pub shape_of-codes : goal.shape_of-codes
-shape_of-codes c = c.put_codes.ensures.room
-
-pub shape_of-words : goal.shape_of-words
-shape_of-words c = c.put_words.ensures.room
-
 pub returns : goal.returns
 returns c =
+    let row = c.row_of-row.ensures.1 in
     let e = c.row_of-row.ensures.0 in
+    let tasks = part_put {xs = c.args.codes.now} {ys = c.args.agenda.now} {at = c.row_of-row.result * 16} {n = c.args.b.len}
+    {k = c.row_of-row.result * 16 + c.args.b.len - c.row_of-row.result * 16}
+    (omega (arith, c.requires.code_room)) (omega arith) (omega arith) c.copy_from_slice.ensures.after in
+    let key = part_put {xs = c.args.words.now} {ys = key_words c.args.b} {at = c.row_of-row.result * 9} {n = 9}
+    {k = c.row_of-row.result * 9 + 9 - c.row_of-row.result * 9}
+    (omega (arith, c.requires.word_room)) (omega arith) (omega arith) (c.copy_from_slice-2.ensures.after ∙ c.words_of.ensures) in
     record {
-      tasks = λ h. rw e at c.put_codes.ensures;
-      key = λ h. rw e at (rw c.words_of-key.ensures at c.put_words.ensures);
+      tasks = λ h. rw (sym e) tasks;
+      key = λ h. rw (sym e) key;
       long = λ h. absurd (omega (arith, h, c.if-b-gt-WIDTH.false));
     }

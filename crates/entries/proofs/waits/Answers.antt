@@ -1,12 +1,8 @@
 -- The first i lines have their masks, and every node's masks are those of its lines below i.
-use Prim.Native.Nat.{ℕ, ◌+◌, ◌<◌, ◌≤◌}
-use mathlib.Core.Path.{◌≡◌, refl, ◌∙◌}
-use mathlib.Core.Bool.{true}
-use mathlib.Core.List.{List}
+use Rattle.std.proofs.Common.{ℕ, ◌+◌, ◌<◌, ◌≤◌, ◌≡◌, refl, ◌∙◌, true, List, get_or, set, arith}
 use native.Mathlib.Numerals.{add-one}
-use native.Mathlib.Omega.{arith}
 use borrow.Author.Count.{below_more}
-use lib.ListN.{get_or, set, length-set, get_or-replicate}
+use lib.ListN.{length-set, get_or-replicate}
 use lib.Dec.{eqb}
 use lib.Seq.{get_or-set_same, get_or-set_other}
 use Rattle.card.specs.Format.{node_count, line_count, line_node, line_byte}
@@ -15,9 +11,6 @@ use Rattle.card.proofs.CardChecked.{sound_front}
 use Rattle.card.proofs.SoundNodes.{clause_lower, line_here, sound_line_node}
 use Rattle.entries.specs.Inner.Masks.{with_line, wider}
 use Rattle.entries.proofs.MasksAreTwins.{Chained, chained_none, chained_more, mask_of, mask_word, mask_waits}
-use Rattle.entries.proofs.waits.Lts as lts
-use Rattle.entries.proofs.waits.Reads as reads
-use Rattle.entries.proofs.waits.Tie as tie
 use Rattle.entries.proofs.waits.Goals as goal
 
 -- the node of a line of a sound card
@@ -41,135 +34,87 @@ module _ {bs last all musts : List ℕ} {i : ℕ} (c : Chained bs last all musts
   one_more r q x y =
       let f = sound_front bs s in rw (x, y, n, m, add-one i) (chained_more c (omega (arith, h, f.lines)) (node_low s i h))
 
--- the line of a turn is one of the card's, so that its number is below 64 and its node below 512
-here : (c : lts.In-loop tie.the-claims reads.Pre reads.Post goal.the-invariant-loop-i goal.the-decreases-loop-i) → c.loop-i.i < line_count c.args.card.now
-here c = omega (arith, c.loop-i-test.true, c.byte-t.ensures.0)
+-- a line's number is below 64, its node below 512, and the place of the masks of its node below 65
+few : {bs : List ℕ} → Sound bs → {i : ℕ} → i < line_count bs → i < 64
+few {bs} s h = omega (arith, h, (sound_front bs s).lines)
 
-few : (c : lts.In-loop tie.the-claims reads.Pre reads.Post goal.the-invariant-loop-i goal.the-decreases-loop-i) → c.loop-i.i < 64
-few c =
-    omega (arith, here c, (sound_front c.args.card.now c.requires).lines)
+small : {bs : List ℕ} → Sound bs → {i n : ℕ} → i < line_count bs → n ≡ line_node bs i → n < 512
+small s {i} h e = omega (arith, node_low s i h, e)
 
-small : (c : lts.After-line_node tie.the-claims reads.Pre reads.Post goal.the-invariant-loop-i goal.the-decreases-loop-i) → c.line_node-node.result < 512
-small c =
-    omega (arith, node_low c.requires c.loop-i.i (here c.before), c.line_node-node.ensures.0)
+place : {bs last all musts : List ℕ} {i n : ℕ} → Chained bs last all musts i → Sound bs → i < line_count bs → n ≡ line_node bs i
+    → get_or last n 0 < 65
+place {n = n} c s h e = omega (arith, few s h, c.low n (small s h e))
 
--- the place of the masks of the node's lines before it
-place : (c : lts.After-line_byte tie.the-claims reads.Pre reads.Post goal.the-invariant-loop-i goal.the-decreases-loop-i) → get_or c.loop-i.last c.line_node-node.result 0 < 65
-place c =
-    omega (arith, few c.before.before, c.loop-i.invariant.1.0.low c.line_node-node.result (small c.before))
-
-pub byte-t-requires : goal.byte-t-requires
-byte-t-requires c =
-    omega (arith, (sound_front c.args.card.now c.requires).whole)
+pub byte-i-end-requires : goal.byte-i-end-requires
+byte-i-end-requires c = omega (arith, (sound_front c.args.card.now c.requires).whole)
 
 pub loop-i-init : goal.loop-i-init
-loop-i-init c =
-    (omega arith, (chained_none _ _ _ _ refl refl refl (λ n h. get_or-replicate 512 n 0 0 h) refl refl, (refl, λ k h. absurd (omega arith))))
+loop-i-init c = record {
+  chained = chained_none _ _ _ _ refl refl refl (λ n h. get_or-replicate 512 n 0 0 h) refl refl;
+  room = refl;
+  masked = λ k h. absurd (omega arith);
+}
 
 pub line_node-node-requires : goal.line_node-node-requires
-line_node-node-requires c = line_here c.requires c.loop-i.i (here c.before)
+line_node-node-requires c = line_here c.requires c.loop-i.i (omega (arith, c.byte-i-end.ensures.0))
 
 pub line_byte-must-requires : goal.line_byte-must-requires
-line_byte-must-requires c = line_here c.requires c.loop-i.i (here c.before.before)
+line_byte-must-requires c = line_here c.requires c.loop-i.i (omega (arith, c.byte-i-end.ensures.0))
 
 pub bounds-last-node : goal.bounds-last-node
-bounds-last-node c = small c.before.before
-
-pub overflow_cast-k : goal.overflow_cast-k
-overflow_cast-k c = omega (arith, place c.before)
-
-pub offset_bounds-all-k : goal.offset_bounds-all-k
-offset_bounds-all-k c = omega (arith, place c.before)
+bounds-last-node c = small c.requires {i = c.loop-i.i} (omega (arith, c.byte-i-end.ensures.0)) c.line_node-node.ensures.0
 
 pub bounds-all-k : goal.bounds-all-k
-bounds-all-k c = place c.before
-
-pub offset_bounds-musts-k : goal.offset_bounds-musts-k
-offset_bounds-musts-k c = omega (arith, place c.before)
+bounds-all-k c =
+    place c.loop-i.invariant.chained c.requires (omega (arith, c.byte-i-end.ensures.0)) c.line_node-node.ensures.0
 
 pub bounds-musts-k : goal.bounds-musts-k
-bounds-musts-k c = place c.before
-
-pub offset_bounds-masks-i : goal.offset_bounds-masks-i
-offset_bounds-masks-i c = omega (arith, few c.before.before.before.before)
+bounds-musts-k c =
+    place c.loop-i.invariant.chained c.requires (omega (arith, c.byte-i-end.ensures.0)) c.line_node-node.ensures.0
 
 pub bounds-masks-i : goal.bounds-masks-i
-bounds-masks-i c = few c.before.before.before.before
+bounds-masks-i c = few c.requires (omega (arith, c.byte-i-end.ensures.0))
 
 pub with_line-requires : goal.with_line-requires
-with_line-requires c = few c.before.before.before.before
-
-pub overflow_add-all : goal.overflow_add-all
-overflow_add-all c = omega (arith, few c.before.before.before.before.before)
-
-pub offset_bounds-all-i : goal.offset_bounds-all-i
-offset_bounds-all-i c = omega (arith, few c.before.before.before.before.before)
+with_line-requires c = few c.requires (omega (arith, c.byte-i-end.ensures.0))
 
 pub bounds-all-i : goal.bounds-all-i
-bounds-all-i c = omega (arith, few c.before.before.before.before.before)
+bounds-all-i c = omega (arith, few c.requires {i = c.loop-i.i} (omega (arith, c.byte-i-end.ensures.0)))
 
 pub with_line-requires-in-loop-i : goal.with_line-requires-in-loop-i
-with_line-requires-in-loop-i c = few c.before.before.before.before.before
-
-pub overflow_add-musts : goal.overflow_add-musts
-overflow_add-musts c = omega (arith, few c.before.before.before.before.before.before)
-
-pub offset_bounds-musts-i : goal.offset_bounds-musts-i
-offset_bounds-musts-i c = omega (arith, few c.before.before.before.before.before.before)
+with_line-requires-in-loop-i c = few c.requires (omega (arith, c.byte-i-end.ensures.0))
 
 pub bounds-musts-i : goal.bounds-musts-i
-bounds-musts-i c = omega (arith, few c.before.before.before.before.before.before)
-
-pub overflow_add-last : goal.overflow_add-last
-overflow_add-last c = omega (arith, few c.before.before.before.before.before.before)
-
-pub overflow_cast-last : goal.overflow_cast-last
-overflow_cast-last c = omega (arith, few c.before.before.before.before.before.before)
+bounds-musts-i c = omega (arith, few c.requires {i = c.loop-i.i} (omega (arith, c.byte-i-end.ensures.0)))
 
 pub bounds-last-node-in-loop-i : goal.bounds-last-node-in-loop-i
-bounds-last-node-in-loop-i c = small c.before.before.before.before.before
-
-pub overflow_add-i : goal.overflow_add-i
-overflow_add-i c = omega (arith, few c.before.before.before.before.before.before)
-
-pub loop-i-smaller : goal.loop-i-smaller
-loop-i-smaller c = omega (arith, c.loop-i-test.true)
+bounds-last-node-in-loop-i c = small c.requires {i = c.loop-i.i} (omega (arith, c.byte-i-end.ensures.0)) c.line_node-node.ensures.0
 
 pub loop-i-preserved : goal.loop-i-preserved
 loop-i-preserved c =
     let bs = c.args.card.now in
-    let turn = c.loop-i in
-    let i = turn.i in
-    let h = here c.before.before.before.before.before.before in
-    let node = c.line_node-node in
-    let must = c.line_byte-must in
+    let i = c.loop-i.i in
+    let h : i < line_count bs = omega (arith, c.byte-i-end.ensures.0) in
+    let n = c.line_node-node.ensures.0 in
+    let m = c.line_byte-must.ensures.0 in
     let v = c.wider_lines in
-    let chained = turn.invariant.1.0 in
-    let n = node.ensures.0 in
-    let m = must.ensures.0 in
-    let l = turn.masks in
-    let P : ℕ → Type 0 = λ k. get_or (set l i v.result) k 0 ≡ mask_of bs k in (
-      omega (arith, c.loop-i-test.true),
-      (
-        one_more chained c.requires h node.result must.result n m
-            c.with_line.result c.with_line-in-loop-i.result c.with_line.ensures c.with_line-in-loop-i.ensures,
-        (
-          length-set l i v.result ∙ turn.invariant.1.1.0,
-          below_more P i (λ k g. get_or-set_other l i k v.result 0 (λ p. omega (arith, g, p)) ∙ turn.invariant.1.1.1 k g)
-              (get_or-set_same l i v.result 0 (omega (arith, few c.before.before.before.before.before.before, turn.invariant.1.1.0))
-              ∙ one_mask chained c.requires h node.result must.result n m v.result v.ensures),
-        ),
-      ),
-    )
+    let chained = c.loop-i.invariant.chained in
+    let l = c.loop-i.masks in
+    let P : ℕ → Type 0 = λ k. get_or (set l i v.result) k 0 ≡ mask_of bs k in
+    record {
+      chained = one_more chained c.requires h _ _ n m _ _ c.with_line.ensures c.with_line-in-loop-i.ensures;
+      room = length-set l i v.result ∙ c.loop-i.invariant.room;
+      masked = below_more P i (λ k g. get_or-set_other l i k v.result 0 (λ p. omega (arith, g, p)) ∙ c.loop-i.invariant.masked k g)
+          (get_or-set_same l i v.result 0 (omega (arith, few c.requires h)) ∙ one_mask chained c.requires h _ _ n m _ v.ensures);
+    }
 
 pub returns : goal.returns
 returns c =
     let bs = c.args.card.now in
-    let turn = c.loop-i in
-    let all : line_count bs ≤ turn.i = omega (arith, c.loop-i-test.false, c.byte-t.ensures.0) in
-    let is = turn.invariant.1.1.1 in
+    let all : line_count bs ≤ c.loop-i.i = omega (arith, c.byte-i-end.ensures.0) in
+    let is = c.loop-i.invariant.masked in
     record {
-      room = turn.invariant.1.1.0;
+      room = c.loop-i.invariant.room;
       words = λ i h. rw (is i (omega (arith, h, all))) (mask_word c.requires i h);
       bits = λ i h x. rw (is i (omega (arith, h, all))) (mask_waits c.requires i h x);
     }

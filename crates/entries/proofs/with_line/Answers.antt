@@ -1,4 +1,4 @@
-use mathlib.Core.Path.{sym, ap, ◌∙◌}
+use Rattle.std.proofs.Common.{sym, ap, ◌∙◌}
 use Rattle.lines.specs.declared.LineWord.{LineWord}
 use Rattle.lines.proofs.LineLaws.{add_below}
 use Rattle.entries.specs.Inner.Masks.{with_line}
@@ -8,8 +8,4 @@ pub returns-then-joins : goal.returns-then-joins
 unfolding with_line
 returns-then-joins c =
     let a = c.args in
-    ap (λ (s : LineWord). s.bits) (c.add-more.ensures ∙ add_below _ a.i c.requires) ∙ ap (λ b. with_line b a.mask a.i) (sym c.if-joins.true)
-
-pub returns : goal.returns
-unfolding with_line
-returns c = let a = c.args in ap (λ b. with_line b a.mask a.i) (sym c.if-joins.false)
+    ap (λ (s : LineWord). s.bits) (c.add.ensures ∙ add_below _ a.i c.requires) ∙ ap (λ b. with_line b a.mask a.i) (sym c.if-joins.true)

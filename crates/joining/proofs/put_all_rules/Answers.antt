@@ -1,20 +1,13 @@
-use Prim.Native.Nat.{◌+◌, ◌*◌}
-use native.Mathlib.Omega.{arith}
+-- `put_all_rules` meets its contract: the second's rules stand behind the first's.
+use Rattle.std.proofs.Common.{◌+◌, ◌*◌, arith}
 use Rattle.card.specs.Format.{rule_count}
 use Rattle.card.proofs.CardChecked.{sound_front}
 use Rattle.joined.proofs.LaidInTurn.{length_moved_rules}
 use Rattle.joined.proofs.WrittenInTurn.{written_behind}
-use Rattle.card.proofs.CardChecked.{front_here}
 use Rattle.joining.proofs.put_all_rules.Goals as goal
 
-pub word-n-requires : goal.word-n-requires
-word-n-requires c = omega (arith, front_here c.requires.first_sound)
-
-pub byte-requires : goal.byte-requires
-byte-requires c = omega (arith, front_here c.requires.first_sound)
-
-pub put_rules-requires-2 : goal.put_rules-requires-2
-put_rules-requires-2 c = record { sound = c.requires.second_sound; n_bound = omega (arith, c.word-n.ensures.0, (sound_front c.args.first.now c.requires.first_sound).few); room = omega (arith, c.byte.ensures.0, c.put_rules.auto, c.requires.room) }
+pub put_rules-requires-2-clause-n_bound : goal.put_rules-requires-2-clause-n_bound
+put_rules-requires-2-clause-n_bound c = omega (arith, c.word-n.ensures.0, (sound_front _ c.requires.first_sound).few)
 
 pub returns : goal.returns
 returns c =

@@ -31,8 +31,9 @@ put_line-requires-clause-node_bound c =
 pub loop-i-preserved : goal.loop-i-preserved
 unfolding moved_line
 loop-i-preserved c =
+    let put = rw (c.line_node.ensures.0, c.line_byte-must.ensures.0) at c.put_line.ensures in
     written_next 3 (moved_line c.args.n c.args.card.now) (length_moved_line _ _) _ _ _ _ _
-    (omega (arith, c.loop-i-test.true, c.byte-i-end.ensures.0, c.requires.room)) c.loop-i.invariant (rw (c.line_node.ensures.0, c.line_byte-must.ensures.0) at c.put_line.ensures)
+    (omega (arith, c.loop-i-test.true, c.byte-i-end.ensures.0, c.requires.room)) c.loop-i.invariant put
 
 pub returns : goal.returns
 returns c =

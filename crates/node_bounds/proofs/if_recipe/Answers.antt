@@ -1,13 +1,13 @@
-use native.Mathlib.Omega.{arith}
-use mathlib.Core.Path.{refl, sym, ◌∙◌}
+use Rattle.std.proofs.Common.{refl, sym, arith, ne_eqb}
 use Rattle.bounds.specs.Inner.Table.{if_recipe}
-use borrow.Author.Tests.{ne_eqb}
+use Rattle.node_bounds.proofs.KindsNamed.{recipe_named}
 use Rattle.node_bounds.proofs.if_recipe.Goals as goal
 
-pub returns-then-kind_at-eq7 : goal.returns-then-kind_at-eq7
+pub returns-in-Recipe : goal.returns-in-Recipe
 unfolding if_recipe
-returns-then-kind_at-eq7 c = let k = c.kind_at.ensures in (sym (rw (sym k ∙ c.if-kind_at-eq7.true) refl), omega arith)
+returns-in-Recipe c = (sym (rw c.in-Recipe.ensures refl), omega arith)
 
-pub returns-else-kind_at-eq7 : goal.returns-else-kind_at-eq7
+pub returns-in_default : goal.returns-in_default
 unfolding if_recipe
-returns-else-kind_at-eq7 c = let k = c.kind_at.ensures in (sym (rw (ne_eqb _ 7 (λ p. c.if-kind_at-eq7.false (k ∙ p))) refl), omega arith)
+returns-in_default c =
+    (sym (rw (ne_eqb _ 7 (λ p. c.in_default.not-Recipe (recipe_named _ _ c.kind_at.ensures p))) refl), omega arith)

@@ -1,27 +1,18 @@
-use native.Mathlib.Omega.{arith}
-use mathlib.Core.Path.{refl, sym, ap₂, ◌∙◌}
-use Rattle.bounds.specs.Inner.Table.{takes_in, in_class}
+use Rattle.std.proofs.Common.{◌&&◌, refl, sym, ◌∙◌, ap, ap₂, arith}
 use Rattle.lines.specs.Count.{bit}
+use Rattle.bounds.specs.Inner.Table.{takes_in, in_class, class_at, head_at}
+use Rattle.node_bounds.proofs.StepsByKind.{bit_of, bit_small}
 use Rattle.node_bounds.proofs.weight.Goals as goal
 
-pub returns-then-not-linear : goal.returns-then-not-linear
-unfolding bit in_class
-returns-then-not-linear c = let l = c.if-not-linear.true in (sym (rw l refl), omega arith)
+pub returns-then-linear : goal.returns-then-linear
+unfolding in_class
+returns-then-linear c =
+    let ns = c.args.names.now in
+    let test = c.of_head.ensures ∙ ap₂ takes_in c.class.ensures.0 c.head.ensures.0 in
+    let counted = ap (λ b. b && takes_in (class_at ns c.args.c) (head_at ns c.args.i)) c.if-linear.true in
+    let one = c.from.ensures ∙ bit_of c.of_head.result in
+    (one ∙ ap bit (test ∙ sym counted), rw one (bit_small c.of_head.result))
 
-pub returns-then-of_head : goal.returns-then-of_head
+pub returns-else-linear : goal.returns-else-linear
 unfolding bit in_class
-returns-then-of_head c =
-    let l = c.if-not-linear.false in
-    let e =
-    ap₂ takes_in (sym c.class.ensures.0) (sym c.head.ensures.0)
-    ∙ sym c.of_head.ensures ∙ c.if-of_head.true in
-    (sym (rw (l, e) refl), omega arith)
-
-pub returns-else-of_head : goal.returns-else-of_head
-unfolding bit in_class
-returns-else-of_head c =
-    let l = c.if-not-linear.false in
-    let e =
-    ap₂ takes_in (sym c.class.ensures.0) (sym c.head.ensures.0)
-    ∙ sym c.of_head.ensures ∙ c.if-of_head.false in
-    (sym (rw (l, e) refl), omega arith)
+returns-else-linear c = let l = c.if-linear.false in (sym (rw l refl), omega arith)

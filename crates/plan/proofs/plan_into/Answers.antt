@@ -1,9 +1,9 @@
-use native.Mathlib.Omega.{arith}
+use Rattle.std.proofs.Common.{arith, Ok, refl}
 use Rattle.planner.proofs.PlannedExactly.{planned_room}
 use Rattle.plan.proofs.plan_into.Goals as goal
 
-pub print_sheet-requires : goal.print_sheet-requires
-print_sheet-requires g c =
-    let called = c.plan_with_room-answer in
-    let h = planned_room _ _ _ _ _ c.in-Planned.is called.ensures.planning in
-    omega (arith, c.byte-t.ensures.0, called.auto.sheet)
+-- the sheet lies within the buffer
+pub new-requires : goal.new-requires
+new-requires g c =
+    let h = planned_room _ _ _ (Ok c.in-Ok.k) c.in-Ok.k refl c.in-Ok.ensures.planning in
+    omega (arith, c.plan_with_room.auto.sheet)

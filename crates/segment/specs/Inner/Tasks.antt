@@ -59,15 +59,6 @@ halves bs codes i =
     let c = get_or codes i 0 in
     set (set codes i (right_at bs (node_of c) * 32 + nest_of c)) (i + 1) (left_at bs (node_of c) * 32 + nest_of c)
 
--- the next task is ⊤, 1 or ⊗
-pub record Turning (bs codes : List ℕ) (b : Branch) (k : ℕ) : Type 0 where
-  pub laid : Laid bs codes b.len b.count
-  pub some : 1 ≤ b.len
-  pub kind : kind_at bs (node_of (get_or codes (b.len - 1) 0)) ≡ k
-  pub low : 2 ≤ k
-  pub high : k ≤ 4
-  pub counted : Counted b
-
 -- the place p with the branch's items
 abbrev pub items_at : ℕ → Branch → Place → Place
 items_at P b p = holding p (items P b.strict) (items P b.lax) p.room
@@ -88,9 +79,6 @@ pub record Unwound (bs codes codes' : List ℕ) (b b' : Branch) : Type 0 where
       → Least eligible es (agenda_of bs codes' b'.len) (items_at P b' p) l U v
       → (w : Bool) × Least eligible es (agenda_of bs codes b.len) (items_at P b p) l U w × ((b'.slack || v) ≡ (b.slack || w))
   pub counted : Counted b'
-
-pub record Lighter (bs codes codes' : List ℕ) (b b' : Branch) : Type 0 where
-  pub lighter : total bs codes' b'.len < total bs codes b.len
 
 -- the next task, if there is one, is a name, &, ⊸, ⊕ or 0
 pub record OpenTask (bs codes : List ℕ) (b : Branch) : Type 0 where

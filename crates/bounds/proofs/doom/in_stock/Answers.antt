@@ -1,7 +1,4 @@
-use Prim.Native.Nat.{◌+◌, ◌-◌}
-use native.Mathlib.Omega.{arith}
-use mathlib.Core.Path.{◌∙◌, ap₂}
-use borrow.Author.Rules.{rules}
+use Rattle.std.proofs.Common.{◌+◌, ◌-◌, ◌∙◌, ap₂, rules, arith}
 use Rattle.bounds.specs.Inner.Doom.{lent_stock, stock}
 use Rattle.card.proofs.CardChecked.{sound_front}
 use Rattle.bounds.proofs.doom.in_stock.Goals as goal
@@ -15,18 +12,18 @@ byte-requires c = let f = sound_front c.args.card.now c.requires.sound in search
 pub lent_stock-requires : goal.lent_stock-requires
 lent_stock-requires c =
     let f = sound_front c.args.card.now c.requires.sound in
-    let st = c.requires.stores in
-    let w = c.requires.card_bound in
+    let w = c.requires.counted in
     let e = c.byte-t.ensures.0 in
-    let g = c.byte.ensures.0 in record { lines_bound = (omega arith, (omega arith, w.1.1)); name_cells = (st.cells, (st.nodes_room, record { cells = λ k h. st.filed.cells k (omega arith) })) }
+    let g = c.byte.ensures.0 in record {
+      room = (omega arith, (omega arith, w.1.1));
+      stores = (c.requires.stores.cells, record { cells = λ k h. c.requires.stores.filed.cells k (omega arith) });
+    }
 
 pub returns : goal.returns
 unfolding stock
 returns c =
-    let bs = c.args.card.now in
     let t = c.byte-t.ensures.0 in
-    let p = c.byte.ensures.0 in
-    let a = ap₂ ◌+◌ p t in
+    let a = ap₂ ◌+◌ c.byte.ensures.0 t in
     ap₂ ◌+◌ c.line_stock.ensures.0
     (c.lent_stock.ensures.0
     ∙ ap₂ (λ x y. lent_stock c.args.names.now c.args.nodes.now c.args.s x y c.args.c (c.args.count - y)) t a)

@@ -1,18 +1,13 @@
-use native.Mathlib.Omega.{arith}
-use mathlib.Core.Bool.{false≢true}
-use borrow.Author.Tests.{ltb-true}
+use Rattle.std.proofs.Common.{rules, arith, ltb-true}
+use Rattle.bounds.specs.Inner.Table.{high_at}
+use Rattle.bounds.specs.Inner.Doom.{high_sum}
 use Rattle.bounds.proofs.doom.too_many.Goals as goal
 
-pub returns-then-items-eq0 : goal.returns-then-items-eq0
-returns-then-items-eq0 c = λ q. absurd (false≢true q)
-
-pub returns-then-highest-ge255 : goal.returns-then-highest-ge255
-returns-then-highest-ge255 c = λ q. absurd (false≢true q)
-
-pub returns : goal.returns
-returns c =
+pub returns-then-highest-lt255 : goal.returns-then-highest-lt255
+unfolding high_sum
+returns-then-highest-lt255 c =
     λ q.
-    let h = c.high_sum-highest in
-    let s = c.in_stock-items in
-    let l = ltb-true h.result s.result q in
-    (omega (arith, c.if-highest-ge255.false, h.ensures.0), omega (arith, l, s.ensures, h.ensures.0))
+    let highest = c.task_sum-highest in
+    let most = highest.ensures.total (λ i. high_at c.args.table.now i c.args.c) (λ row r h k. search rules) in
+    let above = ltb-true highest.result c.in_stock-items.result q in
+    (omega (arith, c.if-highest-lt255.true, most), omega (arith, above, c.in_stock-items.ensures, most))

@@ -1,48 +1,17 @@
--- The first class that is short ends the loop.
-use native.Mathlib.Omega.{arith}
-use mathlib.Core.Bool.{false≢true}
-use Rattle.bounds.specs.Inner.Doom.{few, many}
+-- Some class is short: `any` stopped at it.
+use Rattle.std.proofs.Common.{ℕ, rules, tests, refl, arith}
+use Rattle.std.proofs.lemmas.Iterator.{cases_from_any, YieldsList-from_range}
+use Rattle.bounds.specs.Inner.Doom.{Short, few, many}
+use Rattle.bounds.proofs.EachBelow.{some_below}
 use Rattle.bounds.proofs.doom.unbalanced.Goals as goal
 
-pub loop-c-init : goal.loop-c-init
-loop-c-init c = omega arith
-
-pub too_few-requires : goal.too_few-requires
-too_few-requires c = record { sound = c.requires.sound; card_bound = (c.requires.card_bound.0, (c.requires.card_bound.1, omega (arith, c.loop-c-test, c.classes-n.ensures.1))); stores = c.requires.stores }
-
-pub returns-then-too_few : goal.returns-then-too_few
-returns-then-too_few c =
-    λ q.
-    record {
-      class = c.loop-c.c;
-      known = omega (arith, c.loop-c-test, c.classes-n.ensures.0);
-      uneven = few (c.too_few.ensures c.if-too_few.true);
-    }
-
-pub too_many-requires : goal.too_many-requires
-too_many-requires c = record {
-  sound = c.requires.sound;
-  card_bound = (
-    c.requires.card_bound.0,
-    (c.requires.card_bound.1, omega (arith, c.loop-c-test, c.classes-n.ensures.1)),
-  );
-  stores = c.requires.stores;
-}
-
-pub returns-then-too_many : goal.returns-then-too_many
-returns-then-too_many c =
-    λ q.
-    let m = c.too_many.ensures c.if-too_many.true in
-    record {
-      class = c.loop-c.c;
-      known =
-          omega
-          (arith, c.loop-c-test, c.classes-n.ensures.0);
-      uneven = many m.0 m.1;
-    }
-
-pub loop-c-preserved : goal.loop-c-preserved
-loop-c-preserved c = omega arith
-
 pub returns : goal.returns
-returns c = λ q. absurd (false≢true q)
+returns c =
+    let a = c.args in
+    let K : ℕ → Type 0 =
+    λ k. Short a.card.now a.names.now a.table.now a.masks.now a.nodes.now a.agenda.now a.len a.count a.strict a.lax k in
+    let found =
+    some_below c.classes.result K _ _
+    (cases_from_any _ _ _ K (λ k. Unit {0}) c.any.ensures.ran (YieldsList-from_range 0 c.classes.result c.classes.result refl (omega arith))
+    (λ x q k. search (rules, tests, few, many)) (λ x q k. search (rules, tests))) in
+    λ q. let w = found q in record { class = w.0; known = omega (arith, w.1, c.classes.ensures.0); uneven = w.2 }

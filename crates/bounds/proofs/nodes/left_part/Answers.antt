@@ -7,7 +7,7 @@ left-requires c = node_here c.requires.sound c.args.i c.requires.node.here
 
 pub returns : goal.returns
 returns c =
-    let p = parts_below c.requires.sound c.args.i c.requires.node.here c.requires.bound.0 c.requires.bound.1 in
+    let p = parts_below c.requires.sound c.args.i c.requires.node.here c.requires.parts.0 c.requires.parts.1 in
     let n = c.requires.node in
     let e = c.left.ensures.0 in
     let q = p.0 in

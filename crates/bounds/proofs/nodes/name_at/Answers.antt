@@ -7,5 +7,5 @@ left-requires c = node_here c.requires.sound c.args.i c.requires.node.here
 
 pub returns : goal.returns
 returns c =
-    let l = name_low c.requires.sound c.args.i c.requires.node.here c.requires.i_value in
+    let l = name_low c.requires.sound c.args.i c.requires.node.here c.requires.atom in
     (c.left.ensures.0, omega (arith, c.left.ensures.0))

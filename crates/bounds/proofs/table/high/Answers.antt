@@ -1,12 +1,7 @@
-use Prim.Native.Nat.{◌+◌, ◌*◌}
-use mathlib.Core.Path.{refl}
-use borrow.Author.Rules.{rules}
+use Rattle.std.proofs.Common.{◌+◌, ◌*◌, refl}
 use Rattle.bounds.specs.Inner.Table.{high_at}
 use Rattle.bounds.proofs.table.high.Goals as goal
 
-pub overflow_cast-result : goal.overflow_cast-result
-overflow_cast-result c = let a = c.args in let b = c.requires.1.1.byte (32832 + (a.i * 64 + a.c)) in search rules
-
 pub returns : goal.returns
 unfolding high_at
-returns c = let a = c.args in let b = c.requires.1.1.byte (32832 + (a.i * 64 + a.c)) in (refl, b)
+returns c = (refl, c.requires.1.1.byte (32832 + (c.args.i * 64 + c.args.c)))

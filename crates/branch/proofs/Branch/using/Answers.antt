@@ -1,19 +1,16 @@
 -- A rule is used as an item past all others: nothing is taken. Then by whether the item is a line.
-use Prim.Native.Nat.{ℕ, ◌+◌, ◌-◌, ◌≤◌, ◌<◌}
-use native.Mathlib.Omega.{arith}
-use mathlib.Core.Path.{◌≡◌, refl, sym, ap, ◌∙◌}
-use mathlib.Core.Bool.{Bool, true, false, cond}
+use Rattle.std.proofs.Common.{ℕ, ◌-◌, ◌≤◌, ◌<◌, ◌≡◌, refl, sym, ap, subst, ◌∙◌, Bool, true, false, cond, ltb, arith}
 use borrow.Author.Tests.{lt-ltb, le-ltb}
-use lib.Dec.{ltb}
 use Rattle.lines.specs.declared.LineSet.{LineSet}
 use Rattle.lines.specs.declared.LineWord.{LineWord}
 use Rattle.lines.specs.Set.{add_s, take_s}
 use Rattle.lines.specs.Inner.Word.{add_l}
 use Rattle.lines.proofs.MemberLaws.{member_past, add_past, take_past}
 use Rattle.branch.specs.declared.Branch.{Branch}
-use Rattle.branch.specs.Inner.Values.{item_of, spent_b, using_b}
-use Rattle.branch.proofs.CountsKept.{kept, counted_using}
+use Rattle.branch.specs.Inner.Values.{Counted, item_of, spent_b, using_b}
+use Rattle.branch.proofs.CountsKept.{counted_using}
 use Rattle.branch.proofs.Branch.using.Goals as goal
+use Rattle.branch.proofs.Branch.using.Goals.{then-item-lines, else-item-lines}
 
 -- what is done with the item is done with e - P, and nothing for a rule
 module _ (P e : ℕ) where
@@ -61,72 +58,31 @@ module _ (P e : ℕ) where
         go true k = refl
         go false k = rw (le-ltb (e - P) T k) refl
 
-pub returns-then-item-lines : goal.returns-then-item-lines
+pub returns-clause-value : goal.returns-clause-value
 unfolding using_b
-returns-then-item-lines c =
+returns-clause-value c =
     let a = c.args in
     let b = a.self in
     let item = c.item_of-item.ensures in
-    let low : item_of a.rules a.e < a.lines = rw (sym item) c.if-item-lines.true in record {
-      value = (kept (counted_using b a.rules a.lines a.e a.len c.requires.counted)
-          (λ i. record {
-            at = b.at + 1;
-            count = b.count;
-            len = a.len;
-            limit = b.limit;
-            due = (c.spent.ensures ∙ ap (spent_b b) item ∙ left_due a.rules a.e b) i;
-            strict = (c.take-b.ensures ∙ ap (take_s b.strict) item ∙ taken a.rules a.e b.strict) i;
-            lax = (c.take-b-2.ensures ∙ ap (take_s b.lax) item ∙ taken a.rules a.e b.lax) i;
-            used = (c.add-b.ensures ∙ ap (add_s b.used) item ∙ added a.rules a.e b.used) i;
-            seen = (c.add-b-then-item-lines.ensures ∙ ap (add_l b.seen) item ∙ line_seen a.rules a.e a.lines b.seen c.requires.at_bound.1 low) i;
-            slack = b.slack;
-          })).0;
-      counted_2 = (kept (counted_using b a.rules a.lines a.e a.len c.requires.counted)
-          (λ i. record {
-            at = b.at + 1;
-            count = b.count;
-            len = a.len;
-            limit = b.limit;
-            due = (c.spent.ensures ∙ ap (spent_b b) item ∙ left_due a.rules a.e b) i;
-            strict = (c.take-b.ensures ∙ ap (take_s b.strict) item ∙ taken a.rules a.e b.strict) i;
-            lax = (c.take-b-2.ensures ∙ ap (take_s b.lax) item ∙ taken a.rules a.e b.lax) i;
-            used = (c.add-b.ensures ∙ ap (add_s b.used) item ∙ added a.rules a.e b.used) i;
-            seen = (c.add-b-then-item-lines.ensures ∙ ap (add_l b.seen) item ∙ line_seen a.rules a.e a.lines b.seen c.requires.at_bound.1 low) i;
-            slack = b.slack;
-          })).1;
+    let seen : c.if-item-lines.seen ≡ lit a.rules a.e a.lines b.seen (ltb a.e a.rules) = elim c.if-item-lines.branch [
+      | then-item-lines w ↦ w.seen-is ∙ w.add-seen.ensures ∙ ap (add_l b.seen) item
+          ∙ line_seen a.rules a.e a.lines b.seen c.requires.few_lines (rw (sym item) w.if-item-lines.true)
+      | else-item-lines w ↦ w.seen-is ∙ none_seen a.rules a.e a.lines b.seen (rw (sym item) w.if-item-lines.false)
+    ] in
+    λ i. record {
+      at = (c.chose.ensures.value i).at;
+      count = (c.chose.ensures.value i).count;
+      len = a.len;
+      limit = (c.chose.ensures.value i).limit;
+      due = (c.spent.ensures ∙ ap (spent_b b) item ∙ left_due a.rules a.e b) i;
+      strict = (c.take.ensures ∙ ap (take_s b.strict) item ∙ taken a.rules a.e b.strict) i;
+      lax = (c.take-2.ensures ∙ ap (take_s b.lax) item ∙ taken a.rules a.e b.lax) i;
+      used = (c.add.ensures ∙ ap (add_s b.used) item ∙ added a.rules a.e b.used) i;
+      seen = seen i;
+      slack = (c.chose.ensures.value i).slack;
     }
 
-pub returns-else-item-lines : goal.returns-else-item-lines
-unfolding using_b
-returns-else-item-lines c =
+pub returns-clause-counted : goal.returns-clause-counted
+returns-clause-counted c =
     let a = c.args in
-    let b = a.self in
-    let item = c.item_of-item.ensures in
-    let high : a.lines ≤ item_of a.rules a.e = rw (sym item) c.if-item-lines.false in record {
-      value = (kept (counted_using b a.rules a.lines a.e a.len c.requires.counted)
-          (λ i. record {
-            at = b.at + 1;
-            count = b.count;
-            len = a.len;
-            limit = b.limit;
-            due = (c.spent.ensures ∙ ap (spent_b b) item ∙ left_due a.rules a.e b) i;
-            strict = (c.take-b.ensures ∙ ap (take_s b.strict) item ∙ taken a.rules a.e b.strict) i;
-            lax = (c.take-b-2.ensures ∙ ap (take_s b.lax) item ∙ taken a.rules a.e b.lax) i;
-            used = (c.add-b.ensures ∙ ap (add_s b.used) item ∙ added a.rules a.e b.used) i;
-            seen = none_seen a.rules a.e a.lines b.seen high i;
-            slack = b.slack;
-          })).0;
-      counted_2 = (kept (counted_using b a.rules a.lines a.e a.len c.requires.counted)
-          (λ i. record {
-            at = b.at + 1;
-            count = b.count;
-            len = a.len;
-            limit = b.limit;
-            due = (c.spent.ensures ∙ ap (spent_b b) item ∙ left_due a.rules a.e b) i;
-            strict = (c.take-b.ensures ∙ ap (take_s b.strict) item ∙ taken a.rules a.e b.strict) i;
-            lax = (c.take-b-2.ensures ∙ ap (take_s b.lax) item ∙ taken a.rules a.e b.lax) i;
-            used = (c.add-b.ensures ∙ ap (add_s b.used) item ∙ added a.rules a.e b.used) i;
-            seen = none_seen a.rules a.e a.lines b.seen high i;
-            slack = b.slack;
-          })).1;
-    }
+    subst Counted (sym (returns-clause-value c)) (counted_using a.self a.rules a.lines a.e a.len c.requires.counted)

@@ -1,13 +1,8 @@
 -- The node goes down the right parts of recipes: it stays a clause of the card, and its conditions put on the agenda so far are those of
 -- the clause put on the agenda at first.
-use Prim.Native.Nat.{ℕ, ◌+◌, ◌*◌, ◌<◌, ◌≤◌}
-use mathlib.Core.Path.{◌≡◌, refl, sym, ◌∙◌, ap}
+use Rattle.std.proofs.Common.{ℕ, ◌+◌, ◌*◌, ◌<◌, ◌≤◌, ◌≡◌, refl, sym, ◌∙◌, ap, true, List, ◌∷◌, length, set, arith, rules}
 use mathlib.Core.Logic.{⊎_elim}
-use mathlib.Core.Bool.{true}
-use mathlib.Core.List.{List, ◌∷◌}
-use native.Mathlib.Omega.{arith}
-use borrow.Author.Rules.{rules}
-use lib.ListN.{length, set, length-set}
+use lib.ListN.{length-set}
 use Rattle.calculus.specs.Formula.{Clause}
 use Rattle.card.specs.Format.{node_count, kind_at, left_at, right_at}
 use Rattle.card.specs.Fault.{Sound, clause_part, goal_part, height_at}
@@ -19,6 +14,7 @@ use Rattle.card.proofs.SoundNodes.{sound_recipe, sound_menu}
 use Rattle.card.proofs.SoundNodes.{height_pos, height_parts}
 use Rattle.agenda.specs.Inner.Agenda.{Agenda, pushed, core}
 use Rattle.segment.specs.Inner.Tasks.{agenda_of, Pushing}
+use Rattle.segment.proofs.KindsNumbered.{named, numbered_is}
 use Rattle.segment.proofs.TasksAreAgendas.{task_code, fit_code, agenda_put, laid_put}
 use Rattle.segment.proofs.tasks.push.Invariants.{Putting}
 use Rattle.segment.proofs.tasks.push.Goals as goal
@@ -106,72 +102,50 @@ module _ {bs codes₀ codes : List ℕ} {len clause nest at n : ℕ} (s : Sound 
     laid = t.laid;
   }
 
-pub kind-k-requires : goal.kind-k-requires
-kind-k-requires c = here c.requires.sound c.args.clause c.requires.clause_value
+pub kind_of-requires : goal.kind_of-requires
+kind_of-requires c = here c.requires.sound c.loop-agenda.at c.loop-agenda.invariant.part
 
-pub loop-k-init : goal.loop-k-init
-loop-k-init c = (
-  c.kind-k.ensures.0,
-  record {
-    part = c.requires.clause_value;
-    room = c.requires.nest_bound.1.1;
-    more = omega arith;
-    height = omega arith;
-    same_core = refl;
-    no_lower = omega arith;
-    tasks = refl;
-    laid = λ count l d e. l;
-  },
-)
+pub loop-agenda-init : goal.loop-agenda-init
+loop-agenda-init c = record {
+  part = c.requires.a_clause;
+  room = search rules;
+  more = omega arith;
+  height = omega arith;
+  same_core = refl;
+  no_lower = omega arith;
+  tasks = refl;
+  laid = λ count l d e. l;
+}
 
 pub left-requires : goal.left-requires
-left-requires c =
-    let turn = c.loop-k in
-    here c.requires.sound turn.at turn.invariant.1.part
+left-requires c = here c.requires.sound c.loop-agenda.at c.loop-agenda.invariant.part
 
 pub put-requires : goal.put-requires
 put-requires c =
-    let turn = c.loop-k in
-    let t = turn.invariant.1 in
-    let small = small c.requires.sound turn.at t.part (omega arith) in record {
-      i_bound = (
-        inside c.requires.sound t c.requires.nest_bound.0 c.requires.nest_bound.1.0 (omega arith),
-        (omega (arith, small, c.left.ensures.0), c.requires.nest_bound.0),
-      );
-      agenda_len = t.room;
-    }
+    let t = c.loop-agenda.invariant in
+    let k = c.in-Recipe.ensures in
+    let small = small c.requires.sound c.loop-agenda.at t.part k in
+    (inside c.requires.sound t c.requires.nest_bound c.requires.room k, (omega (arith, small, c.left.ensures.0), c.requires.nest_bound))
 
 pub overflow_add-n : goal.overflow_add-n
 overflow_add-n c =
-    let turn = c.loop-k in
-    let n = inside c.requires.sound turn.invariant.1 c.requires.nest_bound.0 c.requires.nest_bound.1.0 (omega arith) in search rules
+    let n = inside c.requires.sound c.loop-agenda.invariant c.requires.nest_bound c.requires.room c.in-Recipe.ensures in
+    omega arith
 
 pub right-at-requires : goal.right-at-requires
-right-at-requires c =
-    let turn = c.loop-k in
-    here c.requires.sound turn.at turn.invariant.1.part
+right-at-requires c = here c.requires.sound c.loop-agenda.at c.loop-agenda.invariant.part
 
-pub kind-k-requires-in-loop-k : goal.kind-k-requires-in-loop-k
-kind-k-requires-in-loop-k c =
-    let turn = c.loop-k in
-    let part = rest c.requires.sound turn.at turn.invariant.1.part (omega arith) in
-    here c.requires.sound c.right-at.result (rw c.right-at.ensures.0 part)
-
-pub loop-k-smaller : goal.loop-k-smaller
-loop-k-smaller c =
-    let turn = c.loop-k in
-    let low = lower c.requires.sound turn.at turn.invariant.1.part (omega arith) in
+pub loop-agenda-smaller : goal.loop-agenda-smaller
+loop-agenda-smaller c =
+    let low = lower c.requires.sound c.loop-agenda.at c.loop-agenda.invariant.part c.in-Recipe.ensures in
     omega (arith, low.1, c.right-at.ensures.0)
 
-pub loop-k-preserved : goal.loop-k-preserved
-loop-k-preserved c =
-    let turn = c.loop-k in
-    let again = onward c.requires.sound turn.invariant.1 c.requires.nest_bound.0 c.requires.nest_bound.1.0 (omega arith) in (
-      c.kind-k-in-loop-k.ensures.0,
-      rw (c.put.ensures, c.left.ensures.0, c.right-at.ensures.0) again,
-    )
+pub loop-agenda-preserved : goal.loop-agenda-preserved
+loop-agenda-preserved c =
+    rw (c.put.ensures, c.left.ensures.0, c.right-at.ensures.0)
+    (onward c.requires.sound c.loop-agenda.invariant c.requires.nest_bound c.requires.room c.in-Recipe.ensures)
 
 pub returns : goal.returns
 returns c =
-    let turn = c.loop-k in
-    pushes c.requires.sound turn.invariant.1 c.requires.nest_bound.0 c.requires.nest_bound.1.0 (λ k. omega arith)
+    pushes c.requires.sound c.loop-agenda.invariant c.requires.nest_bound c.requires.room
+    (λ k. c.in_default.not-Recipe (numbered_is _ c.kind_of.ensures (omega arith) (omega arith) ∙ ap named k))

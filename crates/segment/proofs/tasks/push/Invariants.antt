@@ -1,9 +1,5 @@
-use Prim.Native.Nat.{ℕ, ◌+◌, ◌*◌, ◌≤◌}
-use mathlib.Core.Path.{◌≡◌}
-use mathlib.Core.Bool.{true}
-use mathlib.Core.List.{List}
-use lib.ListN.{length}
-use Rattle.card.specs.Format.{rule_count, node_count, kind_at}
+use Rattle.std.proofs.Common.{ℕ, ◌+◌, ◌*◌, ◌≤◌, ◌≡◌, true, List, length}
+use Rattle.card.specs.Format.{rule_count, node_count}
 use Rattle.card.specs.Fault.{clause_part, height_at}
 use Rattle.card.specs.Decode.{clause_of}
 use Rattle.agenda.specs.Inner.Agenda.{pushed, core}
@@ -22,8 +18,8 @@ pub record Putting (bs codes₀ codes : List ℕ) (len clause nest at n : ℕ) :
   pub laid : (count : ℕ) → Laid bs codes₀ len count → len + height_at bs clause + 6 * nest ≤ 105
       → count + height_at bs clause + 6 * nest ≤ rule_count bs + 169 → Laid bs codes n count
 
-abbrev pub invariant-loop-k : goal.invariant-loop-k
-invariant-loop-k l = (l.k ≡ kind_at l.card l.at) × Putting l.card l.initial.agenda l.agenda l.len l.clause l.nest l.at l.n
+abbrev pub invariant-loop-agenda : goal.invariant-loop-agenda
+invariant-loop-agenda l = Putting l.card l.initial.agenda l.agenda l.len l.clause l.nest l.at l.n
 
-abbrev pub decreases-loop-k : goal.decreases-loop-k
-decreases-loop-k l = l.at
+abbrev pub decreases-loop-agenda : goal.decreases-loop-agenda
+decreases-loop-agenda l = l.at

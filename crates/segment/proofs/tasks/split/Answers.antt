@@ -1,9 +1,5 @@
 -- The node is a ⊗ of the card, so its parts are nodes of the card too.
-use Prim.Native.Nat.{ℕ, ◌+◌, ◌*◌, ◌≤◌, ◌<◌}
-use mathlib.Core.Path.{◌≡◌, ◌∙◌, ap, ap₂}
-use mathlib.Core.List.{List}
-use native.Mathlib.Omega.{arith}
-use lib.ListN.{length, get_or, set, length-set}
+use Rattle.std.proofs.Common.{ℕ, ◌+◌, ◌*◌, ◌≤◌, ◌<◌, ◌≡◌, ◌∙◌, ap, ap₂, List, length, get_or, set, arith}
 use Rattle.card.specs.Format.{node_count, left_at, right_at}
 use Rattle.card.specs.Fault.{Sound}
 use Rattle.card.proofs.CardChecked.{sound_front}
@@ -26,30 +22,22 @@ module _ {bs codes : List ℕ} {i : ℕ} (s : Sound bs) (p : Splitting bs codes 
       (omega (arith, q.0, below), omega (arith, q.1, below))
 
 pub left-l-requires : goal.left-l-requires
-left-l-requires c =
-    here c.requires.sound c.requires.splitting c.node-g.result c.node-g.ensures
+left-l-requires c = here c.requires.sound c.requires.splitting c.node-g.result c.node-g.ensures
 
 pub right-r-requires : goal.right-r-requires
-right-r-requires c =
-    here c.requires.sound c.requires.splitting c.node-g.result c.node-g.ensures
+right-r-requires c = here c.requires.sound c.requires.splitting c.node-g.result c.node-g.ensures
 
 pub put-requires : goal.put-requires
 put-requires c =
-    let node = c.node-g in
-    let nest = c.nest-n in
     let low = nest_low (get_or c.args.agenda.now c.args.i 0) in
-    let q = parts c.requires.sound c.requires.splitting node.result node.ensures in
-    let l = c.left-l.ensures.0 in
-    let r = c.right-r.ensures.0 in record { i_bound = (omega (arith, c.requires.splitting.within), (omega (arith, q.0, q.1, l, r), omega (arith, nest.ensures, low))); agenda_len = c.requires.splitting.room }
+    let q = parts c.requires.sound c.requires.splitting c.node-g.result c.node-g.ensures in
+    (omega (arith, c.requires.splitting.within), (omega (arith, q.1, c.right-r.ensures.0), omega (arith, c.nest-n.ensures, low)))
 
 pub put-requires-2 : goal.put-requires-2
 put-requires-2 c =
-    let node = c.node-g in
-    let nest = c.nest-n in
     let low = nest_low (get_or c.args.agenda.now c.args.i 0) in
-    let q = parts c.requires.sound c.requires.splitting node.result node.ensures in
-    let l = c.left-l.ensures.0 in
-    let r = c.right-r.ensures.0 in record { i_bound = (c.requires.splitting.within, (omega (arith, q.0, q.1, l, r), omega (arith, nest.ensures, low))); agenda_len = rw c.put.ensures (length-set c.args.agenda.now c.args.i _ ∙ c.requires.splitting.room) }
+    let q = parts c.requires.sound c.requires.splitting c.node-g.result c.node-g.ensures in
+    (c.requires.splitting.within, (omega (arith, q.0, c.left-l.ensures.0), omega (arith, c.nest-n.ensures, low)))
 
 pub returns : goal.returns
 unfolding halves

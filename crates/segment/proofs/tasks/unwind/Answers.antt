@@ -1,107 +1,110 @@
 -- What is told of the agenda so far is told of the agenda at first; each turn makes it lighter.
-use Prim.Native.Nat.{ℕ, ◌+◌, ◌-◌, ◌*◌, ◌<◌, ◌≤◌}
-use mathlib.Core.Path.{◌≡◌, sym, ◌∙◌, ap}
-use mathlib.Core.Logic.{inl, inr}
-use mathlib.Core.List.{List}
-use native.Mathlib.Omega.{arith}
-use lib.ListN.{length, get_or}
+use Rattle.std.proofs.Common.{ℕ, ◌+◌, ◌-◌, ◌*◌, ◌<◌, ◌≤◌, ◌≡◌, sym, ◌∙◌, ap, List, length, get_or, arith}
+use mathlib.Core.Logic.{◌⊎◌, inl, inr}
+use native.Mathlib.Decide.{dec_lt}
 use Rattle.card.specs.Format.{node_count, kind_at}
 use Rattle.card.specs.Fault.{Sound}
 use Rattle.card.proofs.SoundNodes.{goal_lower, goal_kind, node_here}
+use Rattle.card.specs.Kinds.{Numbered}
+use Rattle.card.specs.declared.kinds.Kind.{Kind}
+use Rattle.card.specs.declared.kinds.Kind.TheVariants.{Top, One, Tensor}
 use Rattle.branch.specs.declared.Branch.{Branch}
-use Rattle.branch.specs.Inner.Values.{Counted}
-use Rattle.segment.specs.Inner.Tasks.{node_of, Laid, Turning, Opened}
+use Rattle.segment.specs.Inner.Tasks.{node_of, Laid, Unwound, Opened}
+use Rattle.segment.proofs.KindsNumbered.{named, numbered_is}
 use Rattle.segment.proofs.TasksAreAgendas.{laid_short}
-use Rattle.segment.proofs.TurnsTell.{unwound_self, unwound_trans}
+use Rattle.segment.proofs.TurnsTell.{Turning, unwound_self, unwound_trans, rest_turn, done_turn, both_turn, both_short, both_splits}
 use Rattle.segment.proofs.tasks.unwind.Goals as goal
 
-module _ {bs codes : List ℕ} (b : Branch) (s : Sound bs) (l : Laid bs codes b.len b.count) (h : 0 < b.len) where
-  inside : b.len - 1 < 104
-  inside = omega (arith, laid_short l)
+turning : {bs codes₀ codes : List ℕ} {b₀ b : Branch} → Unwound bs codes₀ codes b₀ b → 0 < b.len → Turning bs codes b
+turning u some = record { laid = u.laid; some = omega arith; counted = u.counted }
 
-  module _ (g : ℕ) (e : g ≡ node_of (get_or codes (b.len - 1) 0)) where
-    here : 16 + 5 * g ≤ length bs
-    here =
-        let f = (l.fits (b.len - 1) (omega arith)).is_goal_part in
-        let p = goal_lower bs (node_count bs) (node_of (get_or codes (b.len - 1) 0)) f in
-        node_here s g (omega arith)
+other : (k : ℕ) → 1 ≤ k → (k ≡ 2 → ⊥) → (k ≡ 3 → ⊥) → (k ≡ 4 → ⊥) → (k ≡ 1) ⊎ (4 < k)
+other k a t o p = at (dec_lt 4 k)
+  where
+    at : Dec (4 < k) → (k ≡ 1) ⊎ (4 < k)
+    at (yes h) = inr h
+    at (no h) = inl (omega arith)
 
-    module _ (k : ℕ) (q : k ≡ kind_at bs g) where
-      kind_is : kind_at bs (node_of (get_or codes (b.len - 1) 0)) ≡ k
-      kind_is = ap (kind_at bs) (sym e) ∙ sym q
+module _ {bs codes : List ℕ} (b : Branch) (s : Sound bs) (l : Laid bs codes b.len b.count) (some : 0 < b.len) (g : ℕ)
+    (e : g ≡ node_of (get_or codes (b.len - 1) 0)) where
+  here : 16 + 5 * g ≤ length bs
+  here =
+      let f = (l.fits (b.len - 1) (omega arith)).is_goal_part in
+      let p = goal_lower bs (node_count bs) (node_of (get_or codes (b.len - 1) 0)) f in
+      node_here s g (omega arith)
 
-      turning : (k ≡ 1 → ⊥) → k ≤ 4 → Counted b → Turning bs codes b k
-      turning n m d =
-          let f = (l.fits (b.len - 1) (omega arith)).is_goal_part in
-          let p = goal_kind bs (node_count bs) (node_of (get_or codes (b.len - 1) 0)) f in
-          record { laid = l; some = omega arith; kind = kind_is; low = omega (arith, n, p.0, kind_is); high = m; counted = d }
-
-      open_name : k ≡ 1 → Opened bs codes b
-      unfolding Opened
-      open_name n = inr (record { some = omega arith; kind = inl (kind_is ∙ n) })
-
-      open_high : 4 < k → Opened bs codes b
-      unfolding Opened
-      open_high n = inr (record { some = omega arith; kind = inr (omega (arith, n, kind_is)) })
-
-open_none : (bs codes : List ℕ) (b : Branch) → b.len ≡ 0 → Opened bs codes b
-unfolding Opened
-open_none bs codes b e = inl e
+  -- a task of another kind than ⊤, 1 and ⊗
+  open_other : (x : Kind) → Numbered x (kind_at bs g) → (x ≡ Top → ⊥) → (x ≡ One → ⊥) → (x ≡ Tensor → ⊥) → Opened bs codes b
+  unfolding Opened
+  open_other x n t o p =
+      let f = (l.fits (b.len - 1) (omega arith)).is_goal_part in
+      let low : 1 ≤ kind_at bs g = rw e (goal_kind bs (node_count bs) (node_of (get_or codes (b.len - 1) 0)) f).0 in
+      let is = λ (h : kind_at bs g ≤ 4). numbered_is x n low (omega arith) in
+      inr (record {
+        some = omega arith;
+        kind = rw (sym e) (other (kind_at bs g) low (λ q. t (is (omega arith) ∙ ap named q)) (λ q. o (is (omega arith) ∙ ap named q))
+            (λ q. p (is (omega arith) ∙ ap named q)));
+      })
 
 pub loop-c-init : goal.loop-c-init
 loop-c-init c = unwound_self c.requires.laid c.requires.counted
 
 pub node-requires : goal.node-requires
-node-requires c =
-    let turn = c.loop-c in
-    (inside turn.c c.requires.sound turn.invariant.laid c.loop-c-test.true, turn.invariant.laid.room)
+node-requires c = omega (arith, laid_short c.loop-c.invariant.laid)
 
-pub kind-k-requires : goal.kind-k-requires
-kind-k-requires c =
-    let turn = c.loop-c in
-    here turn.c c.requires.sound turn.invariant.laid c.loop-c-test.true c.node.result c.node.ensures
+pub kind_of-requires : goal.kind_of-requires
+kind_of-requires c = here c.loop-c.c c.requires.sound c.loop-c.invariant.laid c.loop-c-test.true _ c.node.ensures
 
-pub returns-then-k-eq1 : goal.returns-then-k-eq1
-returns-then-k-eq1 c =
-    let turn = c.loop-c in
-    let some = c.loop-c-test.true in
-    let node = c.node in
-    let kind = c.kind-k in record {
-      unwound = turn.invariant;
-      opened = open_name turn.c c.requires.sound turn.invariant.laid some node.result node.ensures
-          kind.result kind.ensures.0 c.if-k-eq1.true;
-    }
+pub loop-c-smaller-in-Top : goal.loop-c-smaller-in-Top
+loop-c-smaller-in-Top c =
+    let t = turning c.loop-c.invariant c.loop-c-test.true in
+    rw c.eased-c.ensures.value (rest_turn c.requires.sound t (rw c.node.ensures at c.in-Top.ensures)).1
 
-pub returns-then-k-gt4 : goal.returns-then-k-gt4
-returns-then-k-gt4 c =
-    let turn = c.loop-c in
-    let some = c.loop-c-test.true in
-    let node = c.node in
-    let kind = c.kind-k in record {
-      unwound = turn.invariant;
-      opened = open_high turn.c c.requires.sound turn.invariant.laid some node.result node.ensures
-          kind.result kind.ensures.0 c.if-k-gt4.true;
-    }
+pub loop-c-preserved-in-Top : goal.loop-c-preserved-in-Top
+loop-c-preserved-in-Top c =
+    let t = turning c.loop-c.invariant c.loop-c-test.true in
+    rw c.eased-c.ensures.value
+    (unwound_trans c.loop-c.invariant (rest_turn c.requires.sound t (rw c.node.ensures at c.in-Top.ensures)).0)
 
-pub turn-c-requires : goal.turn-c-requires
-turn-c-requires c =
-    let turn = c.loop-c in
-    let some = c.loop-c-test.true in
-    let node = c.node in
-    let kind = c.kind-k in record {
-      sound = c.requires.sound;
-      turning = turning turn.c c.requires.sound turn.invariant.laid some node.result
-          node.ensures kind.result kind.ensures.0 c.if-k-eq1.false c.if-k-gt4.false turn.invariant.counted;
-    }
+pub loop-c-smaller-in-One : goal.loop-c-smaller-in-One
+loop-c-smaller-in-One c =
+    let t = turning c.loop-c.invariant c.loop-c-test.true in
+    rw c.dropped-c.ensures.value (done_turn c.requires.sound t (rw c.node.ensures at c.in-One.ensures)).1
+
+pub loop-c-preserved-in-One : goal.loop-c-preserved-in-One
+loop-c-preserved-in-One c =
+    let t = turning c.loop-c.invariant c.loop-c-test.true in
+    rw c.dropped-c.ensures.value
+    (unwound_trans c.loop-c.invariant (done_turn c.requires.sound t (rw c.node.ensures at c.in-One.ensures)).0)
+
+pub split-requires-clause-splitting : goal.split-requires-clause-splitting
+split-requires-clause-splitting c =
+    let t = turning c.loop-c.invariant c.loop-c-test.true in
+    both_splits c.requires.sound t (rw c.node.ensures at c.in-Tensor.ensures)
+
+pub longer-c-requires-clause-len_bound : goal.longer-c-requires-clause-len_bound
+longer-c-requires-clause-len_bound c =
+    let t = turning c.loop-c.invariant c.loop-c-test.true in
+    both_short c.requires.sound t (rw c.node.ensures at c.in-Tensor.ensures)
 
 pub loop-c-smaller : goal.loop-c-smaller
-loop-c-smaller c = c.turn-c.ensures.lighter.lighter
+loop-c-smaller c =
+    let t = turning c.loop-c.invariant c.loop-c-test.true in
+    rw (c.longer-c.ensures.value, c.split.ensures) (both_turn c.requires.sound t (rw c.node.ensures at c.in-Tensor.ensures)).1
 
 pub loop-c-preserved : goal.loop-c-preserved
 loop-c-preserved c =
-    let inv = c.loop-c.invariant in
-    unwound_trans inv c.turn-c.ensures.unwound
+    let t = turning c.loop-c.invariant c.loop-c-test.true in
+    rw (c.longer-c.ensures.value, c.split.ensures)
+    (unwound_trans c.loop-c.invariant (both_turn c.requires.sound t (rw c.node.ensures at c.in-Tensor.ensures)).0)
+
+pub returns-in_default : goal.returns-in_default
+returns-in_default c = record {
+  unwound = c.loop-c.invariant;
+  opened = open_other c.loop-c.c c.requires.sound c.loop-c.invariant.laid c.loop-c-test.true _ c.node.ensures _ c.kind_of.ensures
+      c.in_default.not-Top c.in_default.not-One c.in_default.not-Tensor;
+}
 
 pub returns : goal.returns
-returns c =
-    let turn = c.loop-c in record { unwound = turn.invariant; opened = open_none c.args.card.now turn.agenda turn.c (omega (arith, c.loop-c-test.false)) }
+unfolding Opened
+returns c = record { unwound = c.loop-c.invariant; opened = inl (omega arith) }

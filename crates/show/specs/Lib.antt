@@ -1,2 +1,0 @@
--- The terms of the contracts.
-pub mod Parts
