@@ -15,11 +15,11 @@ pub remembering-requires : goal.remembering-requires
 remembering-requires t c = record { starts = c.requires; tabled = λ h. absurd (omega (arith, h)) }
 
 pub prepare-ready-requires : goal.prepare-ready-requires
-prepare-ready-requires t c = record { table_held = record { sound = c.requires.sound; names_held = new_names 1577 refl; table_held = new_table 66177 refl }; masks_len = refl }
+prepare-ready-requires t c = record { sound = c.requires.sound; names_held = new_names 1577 refl; table_held = new_table 66177 refl }
 
 pub pruned-requires : goal.pruned-requires
 pruned-requires t c =
     (unasked c.args.bounded c.if-not-bounded.false c.decreases, c.requires)
 
 pub remembering-requires-2 : goal.remembering-requires-2
-remembering-requires-2 t c = record { starts = c.requires; tabled = λ h. (c.prepare-ready.ensures.table_held_2.0, c.prepare-ready.ensures.variant.0 c.if-not-ready.false) }
+remembering-requires-2 t c = record { starts = c.requires; tabled = λ h. (c.prepare-ready.ensures.held, c.prepare-ready.ensures.settled.0 c.if-not-ready.false) }

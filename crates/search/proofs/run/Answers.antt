@@ -26,7 +26,7 @@ put-requires c =
 pub solve-requires : goal.solve-requires
 solve-requires c =
     let q = c.requires.starts in
-    let small = c.shared_slice_known-1.given 10 in
+    let small = c.type_inv.card 10 in
     let goal = at_goal (replicate 104 0) c.start-b.ensures.value c.word-goal.ensures.0 c.byte-depth.ensures.0
     c.put.ensures refl in
     let told = asked q.sound goal _ _ _ _ q.scope q.waiting q.entered q.tape_room (omega arith) in record {
@@ -40,7 +40,7 @@ solve-requires c =
 pub returns : goal.returns
 returns c =
     let q = c.requires.starts in
-    let small = c.shared_slice_known-1.given 10 in
+    let small = c.type_inv.card 10 in
     let goal = at_goal (replicate 104 0) c.start-b.ensures.value c.word-goal.ensures.0 c.byte-depth.ensures.0
     c.put.ensures refl in
     let stays = c.solve.ensures.stays in record { ran = ran q.sound goal c.solve.ensures.solving q.scope (omega arith); starts = started q.sound goal c.solve.ensures.solving q; weary = stays.weary }
