@@ -1,7 +1,6 @@
 // The search: the first list of a sound card (01, "Steps, nesting, order, marks").
 #![tactic(auto)]
 
-ghost use Rattle.std.specs.Prelude.{◌≡◌};
 ghost use Rattle.card.specs.Fault.{Sound};
 ghost use Rattle.branch.specs.Inner.Values.{answer_in, Awake};
 ghost use Rattle.prune.specs.Inner.Prune.{Tabled, Stocked};
