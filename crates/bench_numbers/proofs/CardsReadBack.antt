@@ -1,24 +1,18 @@
 -- A number that tells a card reads as the outcome that it tells.
 use Prim.Native.Nat.{ℕ, ◌+◌, ◌*◌, ◌^◌, ◌≤◌, ◌<◌}
 use native.Mathlib.Omega.{arith}
-use mathlib.Core.Path.{◌≡◌, refl, sym, ap, ap₂, ◌∙◌}
+use mathlib.Core.Path.{◌≡◌, refl, ap, ap₂, ◌∙◌}
 use mathlib.Core.List.{List}
 use Rattle.card.specs.Format.{Bytes}
 use Rattle.card.specs.Fault.{Placed}
-use Rattle.card.specs.Verdict.{Where, card, line, sheet, where_of}
-use Rattle.numbers.specs.Numbers.{number_in, card_in, place_in, index_in, places, place_of, Plain}
+use Rattle.card.specs.Verdict.{Where, card, line, sheet}
+use Rattle.numbers.specs.Numbers.{number_in, card_in, place_in, index_in, places, place_of, said_by}
 use Rattle.numbers.proofs.NumbersReadBack.{said_fine, said_refused, pack, number_back, place_back, index_back, no_card, pack_low, Numbered}
 use Rattle.numbers.proofs.NumbersReadBack.{numbered}
-use Rattle.benched.specs.declared.BenchRefusal.{BenchRefusal}
-use Rattle.benched.specs.Benched.{Owner, neither, first, second, owner_of}
-use Rattle.bench.specs.declared.Answer.{Answer}
-use Rattle.bench.specs.declared.Answer.TheVariants.{Joined, Refused}
-use Rattle.bench.specs.declared.Located.{Located}
-use Rattle.bench.specs.declared.Located.TheVariants.{InFirst, InSecond, Unheld}
-use Rattle.bench.specs.Bench.{JoinVerdict, joined, refused, SourceVerdict, held, unheld, told_join, told_source, Owned, of_first, of_second}
+use Rattle.benched.specs.Benched.{Owner, neither, first, second}
+use Rattle.bench.specs.Bench.{JoinVerdict, joined, refused, SourceVerdict, held, unheld, Owned, of_first, of_second}
 use Rattle.bench.specs.Bench.{of_neither, JoinDecided, whole, by_card, too_short, SourceDecided, in_first, in_second, unasked, beyond}
-use Rattle.bench_numbers.specs.Inner.Nonzero.{OwnedNonzero}
-use Rattle.bench_numbers.specs.BenchNumbers.{owners, owner_at, owner_in, join_in, source_in, Carded}
+use Rattle.bench_numbers.specs.BenchNumbers.{owners, owner_at, owner_in, join_in, source_in}
 
 -- a card beside a number that tells none changes no other part of it
 module _ (bare c : ℕ) (n : card_in bare ≡ 0) (h : c < 3) where
@@ -31,70 +25,18 @@ module _ (bare c : ℕ) (n : card_in bare ≡ 0) (h : c < 3) where
   pub card_told : card_in with ≡ c
   card_told = omega (arith, n, h)
 
-  pub card_known : Carded with
-  unfolding owners
-  card_known = record { known = omega (arith, card_told, h) }
-
--- two numbers that tell the same place are plain alike
-pub plain_alike : (r q : ℕ) → (number_in r ≡ number_in q) × (place_in r ≡ place_in q) × (index_in r ≡ index_in q) → Plain q → Plain r
-plain_alike r q e p =
-    record {
-      known = λ z. omega (arith, e.1, p.known (λ w. z (e.0 ∙ w)));
-      bare = λ z w. e.2 ∙ p.bare (λ v. z (e.0 ∙ v)) (rw e.1 at w);
-    }
-
--- an answer that is known, told as the number r
-module _ (r : ℕ) where
-  pub tells_joined : {n : ℕ} (a : Answer) → a ≡ Joined n → (number_in r ≡ 0) × (place_in r ≡ 0) × (index_in r ≡ n) → join_in r ≡ told_join a
-  unfolding told_join join_in
-  tells_joined a e h = said_fine joined (refused (owner_in r)) r h ∙ ap told_join (sym e)
-
-  pub tells_refused : {f : BenchRefusal} (a : Answer) → a ≡ Refused f → OwnedNonzero refused (told_join a)
-      → (number_in r ≡ f.number) × (place_of (place_in r) (index_in r) ≡ where_of f.place) → owner_in r ≡ owner_of f.card
-      → join_in r ≡ told_join a
-  unfolding told_join join_in
-  tells_refused {f} a e z h o =
-      said_refused joined (refused (owner_in r)) r (z.nonzero _ _ _ (ap told_join e)) h
-      ∙ ap (λ (x : Owner). refused x f.number (where_of f.place)) o
-      ∙ ap told_join (sym e)
-
-  pub tells_first : {at : ℕ} (a : Located) → a ≡ InFirst at → (number_in r ≡ 0) × (place_in r ≡ 0) × (index_in r ≡ at)
-      → owner_in r ≡ first → source_in r ≡ told_source a
-  unfolding told_source source_in
-  tells_first {at} a e h o =
-      said_fine (held (owner_in r)) (unheld (owner_in r)) r h ∙ ap (λ (x : Owner). held x at) o ∙ ap told_source (sym e)
-
-  pub tells_second : {at : ℕ} (a : Located) → a ≡ InSecond at → (number_in r ≡ 0) × (place_in r ≡ 0) × (index_in r ≡ at)
-      → owner_in r ≡ second → source_in r ≡ told_source a
-  unfolding told_source source_in
-  tells_second {at} a e h o =
-      said_fine (held (owner_in r)) (unheld (owner_in r)) r h ∙ ap (λ (x : Owner). held x at) o ∙ ap told_source (sym e)
-
-  pub tells_unheld : {f : BenchRefusal} (a : Located) → a ≡ Unheld f → OwnedNonzero unheld (told_source a)
-      → (number_in r ≡ f.number) × (place_of (place_in r) (index_in r) ≡ where_of f.place) → owner_in r ≡ owner_of f.card
-      → source_in r ≡ told_source a
-  unfolding told_source source_in
-  tells_unheld {f} a e z h o =
-      said_refused (held (owner_in r)) (unheld (owner_in r)) r (z.nonzero _ _ _ (ap told_source e)) h
-      ∙ ap (λ (x : Owner). unheld x f.number (where_of f.place)) o
-      ∙ ap told_source (sym e)
+-- a refusal that is told with its card reads as the call's
+pub said_stopped : {A : Type 0} (fine : Owner → ℕ → A) (refusal : Owner → ℕ → Where → A) (r : ℕ) {o : Owner} {n : ℕ} {w : Where} → 1 ≤ n
+    → (number_in r ≡ n) × (place_of (place_in r) (index_in r) ≡ w) → owner_in r ≡ o
+    → said_by (fine (owner_in r)) (refusal (owner_in r)) r ≡ refusal o n w
+said_stopped fine refusal r {o} {n} {w} s h e =
+    said_refused (fine (owner_in r)) (refusal (owner_in r)) r s h ∙ ap (λ (x : Owner). refusal x n w) e
 
 -- a decision's refusal has a number that is not 0
 owned_nonzero : {a b : List ℕ} {o : Owner} {n : ℕ} {w : Where} → Owned a b o n w → 1 ≤ n
 owned_nonzero (of_first h p) = h.0
 owned_nonzero (of_second h p) = h.0
 owned_nonzero of_neither = omega arith
-
-pub join_nonzero : {a b old new : List ℕ} {v : JoinVerdict} → JoinDecided a b old new v → OwnedNonzero refused v
-join_nonzero (whole h k) = record { nonzero = λ o n w e. let z : ◌≡◌ {A = ℕ} 0 1 = cc in absurd (omega arith) }
-join_nonzero (by_card {n} x e) = record { nonzero = λ o m w q. let z : n ≡ m = cc in omega (arith, owned_nonzero x) }
-join_nonzero (too_short e) = record { nonzero = λ o m w q. let z : 10 ≡ m = cc in omega arith }
-
-pub source_nonzero : {a b : List ℕ} {i : ℕ} {v : SourceVerdict} → SourceDecided a b i v → OwnedNonzero unheld v
-source_nonzero (in_first h k) = record { nonzero = λ o n w e. let z : ◌≡◌ {A = ℕ} 0 1 = cc in absurd (omega arith) }
-source_nonzero (in_second h k) = record { nonzero = λ o n w e. let z : ◌≡◌ {A = ℕ} 0 1 = cc in absurd (omega arith) }
-source_nonzero (unasked {n} x) = record { nonzero = λ o m w q. let z : n ≡ m = cc in omega (arith, owned_nonzero x) }
-source_nonzero beyond = record { nonzero = λ o m w q. let z : 16 ≡ m = cc in omega arith }
 
 -- a refusal has a number of 32 bits that tells its card
 record StopBack (o : Owner) (n : ℕ) (w : Where) : Type 0 where
@@ -132,13 +74,13 @@ module _ {o : Owner} {n : ℕ} {w : Where} (s : StopBack o n w) (h : 1 ≤ n) wh
   unfolding join_in
   join_stop =
       let r : ℕ = s.word in
-      (r, s.low, said_refused joined (refused (owner_in r)) r h s.reads ∙ ap (λ (x : Owner). refused x n w) s.card)
+      (r, s.low, said_stopped (λ x. joined) refused r h s.reads s.card)
 
   source_stop : (r : ℕ) × (r < 2 ^ 32) × (source_in r ≡ unheld o n w)
   unfolding source_in
   source_stop =
       let r : ℕ = s.word in
-      (r, s.low, said_refused (held (owner_in r)) (unheld (owner_in r)) r h s.reads ∙ ap (λ (x : Owner). unheld x n w) s.card)
+      (r, s.low, said_stopped held unheld r h s.reads s.card)
 
 held_back : (o : Owner) (at c : ℕ) → c < 3 → owner_at c ≡ o → at < 65536 → (r : ℕ) × (r < 2 ^ 32) × (source_in r ≡ held o at)
 unfolding source_in

@@ -1,3 +1,2 @@
--- What a reader must believe of the numbers that the calls over two cards answer; apart from it, Inner.
+-- What a reader must believe of the numbers that the calls over two cards answer.
 pub mod BenchNumbers
-pub mod Inner

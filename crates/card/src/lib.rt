@@ -6,23 +6,10 @@ pub mod format;
 pub mod kinds;
 pub mod sound;
 
-ghost use Rattle.std.specs.Prelude.{◌≡◌, ◌&&◌, ◌||◌};
+ghost use Rattle.std.specs.Prelude.{◌≡◌};
 ghost use Rattle.card.specs.Verdict.{told, refuse, number_of, where_of};
 
 pub use faults::{Fault, Place, Refusal};
-
-// Two tests of which both have to hold, and two of which one has to: `&&` and `||` with a contract.
-pub fn both(a: bool, b: bool) -> bool
-    ensures { result ≡ (a && b) }
-{
-    a && b
-}
-
-pub fn either(a: bool, b: bool) -> bool
-    ensures { result ≡ (a || b) }
-{
-    a || b
-}
 
 // A check whose test says whether it applies.
 pub fn refuse(applies: bool, fault: Fault, place: Place) -> Result<(), Refusal>

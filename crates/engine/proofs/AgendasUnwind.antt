@@ -2,7 +2,7 @@
 use Prim.Native.Nat.{ℕ, ◌+◌, ◌-◌, ◌*◌, ◌≤◌, ◌<◌}
 use native.Mathlib.Omega.{arith}
 use mathlib.Core.Path.{◌≡◌, refl, sym, ◌∙◌, ap, subst}
-use mathlib.Core.Logic.{◌⊎◌, inl, inr}
+use mathlib.Core.Logic.{◌⊎◌, inl, inr, ⊎_elim}
 use mathlib.Core.Bool.{Bool, true, false, cond, ◌||◌, false≢true}
 use mathlib.Core.List.{List, []}
 use lib.ListN.{length, take}
@@ -14,7 +14,7 @@ use Rattle.calculus.proofs.SetLaws.{empty_∅, all_used}
 use Rattle.lines.specs.Set.{Words, is_empty_s}
 use Rattle.card.specs.Format.{node_count, rule_count, kind_at}
 use Rattle.card.specs.Fault.{Sound}
-use Rattle.card.proofs.SoundNodes.{goal_lower, node_here}
+use Rattle.card.proofs.SoundNodes.{goal_lower, goal_kind, node_here}
 use Rattle.scope.specs.Inner.Sets.{items}
 use Rattle.scope.proofs.SetsAreItems.{items_none}
 use Rattle.scope.proofs.TablesAreScopes.{kept_self}
@@ -60,16 +60,20 @@ module _ {bs codes : List ℕ} {b : Branch} (l : Laid bs codes b.len b.count) (o
   one_of_next h = record { laid = l; some = omega arith; kind = omega (arith, kind) }
 
   -- or & or ⊸
-  pub part_next : (k ≡ 1 → ⊥) → k ≤ 7 → PartNext bs codes b
-  part_next n h = record { laid = l; some = omega arith; kind = at opened; no_choice = omega (arith, kind) }
+  pub part_next : 4 < k → k ≤ 7 → PartNext bs codes b
+  part_next g h = record { laid = l; some = omega arith; kind = omega (arith, kind); no_choice = omega (arith, kind) }
+
+-- It is nothing else
+module _ {bs codes : List ℕ} (b : Branch) (l : Laid bs codes b.len b.count) (o : Opened bs codes b) (some : 0 < b.len)
+    {k : ℕ} (kind : k ≡ kind_at bs (top_node codes b)) where
+  pub open_kind : (k ≡ 1) ⊎ (((4 < k) × (k ≤ 6)) ⊎ ((k ≡ 8) ⊎ (k ≡ 9)))
+  open_kind = ⊎_elim (λ e. absurd (omega arith)) (λ t. ⊎_elim (λ e. inl (kind ∙ e)) (λ h. inr (high h)) t.kind) (opened l o some kind)
     where
-      at : (b.len ≡ 0) ⊎ OpenTask bs codes b → 4 < kind_at bs (top_node codes b)
-      at (inl e) = absurd (omega arith)
-      at (inr t) = pick t.kind
-        where
-          pick : (kind_at bs (top_node codes b) ≡ 1) ⊎ (4 < kind_at bs (top_node codes b)) → 4 < kind_at bs (top_node codes b)
-          pick (inl e) = absurd (n (kind ∙ e))
-          pick (inr h) = h
+      high : 4 < kind_at bs (top_node codes b) → ((4 < k) × (k ≤ 6)) ⊎ ((k ≡ 8) ⊎ (k ≡ 9))
+      high h =
+          ⊎_elim (λ m. inl (omega (arith, kind, h), omega (arith, kind, m)))
+          (λ m. inr (⊎_elim (λ e. inl (kind ∙ e)) (λ e. inr (kind ∙ e)) m))
+          (goal_kind bs (node_count bs) (top_node codes b) (l.fits (b.len - 1) (omega arith)).is_goal_part).1
 
 -- The branch after it stands where the branch before it does
 

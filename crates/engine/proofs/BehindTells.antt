@@ -8,7 +8,7 @@ use mathlib.Core.List.{List, [], ◌∷◌, ◌++◌}
 use lib.ListN.{length, drop}
 use lib.Seq.{slice, slice_empty}
 use Rattle.calculus.specs.Items.{Items, ∅, ◌∪◌}
-use Rattle.calculus.specs.Derivation.{Scope, size}
+use Rattle.calculus.specs.Derivation.{Scope}
 use Rattle.calculus.specs.Inner.Summary.{spare}
 use Rattle.calculus.specs.Inner.Window.{tensor_strict, tensor_lax}
 use Rattle.calculus.proofs.WindowExact.{tensor_bound}
@@ -23,7 +23,7 @@ use Rattle.entries.proofs.TablesAreScopes.{scope_kept}
 use Rattle.agenda.specs.Inner.Agenda.{Agenda, Task}
 use Rattle.agenda.specs.Inner.Order.{Next}
 use Rattle.agenda.specs.Inner.Order.{Floor as FloorOf}
-use Rattle.agenda.specs.Inner.Sought.{Place, floored, past, lead, past_lead, None, Least}
+use Rattle.agenda.specs.Inner.Sought.{Place, floored, lead, past_lead, None, Least}
 use Rattle.agenda.proofs.WindowsDivide.{Divides, behind_divides}
 use Rattle.branch.specs.declared.Branch.{Branch}
 use Rattle.branch.specs.declared.Way.{Way}

@@ -9,7 +9,7 @@ use lib.ListN.{length, drop, set}
 use lib.Seq.{slice, slice_empty}
 use Rattle.calculus.specs.Formula.{Goal, with}
 use Rattle.calculus.specs.Items.{Items, ∅, ◌∪◌}
-use Rattle.calculus.specs.Derivation.{Scope, size}
+use Rattle.calculus.specs.Derivation.{Scope}
 use Rattle.calculus.specs.Inner.Summary.{spare}
 use Rattle.calculus.specs.Inner.Window.{with_strict, with_lax}
 use Rattle.calculus.proofs.WindowExact.{with_bound}
@@ -24,7 +24,7 @@ use Rattle.entries.proofs.TablesAreScopes.{scope_kept}
 use Rattle.agenda.specs.Inner.Agenda.{Agenda, task}
 use Rattle.agenda.specs.Inner.Order.{Next}
 use Rattle.agenda.specs.Inner.Order.{Floor as FloorOf}
-use Rattle.agenda.specs.Inner.Sought.{Place, floored, past, past_with, None, Least}
+use Rattle.agenda.specs.Inner.Sought.{Place, floored, past_with, None, Least}
 use Rattle.agenda.proofs.WindowsDivide.{Divides, either_divides}
 use Rattle.branch.specs.declared.Branch.{Branch}
 use Rattle.branch.specs.declared.Way.{Way}

@@ -2,7 +2,7 @@
 use Prim.Native.Nat.{ℕ, ◌+◌, ◌-◌, ◌*◌, ◌≤◌, ◌<◌}
 use native.Mathlib.Omega.{arith}
 use mathlib.Core.Path.{◌≡◌, refl, sym, ◌∙◌, ap, subst}
-use mathlib.Core.Logic.{⊎_elim}
+use mathlib.Core.Logic.{◌⊎◌, inl, inr, ⊎_elim}
 use mathlib.Core.Bool.{Bool, true, false, true≢false, false≢true}
 use mathlib.Core.List.{List, ◌∷◌}
 use lib.ListN.{length, get_or, set}
@@ -18,7 +18,7 @@ use Rattle.card.proofs.SoundNodes.{goal_lower, goal_kind, clause_lower, clause_k
 use Rattle.scope.proofs.TablesAreScopes.{kept_self}
 use Rattle.entries.specs.Inner.Entries.{scope_in}
 use Rattle.entries.specs.Inner.Twins.{eligible}
-use Rattle.agenda.specs.Inner.Agenda.{Agenda, task, Alike, pushed, core}
+use Rattle.agenda.specs.Inner.Agenda.{Agenda, task, Alike, pushed}
 use Rattle.agenda.specs.Inner.Sought.{None}
 use Rattle.agenda.proofs.AgendasRead.{reads_core, core_usable, reads_head, reads_0, reads_usable}
 use Rattle.agenda.proofs.SearchTells.{alike_none, alike_least}
@@ -177,6 +177,14 @@ module _ {bs waits tape nodes heads codes : List ℕ} {f : Floor} {b : Branch} (
     core_fits =
         ap (usable (scope_of bs).fits name) P.is_core ∙ core_usable (scope_of bs).fits name (clause_of bs part) ∙ fitting
 
+    -- the core is a name or a menu
+    pub core_kinds : (kind_at bs p.core ≡ 1) ⊎ (kind_at bs p.core ≡ 10)
+    core_kinds =
+        ⊎_elim inl
+        (⊎_elim (λ e. absurd (true≢false (sym core_fits ∙ usable_rest bs p.core e (scope_of bs).fits name)))
+        (⊎_elim (λ e. absurd (P.core_kind e)) inr))
+        (clause_kind bs (node_count bs) p.core P.core_node)
+
     abbrev es : Scope
     es = scope_in bs nodes b.count
 
@@ -218,11 +226,7 @@ module _ {bs waits tape nodes heads codes : List ℕ} {f : Floor} {b : Branch} (
     -- where it is a head
     module _ (k : kind_at bs p.core ≡ 10 → ⊥) (b₂ : Branch) (eb : b₂ ≡ sized_b b p.len) where
       head_kind : kind_at bs p.core ≡ 1
-      head_kind =
-          ⊎_elim (λ e. e)
-          (⊎_elim (λ e. absurd (true≢false (sym core_fits ∙ usable_rest bs p.core e (scope_of bs).fits name)))
-          (⊎_elim (λ e. absurd (P.core_kind e)) (λ e. absurd (k e))))
-          (clause_kind bs (node_count bs) p.core P.core_node)
+      head_kind = ⊎_elim (λ e. e) (λ e. absurd (k e)) core_kinds
 
       head_alike : Alike es (task (part_goal bs true name p.core) n ∷ agenda_of bs codes' p.len) (agenda_of bs codes' p.len)
       unfolding part_goal
@@ -270,6 +274,11 @@ module _ {bs waits tape nodes heads codes : List ℕ} {f : Floor} {b : Branch} (
 
   -- 0 is not derived
   module _ (goal : ℕ) (eg : goal ≡ top_node codes b) where
+    pub one_of_kinds : (kind_at bs goal ≡ 8) ⊎ (kind_at bs goal ≡ 9)
+    one_of_kinds = rw eg
+        (let f = O.laid.fits (b.len - 1) (let s = O.some in omega arith) in
+        ⊎_elim (λ h. absurd (omega (arith, h, O.kind))) (λ h. h) (goal_kind bs (node_count bs) (top_node codes b) f.is_goal_part).1)
+
     pub never_told : kind_at bs goal ≡ 9 → Solving bs codes f b tape tape nodes nodes heads heads Stuck
     unfolding Told
     never_told k =
@@ -285,10 +294,7 @@ module _ {bs waits tape nodes heads codes : List ℕ} {f : Floor} {b : Branch} (
 
     module _ (n : ℕ) (en : n ≡ top_nest codes b) (k : kind_at bs goal ≡ 9 → ⊥) (b₂ : Branch) (eb : b₂ ≡ dropped_b b) where
       one_of_kind : kind_at bs (top_node codes b) ≡ 8
-      one_of_kind =
-          let f = O.laid.fits (b.len - 1) (let s = O.some in omega arith) in
-          ⊎_elim (λ h. absurd (omega (arith, h, O.kind))) (⊎_elim (λ h. h) (λ h. absurd (k (ap (kind_at bs) eg ∙ h))))
-          (goal_kind bs (node_count bs) (top_node codes b) f.is_goal_part).1
+      one_of_kind = ⊎_elim (λ e. ap (kind_at bs) (sym eg) ∙ e) (λ e. absurd (k e)) one_of_kinds
 
       pub one_of_call : (t : ℕ) → 8 * number bs codes b + 5 ≡ t
           → (8 * fewest b₂ + 5 < t) × (Ready bs waits tape nodes heads f b₂ × ChoiceReady bs codes false goal 0 n b₂)

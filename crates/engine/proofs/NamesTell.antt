@@ -12,7 +12,7 @@ use lib.Dec.{leb, ltb, eqb}
 use borrow.Author.Tests.{lt-ltb, le-ltb, eq-eqb, ne_eqb, eqb-true, ltb-true, ltb-false}
 use Rattle.calculus.specs.Formula.{Clause, Fits, atomᴳ, residual, usable}
 use Rattle.calculus.specs.Items.{Items, ◌∪◌, ◌∖◌, only, Within}
-use Rattle.calculus.specs.Derivation.{Scope, size, clause_at, linear_at, residual_at}
+use Rattle.calculus.specs.Derivation.{Scope, clause_at, linear_at, residual_at}
 use Rattle.calculus.proofs.SetLaws.{∪_cases, ∪_joins, join_left, join_right, ∖_within}
 use Rattle.card.specs.Format.{rule_count, line_count, node_count, left_at, byte_at}
 use Rattle.card.specs.Fault.{Sound, clause_part, height_at}
@@ -46,8 +46,7 @@ use Rattle.branch.specs.Inner.Values.{using_b, past_f, following_w, answer_in}
 use Rattle.branch.proofs.CountsKept.{counted_using}
 use Rattle.segment.specs.Inner.Tasks.{task_of, agenda_of}
 use Rattle.segment.proofs.TasksAreAgendas.{agenda_next, nest_low, laid_less, laid_short}
-use Rattle.choice.specs.declared.Sought.{Sought as Found}
-use Rattle.choice.specs.declared.Sought.TheVariants.{At, Nothing}
+use Rattle.std.specs.Prelude.{Option, Some, None as Nothing}
 use Rattle.choice.specs.Inner.Choice.{at_hand_by, open_to, takable_by, Testing, SeeksAt, Seeks, given_at, from_at}
 use Rattle.engine.specs.Inner.Engine.{place_at, Ready, top_node}
 use Rattle.engine.specs.Inner.Engine.{top_nest}
@@ -244,8 +243,8 @@ module _ {bs waits tape nodes heads : List ℕ} {f : Floor} {b : Branch} (R : Re
     pub name_here : (m : ℕ) → m ≡ top_node codes b → 16 + 5 * m ≤ length bs
     name_here m e = rw e (node_here R.sound (top_node codes b) top_node_lem)
 
-    pub top_inside : (b.len - 1 < 104) × (length codes ≡ 104)
-    top_inside = (let s = N.some in let l = laid_short N.laid in omega arith, N.laid.room)
+    pub top_inside : b.len - 1 < 104
+    top_inside = let s = N.some in let l = laid_short N.laid in omega arith
 
     named : agenda_of bs codes b.len ≡ task (atomᴳ a) n ∷ rest
     unfolding task_of
@@ -646,14 +645,14 @@ module _ {bs waits codes : List ℕ} {first : ℕ} {b : Branch} {tape₀ tape no
       searches_from T.tape_kept T.node_kept T.head_kept
       ((open_floor b first tape).0 ∙ sym (open_floor b first tape₀).0, refl) (alike_self (open_f b first) b tape') S
 
-  module _ (name : ℕ) (en : name ≡ left_at bs (top_node codes b)) (x : Found) (S : Seeks bs waits heads b name from x) where
+  module _ (name : ℕ) (en : name ≡ left_at bs (top_node codes b)) (x : Option ℕ) (S : Seeks bs waits heads b name from x) where
     -- no entry is left
     pub turn_ends : x ≡ Nothing → Solving bs codes (open_f b first) b tape₀ tape nodes₀ nodes heads₀ heads Stuck
     unfolding Seeks
     turn_ends q = turn_told (sought_none T.ready N.next T.tries (
         let s : (y : ℕ) → from ≤ y → y < b.count → takable_by bs waits heads b name y ≡ false = rw q at S in rw en at s))
 
-    module _ (e : ℕ) (q : x ≡ At e) where
+    module _ (e : ℕ) (q : x ≡ Some e) where
       at_entry : SeeksAt bs waits heads b (left_at bs (top_node codes b)) from e
       unfolding Seeks
       at_entry = let s : SeeksAt bs waits heads b name from e = rw q at S in rw en at s
@@ -983,7 +982,7 @@ module _ {bs waits codes tape₀ nodes₀ heads₀ : List ℕ} {f : Floor} {b : 
   round_ready L = let k = round_kept L in ready_kept R k.0 k.1.0 k.1.1
 
   -- no entry is left
-  module _ (name : ℕ) (en : name ≡ left_at bs (top_node codes b)) (x : Found) (S : Seeks bs waits heads b name from x) where
+  module _ (name : ℕ) (en : name ≡ left_at bs (top_node codes b)) (x : Option ℕ) (S : Seeks bs waits heads b name from x) where
     pub round_ends : Round bs waits codes f b first tape₀ tape nodes₀ nodes heads₀ heads from → x ≡ Nothing
         → Solving bs codes f b tape₀ tape nodes₀ nodes heads₀ heads Stuck
     unfolding Seeks Departs
@@ -998,7 +997,7 @@ module _ {bs waits codes tape₀ nodes₀ heads₀ : List ℕ} {f : Floor} {b : 
 
 -- the next entry
 module _ {bs codes : List ℕ} {b : Branch} (N : NameOpen bs codes b) (waits heads : List ℕ) (from name : ℕ)
-    (en : name ≡ left_at bs (top_node codes b)) (x : Found) (S : Seeks bs waits heads b name from x) (e : ℕ) (q : x ≡ At e) where
+    (en : name ≡ left_at bs (top_node codes b)) (x : Option ℕ) (S : Seeks bs waits heads b name from x) (e : ℕ) (q : x ≡ Some e) where
   pub seek_at : SeeksAt bs waits heads b (left_at bs (top_node codes b)) from e
   unfolding Seeks
   seek_at = let s : SeeksAt bs waits heads b name from e = rw q at S in rw en at s
@@ -1077,7 +1076,7 @@ module _ {bs waits codes tape₀ nodes₀ heads₀ : List ℕ} {f : Floor} {b : 
             → Round bs waits codes f b first tape₀ tape' nodes₀ nodes' heads₀ heads' m
         at (step_free first₁ from₁ tape₁ nodes₁ heads₁ R₁ T z k back again) =
             again tape' nodes' heads' m
-            (turn_next T N (left_at bs (top_node codes b)) refl (At e) z e refl g (free_floor k) X refl m em)
+            (turn_next T N (left_at bs (top_node codes b)) refl (Some e) z e refl g (free_floor k) X refl m em)
         at (step_given h q q₁ et en eh tk) =
             let u : takable_by bs waits heads₀ b (left_at bs (top_node codes b)) e ≡ true = rw (← eh) tk in
             let U = given_use R N h e q (left_at bs (top_node codes b)) refl u in
@@ -1103,7 +1102,7 @@ module _ {bs waits codes tape₀ nodes₀ heads₀ : List ℕ} {f : Floor} {b : 
         at : Step bs waits codes f b first tape₀ tape nodes₀ nodes heads₀ heads e
             → Solving bs codes f b tape₀ tape' nodes₀ nodes' heads₀ heads' (Solved u)
         at (step_free first₁ from₁ tape₁ nodes₁ heads₁ R₁ T z k back again) =
-            let S = turn_found T N (left_at bs (top_node codes b)) refl (At e) z e refl g (free_floor k) X w refl in
+            let S = turn_found T N (left_at bs (top_node codes b)) refl (Some e) z e refl g (free_floor k) X w refl in
             back tape' nodes' heads' (Solved u) (above_found R₁ N S w refl u (eu ∙ ap (following_w w) (es ∙ k)))
         at (step_given h q q₁ et en eh tk) =
             let v : takable_by bs waits heads₀ b (left_at bs (top_node codes b)) e ≡ true = rw (← eh) tk in
@@ -1181,12 +1180,12 @@ pub stuck_using : {bs codes : List ℕ} {e : ℕ} {f : Floor} {b : Branch} {tape
 stuck_using X q = rw q at X
 
 -- what is told at a dead end, given up or not
-pub dead_told : {bs : List ℕ} {f : Floor} {b : Branch} {tape tape' nodes nodes' heads heads' : List ℕ} (ws codes : List ℕ) (tired : Bool)
+pub dead_told : {bs : List ℕ} {f : Floor} {b : Branch} {tape tape' nodes nodes' heads heads' : List ℕ} (w : Way) (codes : List ℕ) (tired : Bool)
     → Solving bs codes f b tape tape' nodes nodes' heads heads' Stuck
-    → Solving bs codes f b tape tape' nodes nodes' heads heads' (answer_in (gives tired) ws)
+    → Solving bs codes f b tape tape' nodes nodes' heads heads' (answer_in (gives tired) w)
 unfolding answer_in gives Told
-dead_told ws codes true S = record { told = tt; tape_kept = S.tape_kept; node_kept = S.node_kept; head_kept = S.head_kept }
-dead_told ws codes false S = S
+dead_told w codes true S = record { told = tt; tape_kept = S.tape_kept; node_kept = S.node_kept; head_kept = S.head_kept }
+dead_told w codes false S = S
 
 -- what the use is called with
 pub round_call : {bs waits codes tape₀ nodes₀ heads₀ : List ℕ} {f : Floor} {b : Branch} {first : ℕ} → Ready bs waits tape₀ nodes₀ heads₀ f b

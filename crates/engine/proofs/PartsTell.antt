@@ -180,10 +180,9 @@ module _ {bs : List ℕ} (sd : Sound bs) {goal n : ℕ} {b : Branch} (g : GoalRe
   pub goal_low : goal < node_count bs
   goal_low = goal_lower bs (node_count bs) goal g.is_goal_part
 
-  pub goal_six : (kind_at bs goal ≡ 5 → ⊥) → kind_at bs goal ≡ 6
-  goal_six h =
-      ⊎_elim (λ k. omega (arith, k, g.kind, h))
-      (⊎_elim (λ k. absurd (omega (arith, k, g.no_choice))) (λ k. absurd (omega (arith, k, g.no_choice))))
+  pub part_kind : kind_at bs goal ≤ 6
+  part_kind =
+      ⊎_elim (λ k. k) (⊎_elim (λ k. absurd (omega (arith, k, g.no_choice))) (λ k. absurd (omega (arith, k, g.no_choice))))
       (goal_kind bs (node_count bs) goal g.is_goal_part).1
 
   heights : (height_at bs (left_at bs goal) < height_at bs goal) × (height_at bs (right_at bs goal) < height_at bs goal)

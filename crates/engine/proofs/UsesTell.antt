@@ -2,6 +2,7 @@
 use Prim.Native.Nat.{ℕ, ◌+◌, ◌-◌, ◌*◌, ◌≤◌, ◌<◌}
 use native.Mathlib.Omega.{arith}
 use mathlib.Core.Path.{◌≡◌, refl}
+use mathlib.Core.Logic.{◌⊎◌}
 use mathlib.Core.Bool.{true}
 use mathlib.Core.List.{List}
 use lib.ListN.{length, get_or, set}
@@ -15,7 +16,7 @@ use Rattle.segment.specs.Inner.Tasks.{Laid, Pushing}
 use Rattle.engine.specs.Inner.Engine.{Ready, NameNext, CanUse, PartReady, ChoiceReady, top_node, top_nest, Solving, Entering, Using}
 use Rattle.engine.proofs.NumbersFall.{number, most, fewest}
 use Rattle.engine.proofs.NamesTell.{use_call, use_told}
-use Rattle.engine.proofs.EntersTell.{clause_room, core_here, menu_call, menu_told, head_call, head_told}
+use Rattle.engine.proofs.EntersTell.{clause_room, core_here, core_kinds, menu_call, menu_told, head_call, head_told}
 
 module _ {bs waits tape nodes heads codes : List ℕ} {f : Floor} {b : Branch} (R : Ready bs waits tape nodes heads f b)
     (N : NameNext bs codes b) {e : ℕ} (U : CanUse bs waits heads codes b e) (c n name top p q : ℕ) (ec : c ≡ get_or nodes e 0)
@@ -40,6 +41,9 @@ module _ {bs waits tape nodes heads codes : List ℕ} {f : Floor} {b : Branch} (
 
     pub use_core : 16 + 5 * x.core ≤ length bs
     use_core = core_here called.1.0 called.1.1 pushes
+
+    pub use_kinds : (kind_at bs x.core ≡ 1) ⊎ (kind_at bs x.core ≡ 10)
+    use_kinds = core_kinds called.1.0 called.1.1 pushes
 
     module _ (b₂ : Branch) (eb : b₂ ≡ using_b b p q e x.len) where
       resized : b₂ ≡ sized_b past x.len

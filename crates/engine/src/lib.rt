@@ -12,10 +12,10 @@ ghost use Rattle.engine.specs.Count.{CountIsScan};
 ghost use Rattle.engine.specs.Inner.Engine.{Ready, NameNext, NameOpen, CanUse, PartNext, GoalReady, Fresh, Solving, Alone, Using};
 ghost use Rattle.engine.specs.Inner.Engine.{top_node, OneOfNext, PartReady, ChoiceReady, ChoiceStep, Entering, Siding, Equipped, Stays};
 
-use branch::{Branch, Floor, Outcome, follow, put_way, way_in};
-use card::both;
-use card::format::{byte, kind, left};
-use choice::{Sought, first_at, given_up, keeps, seek, unfloored};
+use branch::{Branch, Floor, Outcome, Way};
+use card::format::{byte, left};
+use card::kinds::{Kind, kind_of};
+use choice::{first_at, given_up, keeps, seek, unfloored};
 use moves::{inner, left_alone, raise, right_alone, shut};
 use segment::tasks::{nest, node, push, put, unwind};
 
@@ -29,7 +29,7 @@ pub fn solve(
     tape: &mut [u8; 255],
     nodes: &mut [u16; 256],
     heads: &mut [u16; 256],
-    way: &mut [u64; 7],
+    way: &mut Way,
     names: &[u16],
     table: &[u8],
     masks: &[u64],
@@ -42,34 +42,33 @@ pub fn solve(
 ) -> Outcome
     requires ready { Ready card.now waits.now tape.old nodes.old heads.old (floor_of fixed from) b }
     requires laid { Laid card.now agenda.old b.len b.count }
-    requires equipped { Equipped card.now names.now table.now masks.now codes.old words.old way.old
+    requires equipped { Equipped card.now names.now table.now masks.now codes.old words.old
         nodes.old b.count }
     requires count_is_scan { CountIsScan card.now b }
     ensures solving { Solving card.now agenda.old (floor_of fixed from) b tape.old tape.new
         nodes.old nodes.new heads.old heads.new
         (answer_in result way.new) }
     ensures stays { Stays card.now names.now table.now masks.now
-        codes.old words.old codes.new words.new way.new result }
+        codes.old words.old codes.new words.new result }
 {
     let f = Floor { fixed, from };
     let c = unwind(card, agenda, b);
     if c.len == 0 {
         return c.closed(way);
     }
-    let k = kind(card, node(agenda, c.len - 1));
-    if k == 1 {
-        return need(
+    match kind_of(card, node(agenda, c.len - 1)) {
+        Kind::Atom => need(
             card, waits, tape, nodes, heads, way, names, table, masks, codes, words, agenda, f, c,
-        );
-    }
-    if 7 < k {
-        return one_of(
+        ),
+        Kind::With | Kind::Lend => behind(
             card, waits, tape, nodes, heads, way, names, table, masks, codes, words, agenda, f, c,
-        );
+        ),
+        Kind::Oplus | Kind::Zero => one_of(
+            card, waits, tape, nodes, heads, way, names, table, masks, codes, words, agenda, f, c,
+        ),
+        Kind::Top | Kind::One | Kind::Tensor | Kind::Recipe | Kind::Menu | Kind::Unknown =>
+            Outcome::Stuck,
     }
-    behind(
-        card, waits, tape, nodes, heads, way, names, table, masks, codes, words, agenda, f, c,
-    )
 }
 
 // The next task is a name.
@@ -80,7 +79,7 @@ fn need(
     tape: &mut [u8; 255],
     nodes: &mut [u16; 256],
     heads: &mut [u16; 256],
-    way: &mut [u64; 7],
+    way: &mut Way,
     names: &[u16],
     table: &[u8],
     masks: &[u64],
@@ -92,13 +91,13 @@ fn need(
 ) -> Outcome
     requires ready { Ready card.now waits.now tape.old nodes.old heads.old f b }
     requires name_next { NameNext card.now agenda.now b }
-    requires equipped { Equipped card.now names.now table.now masks.now codes.old words.old way.old
+    requires equipped { Equipped card.now names.now table.now masks.now codes.old words.old
         nodes.old b.count }
     ensures solving { Solving card.now agenda.now f b tape.old tape.new
         nodes.old nodes.new heads.old heads.new
         (answer_in result way.new) }
     ensures stays { Stays card.now names.now table.now masks.now
-        codes.old words.old codes.new words.new way.new result }
+        codes.old words.old codes.new words.new result }
 {
     let n = nest(agenda, b.len - 1);
     if n == 0 {
@@ -126,7 +125,7 @@ fn others(
     tape: &mut [u8; 255],
     nodes: &mut [u16; 256],
     heads: &mut [u16; 256],
-    way: &mut [u64; 7],
+    way: &mut Way,
     names: &[u16],
     table: &[u8],
     masks: &[u64],
@@ -139,19 +138,19 @@ fn others(
 ) -> Outcome
     requires ready { Ready card.now waits.now tape.old nodes.old heads.old f b }
     requires name_open { NameOpen card.now agenda.now b × FirstEntry f b.at tape.old first }
-    requires equipped { Equipped card.now names.now table.now masks.now codes.old words.old way.old
+    requires equipped { Equipped card.now names.now table.now masks.now codes.old words.old
         nodes.old b.count }
     ensures solving { Solving card.now agenda.now f b tape.old tape.new
         nodes.old nodes.new heads.old heads.new
         (answer_in result way.new) }
     ensures stays { Stays card.now names.now table.now masks.now
-        codes.old words.old codes.new words.new way.new result }
+        codes.old words.old codes.new words.new result }
 {
     let name = left(card, node(agenda, b.len - 1));
     let mut from = first;
     loop {
         let next = seek(card, waits, heads, b, name, from);
-        let Sought::At(e) = next else {
+        let Some(e) = next else {
             let tired = prune::dead_end(
                 card,
                 codes,
@@ -184,7 +183,7 @@ fn others(
         );
         match r {
             Outcome::Solved => {
-                follow(way, same);
+                way.follow(same);
                 return Outcome::Solved;
             }
             Outcome::Stuck => {
@@ -203,7 +202,7 @@ fn one_of(
     tape: &mut [u8; 255],
     nodes: &mut [u16; 256],
     heads: &mut [u16; 256],
-    way: &mut [u64; 7],
+    way: &mut Way,
     names: &[u16],
     table: &[u8],
     masks: &[u64],
@@ -215,40 +214,49 @@ fn one_of(
 ) -> Outcome
     requires ready { Ready card.now waits.now tape.old nodes.old heads.old f b }
     requires one_of_next { OneOfNext card.now agenda.now b }
-    requires equipped { Equipped card.now names.now table.now masks.now codes.old words.old way.old
+    requires equipped { Equipped card.now names.now table.now masks.now codes.old words.old
         nodes.old b.count }
     ensures solving { Solving card.now agenda.now f b tape.old tape.new
         nodes.old nodes.new heads.old heads.new
         (answer_in result way.new) }
     ensures stays { Stays card.now names.now table.now masks.now
-        codes.old words.old codes.new words.new way.new result }
+        codes.old words.old codes.new words.new result }
 {
     let top = b.len - 1;
     let goal = node(agenda, top);
     let n = nest(agenda, top);
-    if kind(card, goal) == 9 {
-        return Outcome::Stuck;
+    match kind_of(card, goal) {
+        Kind::Oplus => choose(
+            card,
+            waits,
+            tape,
+            nodes,
+            heads,
+            way,
+            names,
+            table,
+            masks,
+            codes,
+            words,
+            agenda,
+            false,
+            goal,
+            0,
+            n,
+            f,
+            b.dropped(),
+        ),
+        Kind::Atom
+        | Kind::Top
+        | Kind::One
+        | Kind::Tensor
+        | Kind::With
+        | Kind::Lend
+        | Kind::Recipe
+        | Kind::Zero
+        | Kind::Menu
+        | Kind::Unknown => Outcome::Stuck,
     }
-    choose(
-        card,
-        waits,
-        tape,
-        nodes,
-        heads,
-        way,
-        names,
-        table,
-        masks,
-        codes,
-        words,
-        agenda,
-        false,
-        goal,
-        0,
-        n,
-        f,
-        b.dropped(),
-    )
 }
 
 // The use of an entry: what is left of its clause, with one nesting less, before the rest.
@@ -259,7 +267,7 @@ fn use_clause(
     tape: &mut [u8; 255],
     nodes: &mut [u16; 256],
     heads: &mut [u16; 256],
-    way: &mut [u64; 7],
+    way: &mut Way,
     names: &[u16],
     table: &[u8],
     masks: &[u64],
@@ -274,13 +282,13 @@ fn use_clause(
     requires ready { Ready card.now waits.now tape.old nodes.old heads.old f b }
     requires can_use { CanUse card.now waits.now heads.old agenda.now b e
         × (name ≡ left_at card.now (top_node agenda.now b)) }
-    requires equipped { Equipped card.now names.now table.now masks.now codes.old words.old way.old
+    requires equipped { Equipped card.now names.now table.now masks.now codes.old words.old
         nodes.old b.count }
     ensures using { Using card.now agenda.now e f b tape.old tape.new
         nodes.old nodes.new heads.old heads.new
         (answer_in result way.new) }
     ensures stays { Stays card.now names.now table.now masks.now
-        codes.old words.old codes.new words.new way.new result }
+        codes.old words.old codes.new words.new result }
 {
     let at = b.at;
     tape[at] = e as u8;
@@ -290,16 +298,25 @@ fn use_clause(
     let mut rest = *agenda;
     let p = push(card, &mut rest, top, clause, n);
     let c = b.using(byte(card, 3), byte(card, 4), e, p.len);
-    if kind(card, p.core) == 10 {
-        return choose(
+    match kind_of(card, p.core) {
+        Kind::Menu => choose(
             card, waits, tape, nodes, heads, way, names, table, masks, codes, words, &rest, true,
             p.core, name, n, f, c,
-        );
+        ),
+        Kind::Atom => solve(
+            card, waits, tape, nodes, heads, way, names, table, masks, codes, words, &mut rest,
+            f.fixed, f.from, c,
+        ),
+        Kind::Top
+        | Kind::One
+        | Kind::Tensor
+        | Kind::With
+        | Kind::Lend
+        | Kind::Recipe
+        | Kind::Oplus
+        | Kind::Zero
+        | Kind::Unknown => Outcome::Stuck,
     }
-    solve(
-        card, waits, tape, nodes, heads, way, names, table, masks, codes, words, &mut rest,
-        f.fixed, f.from, c,
-    )
 }
 
 // A part before the tasks of the agenda: a goal, or what is left of a clause that is used for the name.
@@ -310,7 +327,7 @@ fn enter(
     tape: &mut [u8; 255],
     nodes: &mut [u16; 256],
     heads: &mut [u16; 256],
-    way: &mut [u64; 7],
+    way: &mut Way,
     names: &[u16],
     table: &[u8],
     masks: &[u64],
@@ -326,27 +343,36 @@ fn enter(
 ) -> Outcome
     requires ready { Ready card.now waits.now tape.old nodes.old heads.old f b }
     requires part_ready { PartReady card.now agenda.old meets part name n b }
-    requires equipped { Equipped card.now names.now table.now masks.now codes.old words.old way.old
+    requires equipped { Equipped card.now names.now table.now masks.now codes.old words.old
         nodes.old b.count }
     ensures entering { Entering card.now agenda.old meets part name n f b tape.old
         tape.new nodes.old nodes.new heads.old heads.new
         (answer_in result way.new) }
     ensures stays { Stays card.now names.now table.now masks.now
-        codes.old words.old codes.new words.new way.new result }
+        codes.old words.old codes.new words.new result }
 {
     if meets {
         let p = push(card, agenda, b.len, part, n);
         let c = b.sized(p.len);
-        if kind(card, p.core) == 10 {
-            return choose(
+        return match kind_of(card, p.core) {
+            Kind::Menu => choose(
                 card, waits, tape, nodes, heads, way, names, table, masks, codes, words, agenda,
                 true, p.core, name, n, f, c,
-            );
-        }
-        return solve(
-            card, waits, tape, nodes, heads, way, names, table, masks, codes, words, agenda,
-            f.fixed, f.from, c,
-        );
+            ),
+            Kind::Atom => solve(
+                card, waits, tape, nodes, heads, way, names, table, masks, codes, words, agenda,
+                f.fixed, f.from, c,
+            ),
+            Kind::Top
+            | Kind::One
+            | Kind::Tensor
+            | Kind::With
+            | Kind::Lend
+            | Kind::Recipe
+            | Kind::Oplus
+            | Kind::Zero
+            | Kind::Unknown => Outcome::Stuck,
+        };
     }
     put(agenda, b.len, part, n);
     solve(
@@ -376,7 +402,7 @@ fn choose(
     tape: &mut [u8; 255],
     nodes: &mut [u16; 256],
     heads: &mut [u16; 256],
-    way: &mut [u64; 7],
+    way: &mut Way,
     names: &[u16],
     table: &[u8],
     masks: &[u64],
@@ -392,13 +418,13 @@ fn choose(
 ) -> Outcome
     requires ready { Ready card.now waits.now tape.old nodes.old heads.old f b }
     requires choice_ready { ChoiceReady card.now agenda.now meets node name n b }
-    requires equipped { Equipped card.now names.now table.now masks.now codes.old words.old way.old
+    requires equipped { Equipped card.now names.now table.now masks.now codes.old words.old
         nodes.old b.count }
     ensures entering { Entering card.now agenda.now meets node name n f b tape.old
         tape.new nodes.old nodes.new heads.old heads.new
         (answer_in result way.new) }
     ensures stays { Stays card.now names.now table.now masks.now
-        codes.old words.old codes.new words.new way.new result }
+        codes.old words.old codes.new words.new result }
 {
     if b.at >= b.limit {
         return Outcome::Stuck;
@@ -425,7 +451,7 @@ fn side(
     tape: &mut [u8; 255],
     nodes: &mut [u16; 256],
     heads: &mut [u16; 256],
-    way: &mut [u64; 7],
+    way: &mut Way,
     names: &[u16],
     table: &[u8],
     masks: &[u64],
@@ -443,13 +469,13 @@ fn side(
 ) -> Outcome
     requires ready { Ready card.now waits.now tape.old nodes.old heads.old f b }
     requires choice_ready { ChoiceReady card.now agenda.now meets node name n b × ChoiceStep choice b }
-    requires equipped { Equipped card.now names.now table.now masks.now codes.old words.old way.old
+    requires equipped { Equipped card.now names.now table.now masks.now codes.old words.old
         nodes.old b.count }
     ensures siding { Siding card.now agenda.now meets node name n choice first f b
         tape.old tape.new nodes.old nodes.new heads.old
         heads.new (answer_in result way.new) }
     ensures stays { Stays card.now names.now table.now masks.now
-        codes.old words.old codes.new words.new way.new result }
+        codes.old words.old codes.new words.new result }
 {
     if choice < first {
         return Outcome::Stuck;
@@ -485,7 +511,7 @@ fn side(
     let Outcome::Solved = r else {
         return r;
     };
-    follow(way, same);
+    way.follow(same);
     Outcome::Solved
 }
 
@@ -497,7 +523,7 @@ fn behind(
     tape: &mut [u8; 255],
     nodes: &mut [u16; 256],
     heads: &mut [u16; 256],
-    way: &mut [u64; 7],
+    way: &mut Way,
     names: &[u16],
     table: &[u8],
     masks: &[u64],
@@ -509,13 +535,13 @@ fn behind(
 ) -> Outcome
     requires ready { Ready card.now waits.now tape.old nodes.old heads.old f b }
     requires part_next { PartNext card.now agenda.now b }
-    requires equipped { Equipped card.now names.now table.now masks.now codes.old words.old way.old
+    requires equipped { Equipped card.now names.now table.now masks.now codes.old words.old
         nodes.old b.count }
     ensures solving { Solving card.now agenda.now f b tape.old tape.new
         nodes.old nodes.new heads.old heads.new
         (answer_in result way.new) }
     ensures stays { Stays card.now names.now table.now masks.now
-        codes.old words.old codes.new words.new way.new result }
+        codes.old words.old codes.new words.new result }
 {
     let top = b.len - 1;
     let goal = node(agenda, top);
@@ -548,7 +574,7 @@ fn behind(
         let Outcome::Solved = r else {
             return r;
         };
-        let w = way_in(way);
+        let w = *way;
         let h = g.past(w.kept);
         let mut rest = *agenda;
         let s = solve(
@@ -570,7 +596,7 @@ fn behind(
         );
         match s {
             Outcome::Solved => {
-                follow(way, both(w.kept, fresh));
+                way.follow(w.kept && fresh);
                 return Outcome::Solved;
             }
             Outcome::Stuck => {
@@ -593,7 +619,7 @@ fn last(
     tape: &mut [u8; 255],
     nodes: &mut [u16; 256],
     heads: &mut [u16; 256],
-    way: &mut [u64; 7],
+    way: &mut Way,
     names: &[u16],
     table: &[u8],
     masks: &[u64],
@@ -606,13 +632,13 @@ fn last(
 ) -> Outcome
     requires ready { Ready card.now waits.now tape.old nodes.old heads.old f b }
     requires goal_ready { GoalReady card.now goal n b }
-    requires equipped { Equipped card.now names.now table.now masks.now codes.old words.old way.old
+    requires equipped { Equipped card.now names.now table.now masks.now codes.old words.old
         nodes.old b.count }
     ensures alone { Alone card.now goal n f b tape.old tape.new
         nodes.old nodes.new heads.old heads.new
         (answer_in result way.new) }
     ensures stays { Stays card.now names.now table.now masks.now
-        codes.old words.old codes.new words.new way.new result }
+        codes.old words.old codes.new words.new result }
 {
     let r = part(
         card,
@@ -634,8 +660,7 @@ fn last(
     let Outcome::Solved = r else {
         return r;
     };
-    let w = way_in(way);
-    put_way(way, b.joined(w));
+    *way = b.joined(*way);
     Outcome::Solved
 }
 
@@ -647,7 +672,7 @@ fn part(
     tape: &mut [u8; 255],
     nodes: &mut [u16; 256],
     heads: &mut [u16; 256],
-    way: &mut [u64; 7],
+    way: &mut Way,
     names: &[u16],
     table: &[u8],
     masks: &[u64],
@@ -660,23 +685,31 @@ fn part(
 ) -> Outcome
     requires ready { Ready card.now waits.now tape.old nodes.old heads.old f b }
     requires goal_ready { GoalReady card.now goal n b × Fresh b }
-    requires equipped { Equipped card.now names.now table.now masks.now codes.old words.old way.old
+    requires equipped { Equipped card.now names.now table.now masks.now codes.old words.old
         nodes.old b.count }
     ensures alone { Alone card.now goal n f b tape.old tape.new
         nodes.old nodes.new heads.old heads.new
         (answer_in result way.new) }
     ensures stays { Stays card.now names.now table.now masks.now
-        codes.old words.old codes.new words.new way.new result }
+        codes.old words.old codes.new words.new result }
 {
-    let k = kind(card, goal);
-    if k == 5 {
-        return both_ways(
+    match kind_of(card, goal) {
+        Kind::With => both_ways(
             card, waits, tape, nodes, heads, way, names, table, masks, codes, words, goal, n, f, b,
-        );
+        ),
+        Kind::Lend => lent(
+            card, waits, tape, nodes, heads, way, names, table, masks, codes, words, goal, n, f, b,
+        ),
+        Kind::Atom
+        | Kind::Top
+        | Kind::One
+        | Kind::Tensor
+        | Kind::Recipe
+        | Kind::Oplus
+        | Kind::Zero
+        | Kind::Menu
+        | Kind::Unknown => Outcome::Stuck,
     }
-    lent(
-        card, waits, tape, nodes, heads, way, names, table, masks, codes, words, goal, n, f, b,
-    )
 }
 
 // G & H: H behind the first list of G; where that finds nothing, behind its next.
@@ -687,7 +720,7 @@ fn both_ways(
     tape: &mut [u8; 255],
     nodes: &mut [u16; 256],
     heads: &mut [u16; 256],
-    way: &mut [u64; 7],
+    way: &mut Way,
     names: &[u16],
     table: &[u8],
     masks: &[u64],
@@ -700,13 +733,13 @@ fn both_ways(
 ) -> Outcome
     requires ready { Ready card.now waits.now tape.old nodes.old heads.old f b }
     requires goal_ready { (GoalReady card.now goal n b × Fresh b) × (kind_at card.now goal ≡ 5) }
-    requires equipped { Equipped card.now names.now table.now masks.now codes.old words.old way.old
+    requires equipped { Equipped card.now names.now table.now masks.now codes.old words.old
         nodes.old b.count }
     ensures alone { Alone card.now goal n f b tape.old tape.new
         nodes.old nodes.new heads.old heads.new
         (answer_in result way.new) }
     ensures stays { Stays card.now names.now table.now masks.now
-        codes.old words.old codes.new words.new way.new result }
+        codes.old words.old codes.new words.new result }
 {
     let mut g = f;
     let mut fresh = true;
@@ -733,7 +766,7 @@ fn both_ways(
         let Outcome::Solved = first else {
             return first;
         };
-        let w = way_in(way);
+        let w = *way;
         let h = g.past(w.kept);
         let mut other = [0u16; 104];
         right_alone(card, &mut other, goal, n);
@@ -756,8 +789,8 @@ fn both_ways(
         );
         match second {
             Outcome::Solved => {
-                put_way(way, w.beside(way_in(way)));
-                follow(way, both(w.kept, fresh));
+                *way = w.beside(*way);
+                way.follow(w.kept && fresh);
                 return Outcome::Solved;
             }
             Outcome::Stuck => {
@@ -780,7 +813,7 @@ fn lent(
     tape: &mut [u8; 255],
     nodes: &mut [u16; 256],
     heads: &mut [u16; 256],
-    way: &mut [u64; 7],
+    way: &mut Way,
     names: &[u16],
     table: &[u8],
     masks: &[u64],
@@ -793,13 +826,13 @@ fn lent(
 ) -> Outcome
     requires ready { Ready card.now waits.now tape.old nodes.old heads.old f b }
     requires goal_ready { (GoalReady card.now goal n b × Fresh b) × (kind_at card.now goal ≡ 6) }
-    requires equipped { Equipped card.now names.now table.now masks.now codes.old words.old way.old
+    requires equipped { Equipped card.now names.now table.now masks.now codes.old words.old
         nodes.old b.count }
     ensures alone { Alone card.now goal n f b tape.old tape.new
         nodes.old nodes.new heads.old heads.new
         (answer_in result way.new) }
     ensures stays { Stays card.now names.now table.now masks.now
-        codes.old words.old codes.new words.new way.new result }
+        codes.old words.old codes.new words.new result }
 {
     let count = b.count;
     let mut agenda = [0u16; 104];

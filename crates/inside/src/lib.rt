@@ -1,14 +1,13 @@
 // A part with a scope or window of its own: how it is entered, and what is found in it seen from outside.
 #![tactic(auto)]
 
-ghost use Rattle.std.specs.Prelude.{◌≡◌, ◌≤◌, length};
+ghost use Rattle.std.specs.Prelude.{◌≡◌, ◌≤◌};
 ghost use Rattle.card.specs.Format.{rule_count};
 ghost use Rattle.card.specs.Fault.{Sound};
-ghost use Rattle.branch.specs.Inner.Values.{way_in, Counted};
 ghost use Rattle.inside.specs.Inner.Inside.{Opening, InsideOpened, outside_w};
 
-use branch::{Branch, put_way, way_in};
-use card::format::{byte, left};
+use branch::{Branch, Way};
+use card::format::left;
 use moves::{lent_item, right_alone};
 
 // D ⊸ G: D joins the scope and is strict, G is the only task.
@@ -21,8 +20,7 @@ pub fn open(
     n: usize,
     b: Branch,
 ) -> Branch
-    requires opening { Opening card.now nodes.old heads.old goal n b }
-    requires agenda_len { length agenda.old ≡ 104 }
+    requires { Opening card.now nodes.old heads.old goal n b }
     ensures { InsideOpened card.now nodes.old nodes.new heads.old
         heads.new agenda.old agenda.new goal n b result }
 {
@@ -34,13 +32,12 @@ pub fn open(
 }
 
 // The way found inside, as it is outside.
-pub fn close(card: &[u8], way: &mut [u64; 7], goal: usize, count: usize)
-    requires sound { Sound card.now × (rule_count card.now ≤ count) }
-    requires way_len { length way.old ≡ 7 }
-    ensures { (way_in way.new ≡ outside_w card.now goal count (way_in way.old))
-        × (length way.new ≡ 7) }
+#[tactic(auto, unfolding(crate::specs::Inner::Inside::outside_w))]
+pub fn close(card: &[u8], way: &mut Way, goal: usize, count: usize)
+    requires sound { Sound card.now }
+    requires scoped { rule_count card.now ≤ count }
+    ensures { way.new ≡ outside_w card.now goal count way.old }
 {
     let item = lent_item(card, count);
-    let w = way_in(way);
-    put_way(way, w.without(item));
+    *way = way.without(item);
 }

@@ -49,7 +49,8 @@ module _ (bs names t : List ℕ) (i : ℕ) where
   unfolding least_step by_kind
   least_never k = rw k refl
 
-  pub least_pair : {k : code.Kind} → (k ≡ kind.Tensor) ⊎ (k ≡ kind.With) → Numbered k (kind_at bs i) → least_step bs names t i ≡ least_at t (left_at bs i) + least_at t (right_at bs i)
+  pub least_pair : {k : code.Kind} → (k ≡ kind.Tensor) ⊎ (k ≡ kind.With)
+      → Numbered k (kind_at bs i) → least_step bs names t i ≡ least_at t (left_at bs i) + least_at t (right_at bs i)
   unfolding least_step by_kind
   least_pair (inl e) n = let q : kind_at bs i ≡ 4 = along _ e n in rw q refl
   least_pair (inr e) n = let q : kind_at bs i ≡ 5 = along _ e n in rw q refl
@@ -103,7 +104,8 @@ module _ (bs names t : List ℕ) (i : ℕ) where
     unfolding high_step by_kind
     high_lend k = rw k refl
 
-    pub high_recipe : kind_at bs i ≡ 7 → high_step bs names t i c ≡ high_at t (left_at bs i) c + if_recipe bs (right_at bs i) (high_at t (right_at bs i) c)
+    pub high_recipe : kind_at bs i ≡ 7
+        → high_step bs names t i c ≡ high_at t (left_at bs i) c + if_recipe bs (right_at bs i) (high_at t (right_at bs i) c)
     unfolding high_step by_kind
     high_recipe k = rw k refl
 
@@ -113,7 +115,8 @@ module _ (bs names t : List ℕ) (i : ℕ) where
 
   -- what stands for the other kinds; a sound card has no unknown one
   module _ (s : Sound bs) (h : i < node_count bs) {k : code.Kind} where
-    pub head_none : (k ≡ kind.Top) ⊎ ((k ≡ kind.One) ⊎ ((k ≡ kind.Tensor) ⊎ ((k ≡ kind.With) ⊎ ((k ≡ kind.Lend) ⊎ ((k ≡ kind.Oplus) ⊎ ((k ≡ kind.Zero) ⊎ (k ≡ kind.Unknown)))))))
+    pub head_none : (k ≡ kind.Top) ⊎ ((k ≡ kind.One) ⊎ ((k ≡ kind.Tensor) ⊎ ((k ≡ kind.With)
+        ⊎ ((k ≡ kind.Lend) ⊎ ((k ≡ kind.Oplus) ⊎ ((k ≡ kind.Zero) ⊎ (k ≡ kind.Unknown)))))))
         → Numbered k (kind_at bs i) → head_step bs names i ≡ 1000
     unfolding head_step by_kind
     head_none (inl e) n = let q : kind_at bs i ≡ 2 = along _ e n in rw q refl

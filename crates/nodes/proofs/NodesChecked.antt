@@ -1,5 +1,6 @@
 -- Laws of refusal 6: a node's height from the table of those before it, and its two tests taken one after the other.
-use Rattle.std.proofs.Common.{◌≡◌, ℕ, suc, ◌+◌, ◌<◌, max, Bool, true, false, not, ◌&&◌, List, [], ◌∷◌, ◌++◌, length, take, set, refl, sym, ◌∙◌, ap, ap₂, arith}
+use Rattle.std.proofs.Common.{◌≡◌, ℕ, suc, ◌+◌, ◌<◌, max, Bool, true, false, not, ◌&&◌, List}
+use Rattle.std.proofs.Common.{[], ◌∷◌, ◌++◌, length, take, set, refl, sym, ◌∙◌, ap, ap₂, arith}
 use lib.Seq.{get_or-take, take-suc-set}
 use Rattle.card.specs.Format.{kind_at, left_at, right_at, grow}
 use Rattle.card.specs.declared.kinds.Field.{Field}

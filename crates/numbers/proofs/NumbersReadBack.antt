@@ -1,59 +1,41 @@
 -- A number reads as the outcome that it tells, and every decision has a number.
 use Prim.Native.Nat.{ℕ, ◌+◌, ◌*◌, ◌^◌, ◌≤◌, ◌<◌}
 use native.Mathlib.Omega.{arith}
-use mathlib.Core.Path.{◌≡◌, refl, sym, ap, ap₂, ◌∙◌}
+use mathlib.Core.Path.{◌≡◌, refl, ap, ap₂, ◌∙◌}
 use mathlib.Core.Logic.{◌⊎◌, inl, inr}
 use mathlib.Core.List.{List}
 use borrow.Author.Tests.{eq-eqb, ne_eqb}
-use Rattle.card.specs.declared.Place.{Place}
-use Rattle.card.specs.declared.Refusal.{Refusal}
+use Rattle.card.specs.declared.faults.Fault.{Fault}
+use Rattle.card.specs.declared.faults.Fault.TheVariants as faults
 use Rattle.card.specs.Format.{Bytes}
 use Rattle.card.specs.Fault.{Placed}
-use Rattle.card.specs.Verdict.{Where, card, node, rule, line, sheet, steps, mark, step, where_of}
-use Rattle.planning.specs.declared.Answer.{Answer}
-use Rattle.planning.specs.declared.Answer.TheVariants.{Planned, Refused}
-use Rattle.planning.specs.Plan.{PlanVerdict, planned, refused, told_plan, PlanDecided, is_planned, is_refused}
-use Rattle.reader.specs.declared.Answer.{Answer as ReadAnswer}
-use Rattle.reader.specs.declared.Answer.TheVariants.{Accepted, Refused as NotAccepted}
-use Rattle.reader.specs.Read.{ReadVerdict, accepted, refused as not_accepted, told_read, ReadDecided, is_accepted}
+use Rattle.card.specs.Verdict.{Where, card, node, rule, line, sheet, steps, mark, step, number_of}
+use Rattle.planning.specs.Plan.{PlanVerdict, planned, refused, PlanDecided, is_planned, is_refused}
+use Rattle.reader.specs.Read.{ReadVerdict, accepted, refused as not_accepted, ReadDecided, is_accepted}
 use Rattle.reader.specs.Read.{is_refused as is_not_accepted}
-use Rattle.numbers.specs.Inner.Nonzero.{Nonzero}
-use Rattle.numbers.specs.Numbers.{number_in, card_in, place_in, index_in, places, place_of, Plain, said_by, plan_in, read_in}
+use Rattle.numbers.specs.Numbers.{number_in, card_in, place_in, index_in, places, place_of, said_by, plan_in, read_in}
 
--- a refusal whose place is known, told in the three parts of r
-pub told_at : (r : ℕ) {n m i : ℕ} {p q : Place} → p ≡ q → (number_in r ≡ n) × (place_in r ≡ m) × (index_in r ≡ i) → place_of m i ≡ where_of q
-    → (number_in r ≡ n) × (place_of (place_in r) (index_in r) ≡ where_of p)
-told_at r e h w = (h.0, ap₂ place_of h.1 h.2 ∙ w ∙ ap where_of (sym e))
-
--- the index of a place that has one
-unfoldable pub index_of : Where → ℕ
-index_of card = 0
-index_of (node i) = i
-index_of (rule i) = i
-index_of (line i) = i
-index_of sheet = 0
-index_of steps = 0
-index_of (mark i) = i
-index_of (step i) = i
-
--- a number whose place is in the table and has an index, or has none and tells none
-module _ (r : ℕ) {n m i : ℕ} (h : (number_in r ≡ n) × (place_in r ≡ m) × (index_in r ≡ i)) (l : m < 8) where
-  plain_at : (place_of m 0 ≡ place_of m 1 → i ≡ 0) → Plain r
-  unfolding places
-  plain_at b = record {
-    known = λ z. omega (arith, h.1);
-    bare = λ z e. h.2 ∙ b (rw h.1 at e);
-  }
-
-  pub plain_indexed : index_of (place_of m 0) ≡ 0 → index_of (place_of m 1) ≡ 1 → Plain r
-  plain_indexed p q = plain_at (λ e. absurd (omega (arith, p, q, ap index_of e)))
-
-  pub plain_bare : i ≡ 0 → Plain r
-  plain_bare e = plain_at (λ q. e)
-
--- where nothing is refused
-pub plain_fine : (r : ℕ) → number_in r ≡ 0 → Plain r
-plain_fine r e = record { known = λ z. absurd (z e); bare = λ z. absurd (z e) }
+-- every refusal has a number of its own
+pub number_positive : (f : Fault) → 1 ≤ number_of f
+number_positive faults.Short = omega arith
+number_positive faults.LengthField = omega arith
+number_positive faults.Version = omega arith
+number_positive faults.Range = omega arith
+number_positive faults.Size = omega arith
+number_positive faults.Node = omega arith
+number_positive faults.Goal = omega arith
+number_positive faults.Rule = omega arith
+number_positive faults.Line = omega arith
+number_positive faults.NoRoom = omega arith
+number_positive faults.NoList = omega arith
+number_positive faults.SheetFront = omega arith
+number_positive faults.Step = omega arith
+number_positive faults.Mark = omega arith
+number_positive faults.Overfull = omega arith
+number_positive faults.NoLine = omega arith
+number_positive faults.Depth = omega arith
+number_positive faults.StepCount = omega arith
+number_positive faults.Undivided = omega arith
 
 -- what a number says, once its parts are known
 module _ {A : Type 0} (fine : ℕ → A) (refusal : ℕ → Where → A) (r : ℕ) where
@@ -155,35 +137,3 @@ unfolding read_in
 read_back b (is_accepted {k} h) = fine_back accepted not_accepted k (omega (arith, b.byte 10))
 read_back b (is_not_accepted {n} {w} h p) =
     refused_back accepted not_accepted b n w p (read_low h) (read_high h)
-
--- a decision's refusal has a number that is not 0
-pub plan_nonzero : {bs old new : List ℕ} {v : PlanVerdict} → PlanDecided bs old new v → Nonzero refused v
-plan_nonzero (is_planned h) = record { nonzero = λ n w e. let z : ◌≡◌ {A = ℕ} 0 1 = cc in absurd (omega arith) }
-plan_nonzero (is_refused {n} {w} h p e) = record { nonzero = λ m v q. let z : n ≡ m = cc in omega (arith, h.0) }
-
-pub read_nonzero : {bs : List ℕ} {v : ReadVerdict} → ReadDecided bs v → Nonzero not_accepted v
-read_nonzero (is_accepted h) = record { nonzero = λ n w e. let z : ◌≡◌ {A = ℕ} 0 1 = cc in absurd (omega arith) }
-read_nonzero (is_not_accepted {n} {w} h p) =
-    record { nonzero = λ m v q. let z : n ≡ m = cc in omega (arith, read_low h) }
-
--- a planner's answer that is known, told as the number r
-module _ (r : ℕ) (a : Answer) where
-  pub tells_planned : {k : ℕ} → a ≡ Planned k → (number_in r ≡ 0) × (place_in r ≡ 0) × (index_in r ≡ k) → plan_in r ≡ told_plan a
-  unfolding told_plan plan_in
-  tells_planned e h = said_fine planned refused r h ∙ ap told_plan (sym e)
-
-  pub tells_refused : {f : Refusal} → a ≡ Refused f → Nonzero refused (told_plan a)
-      → (number_in r ≡ f.number) × (place_of (place_in r) (index_in r) ≡ where_of f.place) → plan_in r ≡ told_plan a
-  unfolding told_plan plan_in
-  tells_refused e z h = said_refused planned refused r (z.nonzero _ _ (ap told_plan e)) h ∙ ap told_plan (sym e)
-
--- a reader's answer that is known, told as the number r
-module _ (r : ℕ) (a : ReadAnswer) where
-  pub tells_accepted : {k : ℕ} → a ≡ Accepted k → (number_in r ≡ 0) × (place_in r ≡ 0) × (index_in r ≡ k) → read_in r ≡ told_read a
-  unfolding told_read read_in
-  tells_accepted e h = said_fine accepted not_accepted r h ∙ ap told_read (sym e)
-
-  pub tells_not_accepted : {f : Refusal} → a ≡ NotAccepted f → Nonzero not_accepted (told_read a)
-      → (number_in r ≡ f.number) × (place_of (place_in r) (index_in r) ≡ where_of f.place) → read_in r ≡ told_read a
-  unfolding told_read read_in
-  tells_not_accepted e z h = said_refused accepted not_accepted r (z.nonzero _ _ (ap told_read e)) h ∙ ap told_read (sym e)

@@ -1,3 +1,2 @@
--- What a reader must believe of the numbers that the calls for C answer; apart from it, Inner.
+-- What a reader must believe of the numbers that the calls for C answer.
 pub mod Numbers
-pub mod Inner

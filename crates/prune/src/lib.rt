@@ -55,7 +55,7 @@ pub fn doomed(
     let room = b.limit - b.at;
     bounds::hopeless(
         ready, card, names, table, masks, nodes, agenda, b.len, b.count, b.strict, b.lax, room,
-    ) || unlent(card, b.count) && dead::known(codes, words, agenda, b)
+    ) || (unlent(card, b.count) && dead::known(codes, words, agenda, b))
 }
 
 // A dead end: remembered if no floor bore on it and nothing is lent. Whether the search gives up: a first run that met too many. When a first

@@ -1,28 +1,27 @@
 -- What the reader answers (01, "Refused, and where"; 02, #102), in terms of derivations.
-use Rattle.std.specs.Prelude.{ℕ, ◌≤◌, ◌≡◌, ◌↔◌, ◌⊎◌, List, length}
+use Rattle.std.specs.Prelude.{Result, Ok, Err, ℕ, ◌≤◌, ◌≡◌, ◌↔◌, ◌⊎◌, List, length}
 use Rattle.calculus.specs.Items.{Items}
 use Rattle.calculus.specs.Job.{Listed, surely_used}
 use Rattle.calculus.specs.Walk.{ItemsDivide}
 use Rattle.card.specs.Format.{line_count, step_limit}
-use Rattle.card.specs.Verdict.{Verdict, Where, sound, fault, steps, first_of, where_of}
+use Rattle.card.specs.Verdict.{Verdict, Where, sound, fault, steps, first_of, number_of, where_of}
+use Rattle.card.specs.declared.faults.Refusal.{Refusal}
 use Rattle.card.specs.Fault.{first_fault, Placed, Sound}
 use Rattle.card.specs.Decode.{job_of}
 use Rattle.card.specs.Sheet.{sheet_of}
 use Rattle.sheet_front.specs.Front.{steps_of, marks_in, sheet_fault}
 use Rattle.marks.specs.Marks.{mark_fault}
 use Rattle.trace.specs.Steps.{steps_fault}
-use Rattle.reader.specs.declared.Answer.{Answer}
-use Rattle.reader.specs.declared.Answer.TheVariants.{Accepted, Refused}
 
 -- "the reader answers accepted with k, or a refusal"
 pub data ReadVerdict : Type 0 where
   accepted : ℕ → ReadVerdict
   refused : ℕ → Where → ReadVerdict
 
--- 01's number and values for each case of the enum `Answer`
-unfoldable pub told_read : Answer → ReadVerdict
-told_read (Accepted k) = accepted k
-told_read (Refused r) = refused r.number (where_of r.place)
+-- the reader's answer: k, or 01's number and place of a refusal
+unfoldable pub told_read : Result ℕ Refusal → ReadVerdict
+told_read (Ok k) = accepted k
+told_read (Err r) = refused (number_of r.fault) (where_of r.place)
 
 -- 14, of the sheet's marks in their order, where a derivation with its steps surely uses the items U
 unfoldable pub marks_fault : List ℕ → Items → List ℕ → Verdict

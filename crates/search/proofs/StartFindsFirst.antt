@@ -193,13 +193,12 @@ module _ {bs zeros codes : List ℕ} {b : Branch} {goal depth : ℕ} (s : Sound 
         at Tired y = tt
 
     -- what the next run starts from
-    pub started : {waits way way' : List ℕ} → Starts bs waits tape nodes heads way → length way' ≡ 7
-        → Starts bs waits tape' nodes' heads' way'
+    pub started : {waits : List ℕ} → Starts bs waits tape nodes heads → Starts bs waits tape' nodes' heads'
     unfolding start_b
-    started {waits} {way' = way'} q l = at answered
+    started {waits} q = at answered
       where
         at : Solving bs (goal_codes s zeros a.room) no_floor (start_b bs) tape tape' nodes nodes' heads heads' r
-            → Starts bs waits tape' nodes' heads' way'
+            → Starts bs waits tape' nodes' heads'
         at y = record {
           sound = q.sound;
           waiting = q.waiting;
@@ -207,5 +206,4 @@ module _ {bs zeros codes : List ℕ} {b : Branch} {goal depth : ℕ} (s : Sound 
           entered = entered_kept nodes' heads' q.entered (y.node_kept.size ∙ q.entered.node_room)
               (y.head_kept.size ∙ q.entered.head_room) (sym y.node_kept.same) (sym y.head_kept.same);
           scope = scope_kept bs nodes' nodes (rule_count bs + line_count bs) y.node_kept.same ∙ q.scope;
-          way_room = l;
         }

@@ -4,7 +4,7 @@
 mod check;
 mod fill;
 
-ghost use Rattle.std.specs.Prelude.{◌≡◌, true, ◌↔◌, length};
+ghost use Rattle.std.specs.Prelude.{◌≡◌, true, ◌↔◌};
 ghost use Rattle.bounds.specs.Inner.Table.{TableHeld, Settled};
 
 // Fills the table of the card in. Whether it is settled, and so may be used. What stands in the three arrays afterwards is free but for that:
@@ -15,12 +15,9 @@ pub fn prepare(
     table: &mut [u8; 66177],
     masks: &mut [u64; 64],
 ) -> bool
-    requires table_held { TableHeld card.now names.old table.old }
-    requires masks_len { length masks.old ≡ 64 }
-    ensures variant { (result ≡ true) ↔ Settled card.now names.new table.new
-        masks.new }
-    ensures table_held_2 { TableHeld card.now names.new table.new
-        × (length masks.new ≡ 64) }
+    requires { TableHeld card.now names.old table.old }
+    ensures settled { (result ≡ true) ↔ Settled card.now names.new table.new masks.new }
+    ensures held { TableHeld card.now names.new table.new }
 {
     fill::build(card, names, table, masks);
     check::settled(card, names, table, masks)

@@ -5,6 +5,8 @@ use mathlib.Core.Path.{◌≡◌, refl, sym, ◌∙◌, ap, subst}
 use mathlib.Core.Logic.{◌⊎◌, inl, inr}
 use mathlib.Core.Bool.{Bool, true, false, not, false≢true}
 use mathlib.Core.List.{List, [], ◌∷◌, ◌++◌, append-nil}
+use Rattle.std.proofs.Common.{Result, Ok, Err}
+use Rattle.std.specs.Prelude.{⊤}
 use lib.ListN.{length, get_or, take, drop_of_length-le}
 use lib.Seq.{length-take-le}
 use lib.Dec.{eqb}
@@ -19,36 +21,32 @@ use Rattle.calculus.proofs.TraceExact.{trace_unique, listed_accounts}
 use Rattle.calculus.proofs.SurelyByList.{surely_walked}
 use Rattle.calculus.proofs.WalkExact.{job_walk_lem, divides_accounts}
 use Rattle.lines.specs.declared.LineSet.{LineSet}
+use Rattle.lines.specs.declared.LineWord.{LineWord}
 use Rattle.lines.specs.Set.{is_empty_s, full_s, cut_s, Words}
 use Rattle.lines.specs.Count.{count_s}
 use Rattle.card.specs.Format.{node_count, rule_count, line_count, goal_node, step_limit}
-use Rattle.card.specs.declared.Refusal.{Refusal}
-use Rattle.card.specs.declared.Checked.{Checked}
-use Rattle.card.specs.declared.Checked.TheVariants.{Sound as SoundCard, Refused as RefusedCard}
-use Rattle.card.specs.Verdict.{Verdict, sound, fault, step, refuse, where_of, told, steps as steps-place}
+use Rattle.card.specs.declared.faults.Refusal.{Refusal}
+use Rattle.card.specs.Verdict.{Verdict, sound, fault, step, refuse, number_of, where_of, told, steps as steps-place}
 use Rattle.card.specs.Fault.{Sound}
 use Rattle.card.specs.Decode.{goal_at, lines_with, job_of}
-use Rattle.card.proofs.CardChecked.{sound_front, passed}
-use Rattle.card.proofs.FaultsInOrder.{not_applied}
+use Rattle.card.proofs.CardChecked.{sound_front}
 use Rattle.card.proofs.NodesDecoded.{lines_bounded}
 use Rattle.card.proofs.SoundNodes.{goal_lower, height_low, sound_root}
 use Rattle.scope.specs.Inner.Sets.{items, strict_of, SureLines}
+use Rattle.scope.specs.declared.Tables.{Tables}
 use Rattle.scope.specs.Inner.Tables.{table_scope, TableEntered}
 use Rattle.scope.proofs.SetsAreItems.{strict_items, all_items}
 use Rattle.summary.specs.declared.Position.{Position}
 use Rattle.summary.specs.declared.Summary.{Summary}
-use Rattle.summary.specs.declared.Walked.{Walked}
-use Rattle.summary.specs.declared.Walked.TheVariants.{Ended, Astray}
 use Rattle.summary.specs.Inner.Values.{MetCounted, start_p, on_b}
 use Rattle.summary.specs.Inner.Walks.{from, gathered, EndsWith, StopsWith, Tells, WalkReady, GoalWalkReady, GoalWalks}
-use Rattle.trace.specs.declared.Followed.{Followed}
-use Rattle.trace.specs.declared.Followed.TheVariants.{Listed, Refused}
 use Rattle.trace.specs.Steps.{walk_fault, steps_fault}
-use Rattle.trace.specs.Inner.Listing.{Covered, Ending, early, bare, whole, told_followed, HasLines, followed_of, Following, SurelyFollows}
+use Rattle.trace.specs.Inner.Listing.{Covered, Ending, early, bare, whole, told_followed, HasLines, Following, SurelyFollows}
 use Rattle.trace.specs.Inner.Listing.{strays, divides_not, follows}
 use Rattle.summary.proofs.SummariesGather.{within_says}
 use Rattle.summary.proofs.CountsKept.{all_met}
 use Rattle.summary.proofs.WalksTell.{from_next, ends_walk}
+use Rattle.summary.proofs.StepsTell.{test_refused, test_passed}
 
 -- The test of the items
 
@@ -102,41 +100,34 @@ module _ {bs : List ℕ} (s : Sound bs) (w : Summary) where
 
 -- The tests at the end
 
-module _ {bs : List ℕ} (w : Summary) (k : ℕ) {x : Checked} (tx : told x ≡ refuse (not (eqb w.at k)) 18 (step w.at)) where
-  pub end_early : {f : Refusal} → x ≡ RefusedCard f → Ending bs w k (told x)
-  unfolding told refuse
-  end_early {f} e = by (not (eqb w.at k)) refl
-    where
-      by : (late : Bool) → not (eqb w.at k) ≡ late → Ending bs w k (told x)
-      by true q =
-          let t : told x ≡ fault 18 (step w.at) = tx ∙ ap (λ b. refuse b 18 (step w.at)) q in
-          rw t (early (eqb-false w.at k (not-true (eqb w.at k) q)))
-      by false q =
-          let t : fault f.number (where_of f.place) ≡ sound = sym (ap told e) ∙ tx ∙ ap (λ b. refuse b 18 (step w.at)) q in
-          let z : ◌≡◌ {A = ℕ} 0 1 = cc in absurd (omega arith)
+module _ {bs : List ℕ} (w : Summary) (k : ℕ) where
+  pub end_early : (f : Refusal) → told (Err f) ≡ refuse (not (eqb w.at k)) 18 (step w.at) → Ending bs w k (told_followed (Err f))
+  unfolding told_followed
+  end_early f e =
+      let r = test_refused _ _ _ f e in
+      rw (r.number, r.place) (early (eqb-false w.at k (not-true (eqb w.at k) r.applied)))
 
-  pub end_whole : x ≡ SoundCard → (good : Bool) → Says good (Covered bs w) → (y : Checked) → told y ≡ refuse (not good) 19 steps-place
-      → Ending bs w k (told y)
-  unfolding refuse
-  end_whole e good c y ty = by good refl
-    where
-      at : w.at ≡ k
-      at = eqb-true w.at k (not-false (eqb w.at k) (not_applied _ _ _ (passed _ x e tx)))
+  module _ {u : ⊤} (on_time : told (Ok u) ≡ refuse (not (eqb w.at k)) 18 (step w.at)) (good : Bool) (c : Says good (Covered bs w)) where
+    at_end : w.at ≡ k
+    at_end = eqb-true w.at k (not-false (eqb w.at k) (test_passed _ _ _ on_time))
 
-      by : (g : Bool) → good ≡ g → Ending bs w k (told y)
-      by true q =
-          let t : told y ≡ sound = ty ∙ ap (λ b. refuse (not b) 19 steps-place) q in rw t (whole at (c.0 q))
-      by false q =
-          let t : told y ≡ fault 19 steps-place = ty ∙ ap (λ b. refuse (not b) 19 steps-place) q in
-          rw t (bare at (λ h. false≢true (sym q ∙ c.1 h)))
+    pub end_bare : (f : Refusal) → told (Err f) ≡ refuse (not good) 19 steps-place → Ending bs w k (told_followed (Err f))
+    unfolding told_followed
+    end_bare f e =
+        let r = test_refused _ _ _ f e in
+        rw (r.number, r.place) (bare at_end (λ h. false≢true (sym (not-true good r.applied) ∙ c.1 h)))
+
+    pub end_whole : {v : ⊤} → told (Ok v) ≡ refuse (not good) 19 steps-place → (s : LineWord) → Ending bs w k (told_followed (Ok s))
+    unfolding told_followed
+    end_whole e s = whole at_end (c.0 (not-false good (test_passed _ _ _ e)))
 
 -- The call
 
-module _ {bs steps nodes : List ℕ} {linear : List Bool} {k : ℕ} (s : Sound bs) (long : k ≤ length steps) (few : k ≤ step_limit bs)
-    (short : k ≤ 255) (entered : TableEntered bs nodes linear (rule_count bs + line_count bs))
-    (scope : table_scope bs nodes linear (rule_count bs + line_count bs) ≡ (job_of bs).scope) where
+module _ {bs steps : List ℕ} {ts : Tables} {k : ℕ} (s : Sound bs) (long : k ≤ length steps) (few : k ≤ step_limit bs)
+    (short : k ≤ 255) (entered : TableEntered bs ts.nodes ts.linear (rule_count bs + line_count bs))
+    (scope : table_scope bs ts.nodes ts.linear (rule_count bs + line_count bs) ≡ (job_of bs).scope) where
   pub start_call : (b : Position) → b ≡ start_p bs k → (node : ℕ) → node ≡ goal_node bs
-      → WalkReady bs steps nodes linear b × GoalWalkReady bs b node
+      → WalkReady bs steps ts b × GoalWalkReady bs b node
   unfolding start_p
   start_call b eb node en = rw (eb, en) (
       let f = sound_front bs s in (
@@ -160,32 +151,31 @@ module _ {bs steps nodes : List ℕ} {linear : List Bool} {k : ℕ} (s : Sound b
       )
       )
 
-  module _ (b : Position) (eb : b ≡ start_p bs k) (node : ℕ) (en : node ≡ goal_node bs) {nodes' : List ℕ} {linear' : List Bool} {r : Walked}
-      (W : GoalWalks bs steps nodes nodes' linear linear' b node r) where
+  module _ (b : Position) (eb : b ≡ start_p bs k) (node : ℕ) (en : node ≡ goal_node bs) {ts' : Tables} {r : Result Summary Refusal}
+      (W : GoalWalks bs steps ts ts' b node r) where
     -- what the walk tells, at the job's goal in its scope
     walk_told : Tells (strict_of bs) steps (start_p bs k) (job_of bs).scope (goal (job_of bs).goal) r
     unfolding job_of start_p
     walk_told =
-        let F : GoalWalks bs steps nodes nodes' linear linear' (start_p bs k) (goal_node bs) r = rw (eb, en) at W in
+        let F : GoalWalks bs steps ts ts' (start_p bs k) (goal_node bs) r = rw (eb, en) at W in
         subst (λ es. Tells (strict_of bs) steps (start_p bs k) es (goal (goal_at bs (goal_node bs))) r) scope F.tells
 
     -- where the walk of the given steps has come to
     walk_is : part_walk (job_of bs).depth (goal (job_of bs).goal) (job_of bs).scope 0 (take k steps) ≡ job_walk (job_of bs) (take k steps)
     walk_is = sym (job_walk_lem (job_of bs) (take k steps))
 
-    strays_at : {f : Refusal} → r ≡ Astray f → Following bs (take k steps) (fault f.number (where_of f.place))
+    strays_at : {f : Refusal} → r ≡ Err f → Following bs (take k steps) (fault (number_of f.fault) (where_of f.place))
     unfolding Tells start_p job_of from steps_fault walk_fault
     strays_at {f} e =
         let s : StopsWith steps (start_p bs k) (job_of bs).scope (goal (job_of bs).goal) f = rw e at walk_told in
-        strays (ap walk_fault (sym walk_is ∙ s.walk) ∙ ap (fault f.number) (sym s.place))
+        strays (ap walk_fault (sym walk_is ∙ s.walk) ∙ ap (fault (number_of f.fault)) (sym s.place))
 
     -- a walk that strays, told as what is found of the steps
-    pub stray_found : {f : Refusal} → r ≡ Astray f → (x : Followed) → x ≡ followed_of r
-        → Following bs (take k steps) (told_followed x) × SurelyFollows bs (take k steps) x
-    unfolding followed_of told_followed SurelyFollows
-    stray_found {f} e x q = let t : x ≡ Refused f = q ∙ ap followed_of e in rw t (strays_at e, tt)
+    pub stray_found : {f : Refusal} → r ≡ Err f → Following bs (take k steps) (told_followed (Err f))
+    unfolding told_followed
+    stray_found e = strays_at e
 
-    module _ (w : Summary) (e : r ≡ Ended w) where
+    module _ (w : Summary) (e : r ≡ Ok w) where
       ended : EndsWith (strict_of bs) steps (start_p bs k) (job_of bs).scope (goal (job_of bs).goal) w
       unfolding Tells
       ended = rw e at walk_told
@@ -288,12 +278,12 @@ module _ {bs steps nodes : List ℕ} {linear : List Bool} {k : ℕ} (s : Sound b
           here : Traced (job_of bs).depth (job_of bs).scope (goal (job_of bs).goal) (gathered (rule_count bs) w ended.list) ended.surely
           here = ended.traced
 
-      pub end_sure : (x : Followed) → Ending bs w k (told_followed x) → HasLines w.sure x → SurelyFollows bs (take k steps) x
+      pub end_sure : (x : Result LineWord Refusal) → Ending bs w k (told_followed x) → HasLines w.sure x → SurelyFollows bs (take k steps) x
       unfolding HasLines SurelyFollows told_followed
-      end_sure (Listed s) e h = rw h (sure_lines (at_end e refl))
+      end_sure (Ok s) e h = rw h (sure_lines (at_end e refl))
         where
           at_end : {v : Verdict} → Ending bs w k v → v ≡ sound → w.at ≡ k
           at_end (early n) q = let z : ◌≡◌ {A = ℕ} 0 1 = cc in absurd (omega arith)
           at_end (bare at n) q = at
           at_end (whole at c) q = at
-      end_sure (Refused f) e h = tt
+      end_sure (Err f) e h = tt

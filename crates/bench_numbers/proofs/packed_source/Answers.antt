@@ -1,38 +1,24 @@
--- `packed_source` meets its contract: each case of the answer is told as a number that reads as it.
-use native.Mathlib.Omega.{arith}
-use mathlib.Core.Path.{◌∙◌}
-use Rattle.numbers.proofs.NumbersReadBack.{plain_fine}
-use Rattle.benched.specs.Benched.{owner_of}
-use Rattle.bench_numbers.proofs.CardsReadBack.{tells_first, tells_second, tells_unheld}
+-- `packed_source` meets its contract: the card and the offset, or the refusal with its card, is told as a number that reads as it.
+use Rattle.std.proofs.Common.{ap, ◌∙◌}
+use Rattle.numbers.proofs.NumbersReadBack.{number_positive, said_fine}
+use Rattle.benched.specs.Benched.{Owner}
+use Rattle.bench.specs.Bench.{held, unheld, told_source}
+use Rattle.bench_numbers.specs.BenchNumbers.{owner_in, source_in}
+use Rattle.bench_numbers.proofs.CardsReadBack.{said_stopped}
 use Rattle.bench_numbers.proofs.packed_source.Goals as goal
 
-pub packed-requires : goal.packed-requires
-packed-requires c = omega arith
-
-pub with_card-requires : goal.with_card-requires
-with_card-requires c = c.packed.ensures.result_value_2
-
-pub packed-requires-in-InSecond : goal.packed-requires-in-InSecond
-packed-requires-in-InSecond c = omega arith
-
-pub with_card-requires-in-InSecond : goal.with_card-requires-in-InSecond
-with_card-requires-in-InSecond c = c.packed-in-InSecond.ensures.result_value_2
-
-pub returns-in-InFirst : goal.returns-in-InFirst
-unfolding owner_of
-returns-in-InFirst c =
+pub returns-in-Ok-clause-source : goal.returns-in-Ok-clause-source
+unfolding told_source source_in
+returns-in-Ok-clause-source c =
     let r = c.with_card.result in
-    let kept = c.with_card.ensures.result_value in
-    let bare = c.packed.ensures.result_value in record { result_value = tells_first r _ c.in-InFirst.is (kept.0 ∙ bare.0, kept.1 ∙ bare.1, kept.2 ∙ bare.2) c.with_card.ensures.result_value_2; plain = plain_fine r (kept.0 ∙ bare.0); carded = c.with_card.ensures.carded }
+    let told = c.with_card.ensures in
+    let bare = c.packed.ensures.parts in
+    rw c.in-Ok.is
+    (said_fine (held (owner_in r)) (unheld (owner_in r)) r (told.parts.0 ∙ bare.0, told.parts.1 ∙ bare.1, told.parts.2 ∙ bare.2)
+    ∙ ap (λ (x : Owner). held x c.in-Ok.source.at) told.owner)
 
-pub returns-in-InSecond : goal.returns-in-InSecond
-unfolding owner_of
-returns-in-InSecond c =
-    let r = c.with_card-in-InSecond.result in
-    let kept = c.with_card-in-InSecond.ensures.result_value in
-    let bare = c.packed-in-InSecond.ensures.result_value in record { result_value = tells_second r _ c.in-InSecond.is (kept.0 ∙ bare.0, kept.1 ∙ bare.1, kept.2 ∙ bare.2) c.with_card-in-InSecond.ensures.result_value_2; plain = plain_fine r (kept.0 ∙ bare.0); carded = c.with_card-in-InSecond.ensures.carded }
-
-pub returns-in-Unheld : goal.returns-in-Unheld
-returns-in-Unheld c =
-    let r = c.packed_stop.result in
-    let h = c.packed_stop.ensures in record { result_value = tells_unheld r _ c.in-Unheld.is c.requires h.result_value h.result_value_2; plain = h.plain; carded = h.carded }
+pub returns-in-Err-clause-source : goal.returns-in-Err-clause-source
+unfolding told_source source_in
+returns-in-Err-clause-source c =
+    let told = c.packed_stop.ensures in
+    rw c.in-Err.is (said_stopped held unheld c.packed_stop.result (number_positive c.in-Err.stop.refusal.fault) told.parts told.owner)

@@ -14,8 +14,8 @@ byte-requires c =
     let front = (sound_front c.args.card.now c.requires).whole in
     omega (arith, front)
 
-pub ready-requires-clause-rules_bound : goal.ready-requires-clause-rules_bound
-ready-requires-clause-rules_bound c =
+pub ready-requires : goal.ready-requires
+ready-requires c =
     let front = sound_front c.args.card.now c.requires in
     let t = c.byte.ensures.0 in (omega (arith, c.byte-rules.ensures.1), omega (arith, front.lines))
 

@@ -59,13 +59,6 @@ row_room words row = memory_word words row 8
 unfoldable pub row_agenda : List ℕ → List ℕ → List ℕ → ℕ → Agenda
 row_agenda bs codes words row = agenda_of bs (drop (row * row_width) codes) (row_len words row)
 
--- There are n places from `at` on in xs, which has so many in all, and n in ys.
-pub record Places (xs : List ℕ) (at all : ℕ) (ys : List ℕ) (n most : ℕ) : Type 0 where
-  pub room : length xs ≡ all
-  pub from_room : length ys ≡ most
-  pub inside : at + n ≤ all
-  pub from_inside : n ≤ most
-
 -- from `at` on xs has the first n of ys
 pub record SameRow (xs : List ℕ) (at : ℕ) (ys : List ℕ) (n : ℕ) : Type 0 where
   pub same : (i : ℕ) → i < n → get_or xs (at + i) 0 ≡ get_or ys i 0

@@ -3,32 +3,31 @@ use Prim.Native.Nat.{ℕ}
 use native.Mathlib.Omega.{arith}
 use mathlib.Core.Path.{◌≡◌, refl, sym, ◌∙◌, ap}
 use mathlib.Core.List.{[], ◌∷◌}
+use mathlib.Core.Bool.{◌&&◌}
 use lib.ListN.{replicate}
 use Rattle.calculus.specs.Formula.{Goal}
 use Rattle.card.specs.Format.{kind_at}
-use Rattle.card.proofs.CardChecked.{sound_front}
-use Rattle.card.proofs.SoundNodes.{clause_lower, node_here}
+use Rattle.card.proofs.SoundNodes.{node_here}
 use Rattle.agenda.specs.Inner.Agenda.{task}
 use Rattle.branch.specs.declared.Branch.{Branch}
-use Rattle.branch.specs.Inner.Values.{Solved, answer_in}
+use Rattle.branch.specs.Inner.Values.{answer_in}
 use Rattle.branch.specs.declared.Floor.{Floor}
 use mathlib.Core.List.{List}
 use Rattle.inside.specs.Inner.Inside.{InsideOpened, lends}
 use Rattle.engine.specs.Inner.Engine.{Equipped, Ready, GoalReady, Fresh}
-use Rattle.engine.proofs.NumbersFall.{alone}
 use Rattle.engine.proofs.CountIsScan.{count_is_scan}
-use Rattle.engine.proofs.AgendasUnwind.{top_within, top_here, name_next, part_next, unwound_number, unwound_ready}
+use Rattle.engine.proofs.AgendasUnwind.{top_within, top_here, name_next, part_next, open_kind, unwound_number, unwound_ready}
 use Rattle.engine.proofs.AgendasUnwind.{unwound_searched, closed_searched}
 use Rattle.engine.proofs.WaysSaid.{solved_said, stuck_said, unsolved, equipped_on, equipped_at, equipped_lent}
 use Rattle.engine.proofs.WaysSaid.{large_self, large_on, stays_stuck, stays_from, stays_back, stays_dead, weary_solved, weary_stuck}
 use Rattle.engine.proofs.WaysSaid.{using_count, tensor_count, with_count, awake_stays, stays_tired}
-use Rattle.engine.proofs.NamesTell.{name_of, card_front, name_open, testing, name_here, top_inside, unnested}
-use Rattle.engine.proofs.NamesTell.{roomless, entry_byte, at_inside, entry_clause}
+use Rattle.engine.proofs.NamesTell.{name_of, name_open, testing, name_here, top_inside, unnested}
+use Rattle.engine.proofs.NamesTell.{roomless, entry_byte}
 use Rattle.engine.proofs.NamesTell.{round_start, round_kept, round_ready, round_ends, seek_at, round_onward, round_use}
 use Rattle.engine.proofs.NamesTell.{round_call, round_next, round_found, round_tired, asks, doomed_told, dead_barren, dead_told, solved_using, stuck_using}
-use Rattle.engine.proofs.TurnsRaise.{turns_start, ready_lead, ready_own, fresh_lead, fresh_own}
-use Rattle.engine.proofs.PartsTell.{goal_next, agenda_same, agenda_last, alone_next, searched_as, searched_at, goal_own, goal_lead}
-use Rattle.engine.proofs.PartsTell.{own_unsolved, own_solved, goal_low, goal_six, left_asks, either_goal, one_task}
+use Rattle.engine.proofs.TurnsRaise.{turns_start, ready_lead, fresh_lead}
+use Rattle.engine.proofs.PartsTell.{goal_next, agenda_same, agenda_last, alone_next, searched_as, searched_at, goal_lead}
+use Rattle.engine.proofs.PartsTell.{own_unsolved, own_solved, goal_low, part_kind, left_asks, either_goal, one_task}
 use Rattle.engine.proofs.PartsTell.{searched_past, lent_count, opening, opened_asks, opened_unsolved, opened_solved}
 use Rattle.engine.proofs.BehindTells.{behind_unsolved, behind_nodes_kept, behind_rest_asks, rest_told, behind_solved}
 use Rattle.engine.proofs.BehindTells.{behind_tired, behind_nosteps, behind_raise_asks, behind_falls, behind_again}
@@ -36,34 +35,31 @@ use Rattle.engine.proofs.BehindTells.{nodes_on as behind-nodes-on}
 use Rattle.engine.proofs.EitherTells.{either_unsolved, either_nodes_kept, with_len, either_rest_asks, either_solved}
 use Rattle.engine.proofs.EitherTells.{either_tired, either_nosteps, either_raise_asks, either_falls, either_again}
 use Rattle.engine.proofs.EitherTells.{nodes_on as either-nodes-on}
-use mathlib.Core.Logic.{inl, inr}
+use mathlib.Core.Logic.{inr}
 use Rattle.engine.proofs.AgendasUnwind.{one_of_next}
 use Rattle.engine.proofs.WaysSaid.{unstuck}
-use Rattle.engine.proofs.EntersTell.{goal_room, goal_call, goal_told, clause_room, core_here, menu_call, menu_told, head_call, head_told}
-use Rattle.engine.proofs.EntersTell.{never_told, one_of_call, one_of_told}
-use Rattle.engine.proofs.ChoicesTell.{choice_here, side_clause, choice_room, left_told, right_told, choice_byte, choice_tape}
+use Rattle.engine.proofs.EntersTell.{goal_room, goal_call, goal_told, clause_room, core_here, core_kinds, menu_call, menu_told, head_call, head_told}
+use Rattle.engine.proofs.EntersTell.{never_told, one_of_kinds, one_of_call, one_of_told}
+use Rattle.engine.proofs.ChoicesTell.{choice_here, side_clause, choice_room, left_told, right_told}
 use Rattle.engine.proofs.ChoicesTell.{side_under, side_shut, side_call, side_unsolved, side_solved}
 use Rattle.engine.proofs.NamesTell.{ready_kept}
-use Rattle.engine.proofs.UsesTell.{use_room, use_core, use_menu_call, use_menu_told, use_head_call, use_head_told}
+use Rattle.engine.proofs.UsesTell.{use_room, use_core, use_kinds, use_menu_call, use_menu_told, use_head_call, use_head_told}
 use Prim.Native.Nat.{ℕ}
+use Rattle.engine.proofs.WaysSaid.{and_then, and_else}
 use Rattle.engine.proofs.+engine_search.Goals as goal
-
-pub behind-overflow_sub-top : goal.behind-overflow_sub-top
-behind-overflow_sub-top t c =
-    let q = c.requires.part_next in
-    omega (arith, q.some)
+use Rattle.engine.proofs.+engine_search.Goals.{behind-then-w, behind-else-w, both_ways-then-w, both_ways-else-w}
 
 pub behind-node-goal-requires : goal.behind-node-goal-requires
 behind-node-goal-requires t c =
     let rd = c.requires.ready in
     let q = c.requires.part_next in
-    (top_within c.args.b rd.sound q.laid q.some, q.laid.room)
+    top_within c.args.b rd.sound q.laid q.some
 
 pub behind-nest-n-requires : goal.behind-nest-n-requires
 behind-nest-n-requires t c =
     let rd = c.requires.ready in
     let q = c.requires.part_next in
-    (top_within c.args.b rd.sound q.laid q.some, q.laid.room)
+    top_within c.args.b rd.sound q.laid q.some
 
 pub behind-last-requires : goal.behind-last-requires
 behind-last-requires t c =
@@ -76,26 +72,18 @@ behind-last-requires t c =
       (rd, (goal_next q c.node-goal.ensures c.nest-n.ensures, eq)),
     )
 
-pub behind-shape_of-codes-then-top-eq0 : goal.behind-shape_of-codes-then-top-eq0
-behind-shape_of-codes-then-top-eq0 t c =
-    c.last.ensures.stays.code_same
-
-pub behind-shape_of-words-then-top-eq0 : goal.behind-shape_of-words-then-top-eq0
-behind-shape_of-words-then-top-eq0 t c =
-    c.last.ensures.stays.same
-
 pub behind-returns-then-top-eq0 : goal.behind-returns-then-top-eq0
 behind-returns-then-top-eq0 t c =
-    let q = c.requires.part_next in record { solving = searched_as (agenda_last q c.node-goal.ensures c.nest-n.ensures c.if-top-eq0.true) c.last.ensures.alone; stays = c.last.ensures.stays }
+    let q = c.requires.part_next in record {
+      solving = searched_as (agenda_last q c.node-goal.ensures c.nest-n.ensures c.if-top-eq0.true) c.last.ensures.alone;
+      stays = c.last.ensures.stays;
+    }
 
 pub behind-loop-r-init : goal.behind-loop-r-init
 behind-loop-r-init t c =
     let rd = c.requires.ready in
     let eq = c.requires.equipped in
     (turns_start _ _ _ rd, (eq, large_self))
-
-pub behind-lead-requires : goal.behind-lead-requires
-behind-lead-requires t c = c.loop-r.invariant.0.ready.counted
 
 pub behind-part-r-requires : goal.behind-part-r-requires
 behind-part-r-requires t c =
@@ -111,31 +99,16 @@ behind-part-r-requires t c =
       (ready_lead turn.ready, ((goal_lead (goal_next q eg en), fresh_lead c.args.b), kit)),
     )
 
-pub behind-shape_of-codes-in_default : goal.behind-shape_of-codes-in_default
-behind-shape_of-codes-in_default t c =
-    let large = c.loop-r.invariant.1.1 in
-    (large_on large c.part-r.ensures.stays).code_same
-
-pub behind-shape_of-words-in_default : goal.behind-shape_of-words-in_default
-behind-shape_of-words-in_default t c =
-    let large = c.loop-r.invariant.1.1 in
-    (large_on large c.part-r.ensures.stays).same
-
 pub behind-returns-in_default : goal.behind-returns-in_default
 behind-returns-in_default t c =
     let q = c.requires.part_next in
     let turn = c.loop-r.invariant.0 in
     let large = c.loop-r.invariant.1.1 in
     let same_agenda = agenda_same q c.node-goal.ensures c.nest-n.ensures in
-    let R = searched_at c.lead.ensures.value c.part-r.ensures.alone in record { solving = searched_as (same_agenda) (behind_unsolved _ _ turn _ R (unsolved _ c.in_default.not-Solved _)); stays = stays_back large c.part-r.ensures.stays }
-
-pub behind-way_in-w-requires : goal.behind-way_in-w-requires
-behind-way_in-w-requires t c =
-    c.part-r.ensures.stays.way_room
-
-pub behind-past_tensor-requires : goal.behind-past_tensor-requires
-behind-past_tensor-requires t c =
-    let q = c.requires.part_next in record { le_len = q.some; counted = c.requires.ready.counted }
+    let R = searched_at c.lead.ensures.value c.part-r.ensures.alone in record {
+      solving = searched_as (same_agenda) (behind_unsolved _ _ turn _ R (unsolved _ c.in_default.not-Solved _));
+      stays = stays_back large c.part-r.ensures.stays;
+    }
 
 pub behind-solve-s-requires : goal.behind-solve-s-requires
 behind-solve-s-requires t c =
@@ -145,7 +118,7 @@ behind-solve-s-requires t c =
     let turn = c.loop-r.invariant.0 in
     let kit = c.loop-r.invariant.1.0 in
     let R = searched_at c.lead.ensures.value c.part-r.ensures.alone in
-    let solved = solved_said c.in-Solved.is _ ∙ ap Solved (sym c.way_in-w.ensures) in
+    let solved = solved_said c.in-Solved.is _ in
     let asked = behind_rest_asks _ _ turn _ R _ solved _ _ _ c.past-h.ensures c.past_tensor.ensures.value q in
     let kept = behind_nodes_kept _ _ turn _ R in (
       omega (arith, asked.0, number_is),
@@ -162,22 +135,6 @@ behind-solve-s-requires t c =
       ),
     )
 
-pub behind-follow-requires : goal.behind-follow-requires
-behind-follow-requires t c =
-    c.solve-s.ensures.stays.way_room
-
-pub behind-shape_of-codes-in-Solved-s : goal.behind-shape_of-codes-in-Solved-s
-behind-shape_of-codes-in-Solved-s t c =
-    let large = c.loop-r.invariant.1.1 in
-    let large₂ = large_on large c.part-r.ensures.stays in
-    (large_on large₂ c.solve-s.ensures.stays).code_same
-
-pub behind-shape_of-words-in-Solved-s : goal.behind-shape_of-words-in-Solved-s
-behind-shape_of-words-in-Solved-s t c =
-    let large = c.loop-r.invariant.1.1 in
-    let large₂ = large_on large c.part-r.ensures.stays in
-    (large_on large₂ c.solve-s.ensures.stays).same
-
 pub behind-returns-in-Solved-s : goal.behind-returns-in-Solved-s
 unfolding answer_in
 behind-returns-in-Solved-s t c =
@@ -187,21 +144,17 @@ behind-returns-in-Solved-s t c =
     let large₂ = large_on large c.part-r.ensures.stays in
     let same_agenda = agenda_same q c.node-goal.ensures c.nest-n.ensures in
     let R = searched_at c.lead.ensures.value c.part-r.ensures.alone in
-    let solved = solved_said c.in-Solved.is _ ∙ ap Solved (sym c.way_in-w.ensures) in
+    let solved = solved_said c.in-Solved.is _ in
     let Q₁ = rest_told _ _ turn _ R _ solved _ _ _ c.past-h.ensures c.past_tensor.ensures.value c.solve-s.ensures.solving in
-    let done = behind_solved _ _ turn _ R _ solved _ Q₁ _ (solved_said c.in-Solved-s.is _) in record { solving = rw (c.follow.ensures.way_after, c.both.ensures) (searched_as (same_agenda) done); stays = stays_from large₂ c.solve-s.ensures.stays _ c.follow.ensures.way_len (weary_solved _) }
-
-pub behind-shape_of-codes-then-w-b : goal.behind-shape_of-codes-then-w-b
-behind-shape_of-codes-then-w-b t c =
-    let large = c.loop-r.invariant.1.1 in
-    let large₂ = large_on large c.part-r.ensures.stays in
-    (large_on large₂ c.solve-s.ensures.stays).code_same
-
-pub behind-shape_of-words-then-w-b : goal.behind-shape_of-words-then-w-b
-behind-shape_of-words-then-w-b t c =
-    let large = c.loop-r.invariant.1.1 in
-    let large₂ = large_on large c.part-r.ensures.stays in
-    (large_on large₂ c.solve-s.ensures.stays).same
+    let done = behind_solved _ _ turn _ R _ solved _ Q₁ _ (solved_said c.in-Solved-s.is _) in
+    let kept : c.if-w.follow ≡ (c.part-r.new.way.kept && c.loop-r.fresh) = elim c.if-w.branch [
+      | behind-then-w w ↦ and_then _ w.if-w.true w.follow-is
+      | behind-else-w w ↦ and_else _ w.if-w.false w.follow-is
+    ] in
+    record {
+      solving = rw (c.follow.ensures, kept) (searched_as (same_agenda) done);
+      stays = stays_from large₂ c.solve-s.ensures.stays _ (weary_solved _);
+    }
 
 pub behind-returns-then-w-b : goal.behind-returns-then-w-b
 unfolding answer_in
@@ -212,18 +165,18 @@ behind-returns-then-w-b t c =
     let large₂ = large_on large c.part-r.ensures.stays in
     let same_agenda = agenda_same q c.node-goal.ensures c.nest-n.ensures in
     let R = searched_at c.lead.ensures.value c.part-r.ensures.alone in
-    let solved = solved_said c.in-Solved.is _ ∙ ap Solved (sym c.way_in-w.ensures) in
+    let solved = solved_said c.in-Solved.is _ in
     let Q₁ = rest_told _ _ turn _ R _ solved _ _ _ c.past-h.ensures c.past_tensor.ensures.value c.solve-s.ensures.solving in record {
       solving = searched_as (same_agenda) (behind_nosteps _ _ turn _ R _ solved _ Q₁ (stuck_said c.in-Stuck.is _)
           c.if-w-b.true);
-      stays = stays_from large₂ c.solve-s.ensures.stays _ c.solve-s.ensures.stays.way_room (weary_stuck _);
+      stays = stays_from large₂ c.solve-s.ensures.stays _ (weary_stuck _);
     }
 
 pub behind-raise-g-requires : goal.behind-raise-g-requires
 behind-raise-g-requires t c =
     let turn = c.loop-r.invariant.0 in
     let R = searched_at c.lead.ensures.value c.part-r.ensures.alone in
-    let solved = solved_said c.in-Solved.is _ ∙ ap Solved (sym c.way_in-w.ensures) in
+    let solved = solved_said c.in-Solved.is _ in
     let Q₁ = rest_told _ _ turn _ R _ solved _ _ _ c.past-h.ensures c.past_tensor.ensures.value c.solve-s.ensures.solving in
     behind_raise_asks _ _ turn _ R _ solved _ Q₁ (stuck_said c.in-Stuck.is _) c.if-w-b.false
 
@@ -231,7 +184,7 @@ pub behind-loop-r-smaller : goal.behind-loop-r-smaller
 behind-loop-r-smaller t c =
     let turn = c.loop-r.invariant.0 in
     let R = searched_at c.lead.ensures.value c.part-r.ensures.alone in
-    let solved = solved_said c.in-Solved.is _ ∙ ap Solved (sym c.way_in-w.ensures) in
+    let solved = solved_said c.in-Solved.is _ in
     let Q₁ = rest_told _ _ turn _ R _ solved _ _ _ c.past-h.ensures c.past_tensor.ensures.value c.solve-s.ensures.solving in
     behind_falls _ _ turn _ R _ solved _ Q₁ (stuck_said c.in-Stuck.is _) c.if-w-b.false _
     c.raise-g.ensures.value c.raise-g.ensures.by_index
@@ -244,25 +197,13 @@ behind-loop-r-preserved t c =
     let large = c.loop-r.invariant.1.1 in
     let large₂ = large_on large c.part-r.ensures.stays in
     let R = searched_at c.lead.ensures.value c.part-r.ensures.alone in
-    let solved = solved_said c.in-Solved.is _ ∙ ap Solved (sym c.way_in-w.ensures) in
+    let solved = solved_said c.in-Solved.is _ in
     let Q₁ = rest_told _ _ turn _ R _ solved _ _ _ c.past-h.ensures c.past_tensor.ensures.value c.solve-s.ensures.solving in
     let kept = behind-nodes-on _ _ turn _ R _ solved _ Q₁ in (
       behind_again _ _ turn _ R _ solved _ Q₁ (stuck_said c.in-Stuck.is _) c.if-w-b.false _
           c.raise-g.ensures.value c.raise-g.ensures.by_index,
       (equipped_on kit kept rd.scoped c.solve-s.ensures.stays, large_on large₂ c.solve-s.ensures.stays),
     )
-
-pub behind-shape_of-codes-in-Tired : goal.behind-shape_of-codes-in-Tired
-behind-shape_of-codes-in-Tired t c =
-    let large = c.loop-r.invariant.1.1 in
-    let large₂ = large_on large c.part-r.ensures.stays in
-    (large_on large₂ c.solve-s.ensures.stays).code_same
-
-pub behind-shape_of-words-in-Tired : goal.behind-shape_of-words-in-Tired
-behind-shape_of-words-in-Tired t c =
-    let large = c.loop-r.invariant.1.1 in
-    let large₂ = large_on large c.part-r.ensures.stays in
-    (large_on large₂ c.solve-s.ensures.stays).same
 
 pub behind-returns-in-Tired : goal.behind-returns-in-Tired
 unfolding answer_in
@@ -273,8 +214,11 @@ behind-returns-in-Tired t c =
     let large₂ = large_on large c.part-r.ensures.stays in
     let same_agenda = agenda_same q c.node-goal.ensures c.nest-n.ensures in
     let R = searched_at c.lead.ensures.value c.part-r.ensures.alone in
-    let solved = solved_said c.in-Solved.is _ ∙ ap Solved (sym c.way_in-w.ensures) in
-    let Q₁ = rest_told _ _ turn _ R _ solved _ _ _ c.past-h.ensures c.past_tensor.ensures.value c.solve-s.ensures.solving in record { solving = searched_as (same_agenda) (behind_tired _ _ turn _ R _ solved _ Q₁); stays = stays_tired c.in-Tired.is large₂ c.solve-s.ensures.stays }
+    let solved = solved_said c.in-Solved.is _ in
+    let Q₁ = rest_told _ _ turn _ R _ solved _ _ _ c.past-h.ensures c.past_tensor.ensures.value c.solve-s.ensures.solving in record {
+      solving = searched_as (same_agenda) (behind_tired _ _ turn _ R _ solved _ Q₁);
+      stays = stays_tired c.in-Tired.is large₂ c.solve-s.ensures.stays;
+    }
 
 pub both_ways-loop-first-init : goal.both_ways-loop-first-init
 both_ways-loop-first-init t c =
@@ -285,7 +229,11 @@ both_ways-loop-first-init t c =
 pub both_ways-left_alone-requires : goal.both_ways-left_alone-requires
 both_ways-left_alone-requires t c =
     let rd = c.requires.ready in
-    let gr = c.requires.goal_ready.0.0 in record { sound = rd.sound; goal_bound = (goal_low rd.sound gr, omega (arith, gr.kind)); nest_bound = (gr.nested, refl) }
+    let gr = c.requires.goal_ready.0.0 in record {
+      sound = rd.sound;
+      goal_bound = (goal_low rd.sound gr, omega (arith, gr.kind));
+      nest_bound = gr.nested;
+    }
 
 pub both_ways-solve-first-requires : goal.both_ways-solve-first-requires
 both_ways-solve-first-requires t c =
@@ -299,16 +247,6 @@ both_ways-solve-first-requires t c =
     let asked = left_asks rd.sound gr (replicate 104 0) refl kd fb refl c.left_alone.ensures in
     (omega (arith, asked.0, number_is), (turn.ready, (asked.1, (kit, count_is_scan turn.ready))))
 
-pub both_ways-shape_of-codes-in_default : goal.both_ways-shape_of-codes-in_default
-both_ways-shape_of-codes-in_default t c =
-    let large = c.loop-first.invariant.1.1 in
-    (large_on large c.solve-first.ensures.stays).code_same
-
-pub both_ways-shape_of-words-in_default : goal.both_ways-shape_of-words-in_default
-both_ways-shape_of-words-in_default t c =
-    let large = c.loop-first.invariant.1.1 in
-    (large_on large c.solve-first.ensures.stays).same
-
 pub both_ways-returns-in_default : goal.both_ways-returns-in_default
 both_ways-returns-in_default t c =
     let rd = c.requires.ready in
@@ -319,23 +257,19 @@ both_ways-returns-in_default t c =
     let kd = c.requires.goal_ready.1 in
     let same_goal = ap (λ (G : Goal). task G c.args.n ∷ []) (either_goal rd.sound gr (replicate 104 0) refl kd) in
     let R = searched_as (one_task _ (replicate 104 0) gr.nested refl fb.len refl c.left_alone.ensures)
-    c.solve-first.ensures.solving in record { alone = searched_as (same_goal) (either_unsolved _ _ _ fb turn _ R (unsolved _ c.in_default.not-Solved _)); stays = stays_back large c.solve-first.ensures.stays }
-
-pub both_ways-way_in-w-requires : goal.both_ways-way_in-w-requires
-both_ways-way_in-w-requires t c =
-    c.solve-first.ensures.stays.way_room
+    c.solve-first.ensures.solving in record {
+      alone = searched_as (same_goal) (either_unsolved _ _ _ fb turn _ R (unsolved _ c.in_default.not-Solved _));
+      stays = stays_back large c.solve-first.ensures.stays;
+    }
 
 pub both_ways-right_alone-requires : goal.both_ways-right_alone-requires
 both_ways-right_alone-requires t c =
     let rd = c.requires.ready in
-    let gr = c.requires.goal_ready.0.0 in record { sound = rd.sound; goal_bound = (goal_low rd.sound gr, omega (arith, gr.kind)); nest_bound = (gr.nested, refl) }
-
-pub both_ways-past-h-requires : goal.both_ways-past-h-requires
-both_ways-past-h-requires t c = tt
-
-pub both_ways-past_with-requires : goal.both_ways-past_with-requires
-both_ways-past_with-requires t c =
-    c.requires.ready.counted
+    let gr = c.requires.goal_ready.0.0 in record {
+      sound = rd.sound;
+      goal_bound = (goal_low rd.sound gr, omega (arith, gr.kind));
+      nest_bound = gr.nested;
+    }
 
 pub both_ways-solve-second-requires : goal.both_ways-solve-second-requires
 both_ways-solve-second-requires t c =
@@ -348,7 +282,7 @@ both_ways-solve-second-requires t c =
     let kd = c.requires.goal_ready.1 in
     let R = searched_as (one_task _ (replicate 104 0) gr.nested refl fb.len refl c.left_alone.ensures)
     c.solve-first.ensures.solving in
-    let solved = solved_said c.in-Solved.is _ ∙ ap Solved (sym c.way_in-w.ensures) in
+    let solved = solved_said c.in-Solved.is _ in
     let asked = either_rest_asks _ _ _ fb turn _ R _ solved c.past-h.ensures c.past_with.ensures.value gr kd
     (replicate 104 0) refl
     refl c.right_alone.ensures in
@@ -366,36 +300,6 @@ both_ways-solve-second-requires t c =
       ),
     )
 
-pub both_ways-way_in-requires : goal.both_ways-way_in-requires
-both_ways-way_in-requires t c =
-    c.solve-second.ensures.stays.way_room
-
-pub both_ways-beside-requires : goal.both_ways-beside-requires
-both_ways-beside-requires t c = tt
-
-pub both_ways-put_way-requires : goal.both_ways-put_way-requires
-both_ways-put_way-requires t c =
-    c.solve-second.ensures.stays.way_room
-
-pub both_ways-both-requires : goal.both_ways-both-requires
-both_ways-both-requires t c = tt
-
-pub both_ways-follow-requires : goal.both_ways-follow-requires
-both_ways-follow-requires t c =
-    c.put_way.ensures.1
-
-pub both_ways-shape_of-codes-in-Solved-second : goal.both_ways-shape_of-codes-in-Solved-second
-both_ways-shape_of-codes-in-Solved-second t c =
-    let large = c.loop-first.invariant.1.1 in
-    let large₂ = large_on large c.solve-first.ensures.stays in
-    (large_on large₂ c.solve-second.ensures.stays).code_same
-
-pub both_ways-shape_of-words-in-Solved-second : goal.both_ways-shape_of-words-in-Solved-second
-both_ways-shape_of-words-in-Solved-second t c =
-    let large = c.loop-first.invariant.1.1 in
-    let large₂ = large_on large c.solve-first.ensures.stays in
-    (large_on large₂ c.solve-second.ensures.stays).same
-
 pub both_ways-returns-in-Solved-second : goal.both_ways-returns-in-Solved-second
 unfolding answer_in
 both_ways-returns-in-Solved-second t c =
@@ -409,28 +313,20 @@ both_ways-returns-in-Solved-second t c =
     let same_goal = ap (λ (G : Goal). task G c.args.n ∷ []) (either_goal rd.sound gr (replicate 104 0) refl kd) in
     let R = searched_as (one_task _ (replicate 104 0) gr.nested refl fb.len refl c.left_alone.ensures)
     c.solve-first.ensures.solving in
-    let solved = solved_said c.in-Solved.is _ ∙ ap Solved (sym c.way_in-w.ensures) in
+    let solved = solved_said c.in-Solved.is _ in
     let Q₁ = searched_past c.past-h.ensures c.past_with.ensures.value
     (searched_as (one_task _ (replicate 104 0) gr.nested refl (with_len _ _ c.past_with.ensures.value) refl
     c.right_alone.ensures) c.solve-second.ensures.solving) in
-    let second = solved_said c.in-Solved-second.is _ ∙ ap Solved (sym c.way_in.ensures) in
-    let done = either_solved _ _ _ fb turn _ R _ solved _ Q₁ _ second in record {
-      alone = rw (c.follow.ensures.way_after, c.both.ensures, c.put_way.ensures.0, c.beside.ensures)
+    let second = solved_said c.in-Solved-second.is _ in
+    let done = either_solved _ _ _ fb turn _ R _ solved _ Q₁ _ second in
+    let both_kept : c.if-w.follow ≡ (c.solve-first.new.way.kept && c.loop-first.fresh) = elim c.if-w.branch [
+      | both_ways-then-w w ↦ and_then _ w.if-w.true w.follow-is
+      | both_ways-else-w w ↦ and_else _ w.if-w.false w.follow-is
+    ] in record {
+      alone = rw (c.follow.ensures, c.beside.ensures, both_kept)
           (searched_as (same_goal) done);
-      stays = stays_from large₂ c.solve-second.ensures.stays _ c.follow.ensures.way_len (weary_solved _);
+      stays = stays_from large₂ c.solve-second.ensures.stays _ (weary_solved _);
     }
-
-pub both_ways-shape_of-codes-then-w-b : goal.both_ways-shape_of-codes-then-w-b
-both_ways-shape_of-codes-then-w-b t c =
-    let large = c.loop-first.invariant.1.1 in
-    let large₂ = large_on large c.solve-first.ensures.stays in
-    (large_on large₂ c.solve-second.ensures.stays).code_same
-
-pub both_ways-shape_of-words-then-w-b : goal.both_ways-shape_of-words-then-w-b
-both_ways-shape_of-words-then-w-b t c =
-    let large = c.loop-first.invariant.1.1 in
-    let large₂ = large_on large c.solve-first.ensures.stays in
-    (large_on large₂ c.solve-second.ensures.stays).same
 
 pub both_ways-returns-then-w-b : goal.both_ways-returns-then-w-b
 unfolding answer_in
@@ -445,13 +341,13 @@ both_ways-returns-then-w-b t c =
     let same_goal = ap (λ (G : Goal). task G c.args.n ∷ []) (either_goal rd.sound gr (replicate 104 0) refl kd) in
     let R = searched_as (one_task _ (replicate 104 0) gr.nested refl fb.len refl c.left_alone.ensures)
     c.solve-first.ensures.solving in
-    let solved = solved_said c.in-Solved.is _ ∙ ap Solved (sym c.way_in-w.ensures) in
+    let solved = solved_said c.in-Solved.is _ in
     let Q₁ = searched_past c.past-h.ensures c.past_with.ensures.value
     (searched_as (one_task _ (replicate 104 0) gr.nested refl (with_len _ _ c.past_with.ensures.value) refl
     c.right_alone.ensures) c.solve-second.ensures.solving) in record {
       alone = searched_as (same_goal) (either_nosteps _ _ _ fb turn _ R _ solved _ Q₁ (stuck_said c.in-Stuck.is _)
           c.if-w-b.true);
-      stays = stays_from large₂ c.solve-second.ensures.stays _ c.solve-second.ensures.stays.way_room (weary_stuck _);
+      stays = stays_from large₂ c.solve-second.ensures.stays _ (weary_stuck _);
     }
 
 pub both_ways-raise-g-requires : goal.both_ways-raise-g-requires
@@ -461,7 +357,7 @@ both_ways-raise-g-requires t c =
     let fb = c.requires.goal_ready.0.1 in
     let R = searched_as (one_task _ (replicate 104 0) gr.nested refl fb.len refl c.left_alone.ensures)
     c.solve-first.ensures.solving in
-    let solved = solved_said c.in-Solved.is _ ∙ ap Solved (sym c.way_in-w.ensures) in
+    let solved = solved_said c.in-Solved.is _ in
     let Q₁ = searched_past c.past-h.ensures c.past_with.ensures.value
     (searched_as (one_task _ (replicate 104 0) gr.nested refl (with_len _ _ c.past_with.ensures.value) refl
     c.right_alone.ensures) c.solve-second.ensures.solving) in
@@ -474,7 +370,7 @@ both_ways-loop-first-smaller t c =
     let fb = c.requires.goal_ready.0.1 in
     let R = searched_as (one_task _ (replicate 104 0) gr.nested refl fb.len refl c.left_alone.ensures)
     c.solve-first.ensures.solving in
-    let solved = solved_said c.in-Solved.is _ ∙ ap Solved (sym c.way_in-w.ensures) in
+    let solved = solved_said c.in-Solved.is _ in
     let Q₁ = searched_past c.past-h.ensures c.past_with.ensures.value
     (searched_as (one_task _ (replicate 104 0) gr.nested refl (with_len _ _ c.past_with.ensures.value) refl
     c.right_alone.ensures) c.solve-second.ensures.solving) in
@@ -492,7 +388,7 @@ both_ways-loop-first-preserved t c =
     let large₂ = large_on large c.solve-first.ensures.stays in
     let R = searched_as (one_task _ (replicate 104 0) gr.nested refl fb.len refl c.left_alone.ensures)
     c.solve-first.ensures.solving in
-    let solved = solved_said c.in-Solved.is _ ∙ ap Solved (sym c.way_in-w.ensures) in
+    let solved = solved_said c.in-Solved.is _ in
     let Q₁ = searched_past c.past-h.ensures c.past_with.ensures.value
     (searched_as (one_task _ (replicate 104 0) gr.nested refl (with_len _ _ c.past_with.ensures.value) refl
     c.right_alone.ensures) c.solve-second.ensures.solving) in
@@ -501,18 +397,6 @@ both_ways-loop-first-preserved t c =
           c.raise-g.ensures.value c.raise-g.ensures.by_index,
       (equipped_on kit kept rd.scoped c.solve-second.ensures.stays, large_on large₂ c.solve-second.ensures.stays),
     )
-
-pub both_ways-shape_of-codes-in-Tired : goal.both_ways-shape_of-codes-in-Tired
-both_ways-shape_of-codes-in-Tired t c =
-    let large = c.loop-first.invariant.1.1 in
-    let large₂ = large_on large c.solve-first.ensures.stays in
-    (large_on large₂ c.solve-second.ensures.stays).code_same
-
-pub both_ways-shape_of-words-in-Tired : goal.both_ways-shape_of-words-in-Tired
-both_ways-shape_of-words-in-Tired t c =
-    let large = c.loop-first.invariant.1.1 in
-    let large₂ = large_on large c.solve-first.ensures.stays in
-    (large_on large₂ c.solve-second.ensures.stays).same
 
 pub both_ways-returns-in-Tired : goal.both_ways-returns-in-Tired
 unfolding answer_in
@@ -527,10 +411,13 @@ both_ways-returns-in-Tired t c =
     let same_goal = ap (λ (G : Goal). task G c.args.n ∷ []) (either_goal rd.sound gr (replicate 104 0) refl kd) in
     let R = searched_as (one_task _ (replicate 104 0) gr.nested refl fb.len refl c.left_alone.ensures)
     c.solve-first.ensures.solving in
-    let solved = solved_said c.in-Solved.is _ ∙ ap Solved (sym c.way_in-w.ensures) in
+    let solved = solved_said c.in-Solved.is _ in
     let Q₁ = searched_past c.past-h.ensures c.past_with.ensures.value
     (searched_as (one_task _ (replicate 104 0) gr.nested refl (with_len _ _ c.past_with.ensures.value) refl
-    c.right_alone.ensures) c.solve-second.ensures.solving) in record { alone = searched_as (same_goal) (either_tired _ _ _ fb turn _ R _ solved _ Q₁); stays = stays_tired c.in-Tired.is large₂ c.solve-second.ensures.stays }
+    c.right_alone.ensures) c.solve-second.ensures.solving) in record {
+      alone = searched_as (same_goal) (either_tired _ _ _ fb turn _ R _ solved _ Q₁);
+      stays = stays_tired c.in-Tired.is large₂ c.solve-second.ensures.stays;
+    }
 
 pub choose-returns-then-b : goal.choose-returns-then-b
 unfolding answer_in
@@ -538,36 +425,14 @@ choose-returns-then-b t c =
     let rd = c.requires.ready in
     let q = c.requires.choice_ready in record { entering = choice_room rd q c.if-b.true; stays = stays_stuck c.requires.equipped }
 
-pub choose-first_at-first-requires : goal.choose-first_at-first-requires
-choose-first_at-first-requires t c =
-    let rd = c.requires.ready in
-    (rd.fixed, rd.tape_room)
-
-pub choose-side-r-requires : goal.choose-side-r-requires
-choose-side-r-requires t c =
-    let rd = c.requires.ready in
-    let q = c.requires.choice_ready in
-    let number_is = c.decreases in
-    let room = c.if-b.false in
-    (omega (arith, number_is), (rd, ((q, record { choice = inl refl; room = omega (arith, room) }), c.requires.equipped)))
-
-pub choose-enum_told-1 : goal.choose-enum_told-1
-choose-enum_told-1 t c =
-    c.in-Stuck.in-Stuck-own.keys1
-
-pub choose-shape_of-codes-in_default : goal.choose-shape_of-codes-in_default
-choose-shape_of-codes-in_default t c =
-    c.side-r.ensures.stays.code_same
-
-pub choose-shape_of-words-in_default : goal.choose-shape_of-words-in_default
-choose-shape_of-words-in_default t c =
-    c.side-r.ensures.stays.same
-
 pub choose-returns-in_default : goal.choose-returns-in_default
 choose-returns-in_default t c =
     let rd = c.requires.ready in
     let q = c.requires.choice_ready in
-    let room = c.if-b.false in record { entering = left_told rd q (omega (arith, room)) c.first_at-first.ensures c.side-r.ensures.siding (unstuck _ c.in_default.not-Stuck _); stays = c.side-r.ensures.stays }
+    let room = c.if-b.false in record {
+      entering = left_told rd q (omega (arith, room)) c.first_at-first.ensures c.side-r.ensures.siding (unstuck _ c.in_default.not-Stuck _);
+      stays = c.side-r.ensures.stays;
+    }
 
 pub choose-side-requires : goal.choose-side-requires
 choose-side-requires t c =
@@ -587,14 +452,6 @@ choose-side-requires t c =
       ),
     )
 
-pub choose-shape_of-codes : goal.choose-shape_of-codes
-choose-shape_of-codes t c =
-    (large_on (large_on large_self c.side-r.ensures.stays) c.side.ensures.stays).code_same
-
-pub choose-shape_of-words : goal.choose-shape_of-words
-choose-shape_of-words t c =
-    (large_on (large_on large_self c.side-r.ensures.stays) c.side.ensures.stays).same
-
 pub choose-returns : goal.choose-returns
 choose-returns t c =
     let rd = c.requires.ready in
@@ -608,72 +465,17 @@ choose-returns t c =
 pub enter-push-p-requires : goal.enter-push-p-requires
 enter-push-p-requires t c =
     let rd = c.requires.ready in
-    let q = rw c.if-meets.true at c.requires.part_ready in let room = clause_room rd q in record { sound = rd.sound; clause_value = room.0; nest_bound = room.1 }
-
-pub enter-sized-c-requires : goal.enter-sized-c-requires
-enter-sized-c-requires t c =
-    c.requires.ready.counted
-
-pub enter-kind-requires : goal.enter-kind-requires
-enter-kind-requires t c =
-    let rd = c.requires.ready in
-    let q = rw c.if-meets.true at c.requires.part_ready in
-    core_here rd q c.push-p.ensures
-
-pub enter-choose-requires : goal.enter-choose-requires
-enter-choose-requires t c =
-    let rd = c.requires.ready in
-    let q = rw c.if-meets.true at c.requires.part_ready in
-    let asked = menu_call rd q c.push-p.ensures (sym c.kind.ensures.0 ∙ c.if-kind-eq10.true) _ c.sized-c.ensures.value t
-    c.decreases in
-    (asked.0, (asked.1.0, (asked.1.1, equipped_at (ap (λ (x : Branch). x.count) c.sized-c.ensures.value) c.requires.equipped)))
-
-pub enter-shape_of-codes-then-kind-eq10 : goal.enter-shape_of-codes-then-kind-eq10
-enter-shape_of-codes-then-kind-eq10 t c =
-    c.choose.ensures.stays.code_same
-
-pub enter-shape_of-words-then-kind-eq10 : goal.enter-shape_of-words-then-kind-eq10
-enter-shape_of-words-then-kind-eq10 t c =
-    c.choose.ensures.stays.same
-
-pub enter-returns-then-kind-eq10 : goal.enter-returns-then-kind-eq10
-enter-returns-then-kind-eq10 t c =
-    let rd = c.requires.ready in
-    let q = rw c.if-meets.true at c.requires.part_ready in record {
-      entering = rw c.if-meets.true (menu_told rd q c.push-p.ensures (sym c.kind.ensures.0 ∙ c.if-kind-eq10.true) _
-          c.sized-c.ensures.value c.choose.ensures.entering);
-      stays = c.choose.ensures.stays;
-    }
-
-pub enter-solve-requires : goal.enter-solve-requires
-enter-solve-requires t c =
-    let rd = c.requires.ready in
-    let q = rw c.if-meets.true at c.requires.part_ready in
-    let asked = head_call rd q c.push-p.ensures (λ k. c.if-kind-eq10.false (c.kind.ensures.0 ∙ k)) _ c.sized-c.ensures.value t
-    c.decreases in
-    (asked.0, (asked.1.0, (asked.1.1, (equipped_at (ap (λ (x : Branch). x.count) c.sized-c.ensures.value) c.requires.equipped, count_is_scan asked.1.0))))
-
-pub enter-shape_of-codes-then-meets : goal.enter-shape_of-codes-then-meets
-enter-shape_of-codes-then-meets t c =
-    c.solve.ensures.stays.code_same
-
-pub enter-shape_of-words-then-meets : goal.enter-shape_of-words-then-meets
-enter-shape_of-words-then-meets t c =
-    c.solve.ensures.stays.same
-
-pub enter-returns-then-meets : goal.enter-returns-then-meets
-enter-returns-then-meets t c =
-    let rd = c.requires.ready in
-    let q = rw c.if-meets.true at c.requires.part_ready in record {
-      entering = rw c.if-meets.true (head_told rd q c.push-p.ensures (λ k. c.if-kind-eq10.false (c.kind.ensures.0 ∙ k)) _
-          c.sized-c.ensures.value c.solve.ensures.solving);
-      stays = c.solve.ensures.stays;
+    let q = rw c.if-meets.true at c.requires.part_ready in let room = clause_room rd q in record {
+      sound = rd.sound;
+      a_clause = room.0;
+      nest_bound = room.1.0;
+      room = room.1.1.0;
     }
 
 pub enter-put-requires : goal.enter-put-requires
 enter-put-requires t c =
     let rd = c.requires.ready in
-    let q = rw c.if-meets.false at c.requires.part_ready in record { i_bound = goal_room rd q; agenda_len = q.laid.room }
+    let q = rw c.if-meets.false at c.requires.part_ready in goal_room rd q
 
 pub enter-longer-requires : goal.enter-longer-requires
 enter-longer-requires t c =
@@ -687,71 +489,33 @@ enter-solve-requires-2 t c =
     let asked = goal_call rd q _ c.put.ensures _ c.longer.ensures.value t c.decreases in
     (asked.0, (asked.1.0, (asked.1.1, (equipped_at (ap (λ (x : Branch). x.count) c.longer.ensures.value) c.requires.equipped, count_is_scan asked.1.0))))
 
-pub enter-shape_of-codes : goal.enter-shape_of-codes
-enter-shape_of-codes t c =
-    c.solve-2.ensures.stays.code_same
-
-pub enter-shape_of-words : goal.enter-shape_of-words
-enter-shape_of-words t c =
-    c.solve-2.ensures.stays.same
-
 pub enter-returns : goal.enter-returns
 enter-returns t c =
     let rd = c.requires.ready in
-    let q = rw c.if-meets.false at c.requires.part_ready in record { entering = rw c.if-meets.false (goal_told rd q _ c.put.ensures _ c.longer.ensures.value c.solve-2.ensures.solving); stays = c.solve-2.ensures.stays }
-
-pub last-own-requires : goal.last-own-requires
-last-own-requires t c =
-    c.requires.ready.counted
-
-pub last-part-r-requires : goal.last-part-r-requires
-last-part-r-requires t c =
-    let rd = c.requires.ready in
-    let q = c.requires.goal_ready in
-    let eq = c.requires.equipped in
-    let number_is = c.decreases in
-    rw c.own.ensures.value (
-      omega (arith, number_is),
-      (ready_own rd, ((goal_own q, fresh_own c.args.b), eq)),
-    )
-
-pub last-shape_of-codes-in_default : goal.last-shape_of-codes-in_default
-last-shape_of-codes-in_default t c =
-    c.part-r.ensures.stays.code_same
-
-pub last-shape_of-words-in_default : goal.last-shape_of-words-in_default
-last-shape_of-words-in_default t c =
-    c.part-r.ensures.stays.same
+    let q = rw c.if-meets.false at c.requires.part_ready in record {
+      entering = rw c.if-meets.false (goal_told rd q _ c.put.ensures _ c.longer.ensures.value c.solve-2.ensures.solving);
+      stays = c.solve-2.ensures.stays;
+    }
 
 pub last-returns-in_default : goal.last-returns-in_default
-last-returns-in_default t c = record { alone = own_unsolved (searched_at c.own.ensures.value c.part-r.ensures.alone) (unsolved _ c.in_default.not-Solved _); stays = c.part-r.ensures.stays }
-
-pub last-way_in-w-requires : goal.last-way_in-w-requires
-last-way_in-w-requires t c =
-    c.part-r.ensures.stays.way_room
-
-pub last-put_way-requires : goal.last-put_way-requires
-last-put_way-requires t c =
-    c.part-r.ensures.stays.way_room
-
-pub last-shape_of-codes : goal.last-shape_of-codes
-last-shape_of-codes t c =
-    c.part-r.ensures.stays.code_same
-
-pub last-shape_of-words : goal.last-shape_of-words
-last-shape_of-words t c =
-    c.part-r.ensures.stays.same
+last-returns-in_default t c = record {
+  alone = own_unsolved (searched_at c.own.ensures.value c.part-r.ensures.alone) (unsolved _ c.in_default.not-Solved _);
+  stays = c.part-r.ensures.stays;
+}
 
 pub last-returns : goal.last-returns
 unfolding answer_in
 last-returns t c =
-    let solved = solved_said c.in-Solved.is _ ∙ ap Solved (sym c.way_in-w.ensures) in record { alone = rw (c.put_way.ensures.0, c.joined.ensures) (own_solved _ (searched_at c.own.ensures.value c.part-r.ensures.alone) solved); stays = stays_from large_self c.part-r.ensures.stays _ c.put_way.ensures.1 (weary_solved _) }
+    let solved = solved_said c.in-Solved.is _ in record {
+      alone = rw c.joined.ensures (own_solved _ (searched_at c.own.ensures.value c.part-r.ensures.alone) solved);
+      stays = stays_from large_self c.part-r.ensures.stays _ (weary_solved _);
+    }
 
 -- the prunings stay stocked past the entering
-opened_equipped : {bs waits tape nodes heads nodes' heads' agenda agenda' names table masks codes words way : List ℕ} {f : Floor} {goal n : ℕ}
+opened_equipped : {bs waits tape nodes heads nodes' heads' agenda agenda' names table masks codes words : List ℕ} {f : Floor} {goal n : ℕ}
     {b d : Branch} → Ready bs waits tape nodes heads f b → GoalReady bs goal n b → Fresh b → kind_at bs goal ≡ 6
-    → Equipped bs names table masks codes words way nodes b.count → InsideOpened bs nodes nodes' heads heads' agenda agenda' goal n b d
-    → Equipped bs names table masks codes words way nodes' d.count
+    → Equipped bs names table masks codes words nodes b.count → InsideOpened bs nodes nodes' heads heads' agenda agenda' goal n b d
+    → Equipped bs names table masks codes words nodes' d.count
 opened_equipped rd gr fb kd eq (lends k en hd ea ec) =
     equipped_at (ap (λ (x : Branch). x.count) ec)
     (equipped_lent eq (goal_low rd.sound gr) k (lent_count rd gr fb kd) rd.entered.node_room rd.scoped refl en)
@@ -761,7 +525,7 @@ lent-open-c-requires t c =
     let rd = c.requires.ready in
     let gr = c.requires.goal_ready.0.0 in
     let fb = c.requires.goal_ready.0.1 in
-    let kd = c.requires.goal_ready.1 in record { opening = opening rd gr fb kd; agenda_len = refl }
+    let kd = c.requires.goal_ready.1 in opening rd gr fb kd
 
 pub lent-solve-r-requires : goal.lent-solve-r-requires
 lent-solve-r-requires t c =
@@ -775,12 +539,6 @@ lent-solve-r-requires t c =
     let asked = opened_asks rd gr fb kd (replicate 104 0) refl o in
     (omega (arith, asked.0, number_is), (asked.1.0, (asked.1.1, (opened_equipped rd gr fb kd eq o, count_is_scan asked.1.0))))
 
-pub lent-shape_of-codes-in_default : goal.lent-shape_of-codes-in_default
-lent-shape_of-codes-in_default t c = c.solve-r.ensures.stays.code_same
-
-pub lent-shape_of-words-in_default : goal.lent-shape_of-words-in_default
-lent-shape_of-words-in_default t c = c.solve-r.ensures.stays.same
-
 pub lent-returns-in_default : goal.lent-returns-in_default
 lent-returns-in_default t c =
     let rd = c.requires.ready in
@@ -792,16 +550,6 @@ lent-returns-in_default t c =
       stays = c.solve-r.ensures.stays;
     }
 
-pub lent-close-requires : goal.lent-close-requires
-lent-close-requires t c =
-    let rd = c.requires.ready in record { sound = (rd.sound, omega (arith, rd.scoped)); way_len = c.solve-r.ensures.stays.way_room }
-
-pub lent-shape_of-codes : goal.lent-shape_of-codes
-lent-shape_of-codes t c = c.solve-r.ensures.stays.code_same
-
-pub lent-shape_of-words : goal.lent-shape_of-words
-lent-shape_of-words t c = c.solve-r.ensures.stays.same
-
 pub lent-returns : goal.lent-returns
 unfolding answer_in
 lent-returns t c =
@@ -809,12 +557,10 @@ lent-returns t c =
     let gr = c.requires.goal_ready.0.0 in
     let fb = c.requires.goal_ready.0.1 in
     let kd = c.requires.goal_ready.1 in
-    let solved = solved_said c.in-Solved.is _ in record { alone = rw c.close.ensures.0 (opened_solved rd gr fb kd (replicate 104 0) refl _ c.open-c.ensures c.solve-r.ensures.solving solved); stays = stays_from large_self c.solve-r.ensures.stays _ c.close.ensures.1 (weary_solved _) }
-
-pub need-overflow_sub-b : goal.need-overflow_sub-b
-need-overflow_sub-b t c =
-    let q = c.requires.name_next in
-    let some = q.some in search rules
+    let solved = solved_said c.in-Solved.is _ in record {
+      alone = rw c.close.ensures (opened_solved rd gr fb kd (replicate 104 0) refl _ c.open-c.ensures c.solve-r.ensures.solving solved);
+      stays = stays_from large_self c.solve-r.ensures.stays _ (weary_solved _);
+    }
 
 pub need-nest-n-requires : goal.need-nest-n-requires
 need-nest-n-requires t c =
@@ -842,23 +588,12 @@ need-doomed-dead-requires t c =
     let q = c.requires.name_next in
     let eq = c.requires.equipped in record { prune_asks = asks rd q eq.rooted; stocked = eq.stocked }
 
-pub need-shape_of-codes-then-dead : goal.need-shape_of-codes-then-dead
-need-shape_of-codes-then-dead t c = refl
-
-pub need-shape_of-words-then-dead : goal.need-shape_of-words-then-dead
-need-shape_of-words-then-dead t c = refl
-
 pub need-returns-then-dead : goal.need-returns-then-dead
 unfolding answer_in
 need-returns-then-dead t c =
     let rd = c.requires.ready in
     let q = c.requires.name_next in
     let eq = c.requires.equipped in record { solving = doomed_told rd q (c.doomed-dead.ensures c.if-dead.true); stays = stays_stuck eq }
-
-pub need-first_at-first-requires : goal.need-first_at-first-requires
-need-first_at-first-requires t c =
-    let rd = c.requires.ready in
-    (rd.fixed, rd.tape_room)
 
 pub need-others-requires : goal.need-others-requires
 need-others-requires t c =
@@ -869,85 +604,17 @@ need-others-requires t c =
     let N = name_open q _ c.nest-n.ensures c.if-n-eq0.false c.if-b.false in
     (omega arith, (rd, ((N, c.first_at-first.ensures), eq)))
 
-pub need-shape_of-codes : goal.need-shape_of-codes
-need-shape_of-codes t c =
-    c.others.ensures.stays.code_same
-
-pub need-shape_of-words : goal.need-shape_of-words
-need-shape_of-words t c =
-    c.others.ensures.stays.same
-
-pub need-returns : goal.need-returns
-need-returns t c = record { solving = c.others.ensures.solving; stays = c.others.ensures.stays }
-
-pub one_of-overflow_sub-top : goal.one_of-overflow_sub-top
-one_of-overflow_sub-top t c =
-    let q = c.requires.one_of_next in
-    omega (arith, q.some)
-
 pub one_of-node-goal-requires : goal.one_of-node-goal-requires
 one_of-node-goal-requires t c =
     let rd = c.requires.ready in
     let q = c.requires.one_of_next in
-    (top_within c.args.b rd.sound q.laid q.some, q.laid.room)
+    top_within c.args.b rd.sound q.laid q.some
 
 pub one_of-nest-n-requires : goal.one_of-nest-n-requires
 one_of-nest-n-requires t c =
     let rd = c.requires.ready in
     let q = c.requires.one_of_next in
-    (top_within c.args.b rd.sound q.laid q.some, q.laid.room)
-
-pub one_of-kind-requires : goal.one_of-kind-requires
-one_of-kind-requires t c =
-    let rd = c.requires.ready in
-    let q = c.requires.one_of_next in
-    rw c.node-goal.ensures (top_here c.args.b rd.sound q.laid q.some)
-
-pub one_of-returns-then-kind-eq9 : goal.one_of-returns-then-kind-eq9
-unfolding answer_in
-one_of-returns-then-kind-eq9 t c =
-    let rd = c.requires.ready in
-    let q = c.requires.one_of_next in record { solving = never_told rd q _ c.node-goal.ensures (sym c.kind.ensures.0 ∙ c.if-kind-eq9.true); stays = stays_stuck c.requires.equipped }
-
-pub one_of-dropped-requires : goal.one_of-dropped-requires
-one_of-dropped-requires t c =
-    let q = c.requires.one_of_next in record { le_len = q.some; counted = c.requires.ready.counted }
-
-pub one_of-choose-requires : goal.one_of-choose-requires
-one_of-choose-requires t c =
-    let rd = c.requires.ready in
-    let q = c.requires.one_of_next in
-    let asked = one_of_call rd q _ c.node-goal.ensures _ c.nest-n.ensures (λ k. c.if-kind-eq9.false (c.kind.ensures.0 ∙ k)) _
-    c.dropped.ensures.value t c.decreases in
-    (asked.0, (asked.1.0, (asked.1.1, equipped_at (ap (λ (x : Branch). x.count) c.dropped.ensures.value) c.requires.equipped)))
-
-pub one_of-shape_of-codes : goal.one_of-shape_of-codes
-one_of-shape_of-codes t c =
-    c.choose.ensures.stays.code_same
-
-pub one_of-shape_of-words : goal.one_of-shape_of-words
-one_of-shape_of-words t c =
-    c.choose.ensures.stays.same
-
-pub one_of-returns : goal.one_of-returns
-one_of-returns t c =
-    let rd = c.requires.ready in
-    let q = c.requires.one_of_next in record {
-      solving = one_of_told rd q _ c.node-goal.ensures _ c.nest-n.ensures (λ k. c.if-kind-eq9.false (c.kind.ensures.0 ∙ k)) _
-          c.dropped.ensures.value c.choose.ensures.entering;
-      stays = c.choose.ensures.stays;
-    }
-
-pub others-overflow_sub-b : goal.others-overflow_sub-b
-others-overflow_sub-b t c =
-    let step = c.requires.name_open.0 in
-    let some = step.next.some in search rules
-
-pub others-node-requires : goal.others-node-requires
-others-node-requires t c =
-    let rd = c.requires.ready in
-    let step = c.requires.name_open.0 in
-    top_inside rd step.next
+    top_within c.args.b rd.sound q.laid q.some
 
 pub others-left-name-requires : goal.others-left-name-requires
 others-left-name-requires t c =
@@ -978,20 +645,11 @@ others-dead_end-tired-requires t c =
     let kit = c.loop-e.invariant.1.0 in
     let name = name_of step.next _ _ c.left-name.ensures.0 c.node.ensures in
     let none = round_ends rd step _ name _ c.seek-next.ensures turn c.in_default.is in
-    let k = round_kept rd step turn in record { prune_asks = asks (round_ready rd step turn) step.next kit.rooted; memory = kit.stocked.memory; barren_in = λ o. dead_barren _ rd least k.1.0 none (sym c.unfloored.ensures ∙ o) }
-
-pub others-given_up-requires : goal.others-given_up-requires
-others-given_up-requires t c = tt
-
-pub others-shape_of-codes-in_default : goal.others-shape_of-codes-in_default
-others-shape_of-codes-in_default t c =
-    let large = c.loop-e.invariant.1.1 in
-    c.dead_end-tired.ensures.codes_len_unchanged.0 ∙ large.code_same
-
-pub others-shape_of-words-in_default : goal.others-shape_of-words-in_default
-others-shape_of-words-in_default t c =
-    let large = c.loop-e.invariant.1.1 in
-    c.dead_end-tired.ensures.codes_len_unchanged.1 ∙ large.same
+    let k = round_kept rd step turn in record {
+      prune_asks = asks (round_ready rd step turn) step.next kit.rooted;
+      memory = kit.stocked.memory;
+      barren_in = λ o. dead_barren _ rd least k.1.0 none (sym c.unfloored.ensures ∙ o);
+    }
 
 pub others-returns-in_default : goal.others-returns-in_default
 others-returns-in_default t c =
@@ -1003,8 +661,8 @@ others-returns-in_default t c =
     let name = name_of step.next _ _ c.left-name.ensures.0 c.node.ensures in
     let none = round_ends rd step _ name _ c.seek-next.ensures turn c.in_default.is in record {
       solving = rw c.given_up.ensures (dead_told _ _ c.dead_end-tired.result none);
-      stays = rw c.given_up.ensures (stays_dead c.dead_end-tired.result kit large c.dead_end-tired.ensures.memory_2 c.dead_end-tired.ensures.codes_len_unchanged
-          c.dead_end-tired.ensures.words_len);
+      stays = rw c.given_up.ensures (stays_dead c.dead_end-tired.result kit large c.dead_end-tired.ensures.memory_kept c.dead_end-tired.ensures.rooms_kept
+          c.dead_end-tired.ensures.first_run);
     }
 
 pub others-use_clause-r-requires : goal.others-use_clause-r-requires
@@ -1015,23 +673,9 @@ others-use_clause-r-requires t c =
     let turn = c.loop-e.invariant.0 in
     let kit = c.loop-e.invariant.1.0 in
     let name = name_of step.next _ _ c.left-name.ensures.0 c.node.ensures in
-    let seen = seek_at step _ _ _ _ name _ c.seek-next.ensures _ c.in-At.is in
-    let can = round_use step _ _ _ _ name _ c.seek-next.ensures _ c.in-At.is in
+    let seen = seek_at step _ _ _ _ name _ c.seek-next.ensures _ c.in-Some.is in
+    let can = round_use step _ _ _ _ name _ c.seek-next.ensures _ c.in-Some.is in
     (omega arith, (round_call rd step turn _ c.past.ensures, ((can, name), kit)))
-
-pub others-follow-requires : goal.others-follow-requires
-others-follow-requires t c =
-    c.use_clause-r.ensures.stays.way_room
-
-pub others-shape_of-codes-in-Solved : goal.others-shape_of-codes-in-Solved
-others-shape_of-codes-in-Solved t c =
-    let large = c.loop-e.invariant.1.1 in
-    (large_on large c.use_clause-r.ensures.stays).code_same
-
-pub others-shape_of-words-in-Solved : goal.others-shape_of-words-in-Solved
-others-shape_of-words-in-Solved t c =
-    let large = c.loop-e.invariant.1.1 in
-    (large_on large c.use_clause-r.ensures.stays).same
 
 pub others-returns-in-Solved : goal.others-returns-in-Solved
 unfolding answer_in
@@ -1042,8 +686,11 @@ others-returns-in-Solved t c =
     let turn = c.loop-e.invariant.0 in
     let large = c.loop-e.invariant.1.1 in
     let name = name_of step.next _ _ c.left-name.ensures.0 c.node.ensures in
-    let seen = seek_at step _ _ _ _ name _ c.seek-next.ensures _ c.in-At.is in
-    let X = solved_using c.use_clause-r.ensures.using (solved_said c.in-Solved.is _) in record { solving = round_found rd step least turn seen _ _ c.keeps-same.ensures c.past.ensures _ X _ c.follow.ensures.way_after; stays = stays_from large c.use_clause-r.ensures.stays _ c.follow.ensures.way_len (weary_solved _) }
+    let seen = seek_at step _ _ _ _ name _ c.seek-next.ensures _ c.in-Some.is in
+    let X = solved_using c.use_clause-r.ensures.using (solved_said c.in-Solved.is _) in record {
+      solving = round_found rd step least turn seen _ _ c.keeps-same.ensures c.past.ensures _ X _ c.follow.ensures;
+      stays = stays_from large c.use_clause-r.ensures.stays _ (weary_solved _);
+    }
 
 pub others-overflow_add-from : goal.others-overflow_add-from
 others-overflow_add-from t c =
@@ -1051,15 +698,15 @@ others-overflow_add-from t c =
     let step = c.requires.name_open.0 in
     let turn = c.loop-e.invariant.0 in
     let name = name_of step.next _ _ c.left-name.ensures.0 c.node.ensures in
-    let can = round_use step _ _ _ _ name _ c.seek-next.ensures _ c.in-At.is in
+    let can = round_use step _ _ _ _ name _ c.seek-next.ensures _ c.in-Some.is in
     let low = entry_byte (round_ready rd step turn) step.next can in search rules
 
 pub others-loop-e-smaller : goal.others-loop-e-smaller
 others-loop-e-smaller t c =
     let step = c.requires.name_open.0 in
     let name = name_of step.next _ _ c.left-name.ensures.0 c.node.ensures in
-    let can = round_use step _ _ _ _ name _ c.seek-next.ensures _ c.in-At.is in
-    let on = round_onward step _ _ _ _ name _ c.seek-next.ensures _ c.in-At.is in
+    let can = round_use step _ _ _ _ name _ c.seek-next.ensures _ c.in-Some.is in
+    let on = round_onward step _ _ _ _ name _ c.seek-next.ensures _ c.in-Some.is in
     omega (arith, can.inside)
 
 pub others-loop-e-preserved : goal.others-loop-e-preserved
@@ -1071,22 +718,12 @@ others-loop-e-preserved t c =
     let turn = c.loop-e.invariant.0 in
     let large = c.loop-e.invariant.1.1 in
     let name = name_of step.next _ _ c.left-name.ensures.0 c.node.ensures in
-    let seen = seek_at step _ _ _ _ name _ c.seek-next.ensures _ c.in-At.is in
+    let seen = seek_at step _ _ _ _ name _ c.seek-next.ensures _ c.in-Some.is in
     let X = stuck_using c.use_clause-r.ensures.using (stuck_said c.in-Stuck.is _) in
     let next = round_next rd step least turn seen _ _ c.keeps-same.ensures c.past.ensures X _ refl in
     let stays = c.use_clause-r.ensures.stays in
     let k = round_kept rd step next in
     (next, (equipped_on eq k.1.0 rd.scoped stays, large_on large stays))
-
-pub others-shape_of-codes-in-Tired : goal.others-shape_of-codes-in-Tired
-others-shape_of-codes-in-Tired t c =
-    let large = c.loop-e.invariant.1.1 in
-    (large_on large c.use_clause-r.ensures.stays).code_same
-
-pub others-shape_of-words-in-Tired : goal.others-shape_of-words-in-Tired
-others-shape_of-words-in-Tired t c =
-    let large = c.loop-e.invariant.1.1 in
-    (large_on large c.use_clause-r.ensures.stays).same
 
 pub others-returns-in-Tired : goal.others-returns-in-Tired
 unfolding answer_in
@@ -1097,73 +734,16 @@ others-returns-in-Tired t c =
     let turn = c.loop-e.invariant.0 in
     let large = c.loop-e.invariant.1.1 in
     let name = name_of step.next _ _ c.left-name.ensures.0 c.node.ensures in
-    let seen = seek_at step _ _ _ _ name _ c.seek-next.ensures _ c.in-At.is in record { solving = round_tired rd step least turn seen _ _ c.keeps-same.ensures c.past.ensures c.use_clause-r.ensures.using; stays = stays_tired c.in-Tired.is large c.use_clause-r.ensures.stays }
-
-pub part-kind-k-requires : goal.part-kind-k-requires
-part-kind-k-requires t c =
-    let rd = c.requires.ready in
-    let q = c.requires.goal_ready in
-    node_here rd.sound c.args.goal (goal_low rd.sound q.0)
-
-pub part-both_ways-requires : goal.part-both_ways-requires
-part-both_ways-requires t c =
-    let rd = c.requires.ready in
-    let q = c.requires.goal_ready in
-    let eq = c.requires.equipped in
-    let number_is = c.decreases in (
-      omega (arith, number_is),
-      (rd, ((q, sym c.kind-k.ensures.0 ∙ c.if-k-eq5.true), eq)),
-    )
-
-pub part-shape_of-codes-then-k-eq5 : goal.part-shape_of-codes-then-k-eq5
-part-shape_of-codes-then-k-eq5 t c =
-    c.both_ways.ensures.stays.code_same
-
-pub part-shape_of-words-then-k-eq5 : goal.part-shape_of-words-then-k-eq5
-part-shape_of-words-then-k-eq5 t c =
-    c.both_ways.ensures.stays.same
-
-pub part-returns-then-k-eq5 : goal.part-returns-then-k-eq5
-part-returns-then-k-eq5 t c = record { alone = c.both_ways.ensures.alone; stays = c.both_ways.ensures.stays }
-
-pub part-lent-requires : goal.part-lent-requires
-part-lent-requires t c =
-    let rd = c.requires.ready in
-    let q = c.requires.goal_ready in
-    let eq = c.requires.equipped in
-    let number_is = c.decreases in (
-      omega (arith, number_is),
-      (rd, ((q, goal_six rd.sound q.0 (λ e. c.if-k-eq5.false (c.kind-k.ensures.0 ∙ e))), eq)),
-    )
-
-pub part-shape_of-codes : goal.part-shape_of-codes
-part-shape_of-codes t c =
-    c.lent.ensures.stays.code_same
-
-pub part-shape_of-words : goal.part-shape_of-words
-part-shape_of-words t c =
-    c.lent.ensures.stays.same
-
-pub part-returns : goal.part-returns
-part-returns t c = record { alone = c.lent.ensures.alone; stays = c.lent.ensures.stays }
+    let seen = seek_at step _ _ _ _ name _ c.seek-next.ensures _ c.in-Some.is in record {
+      solving = round_tired rd step least turn seen _ _ c.keeps-same.ensures c.past.ensures c.use_clause-r.ensures.using;
+      stays = stays_tired c.in-Tired.is large c.use_clause-r.ensures.stays;
+    }
 
 pub side-returns-then-choice-first : goal.side-returns-then-choice-first
 unfolding answer_in
 side-returns-then-choice-first t c =
     let rd = c.requires.ready in
     let q = c.requires.choice_ready in record { siding = side_under rd q.0 q.1 c.if-choice-first.true; stays = stays_stuck c.requires.equipped }
-
-pub side-overflow_cast-tape : goal.side-overflow_cast-tape
-side-overflow_cast-tape t c =
-    let rd = c.requires.ready in
-    let q = c.requires.choice_ready in
-    let low = choice_byte rd q.0 q.1 in search rules
-
-pub side-bounds-tape-at : goal.side-bounds-tape-at
-side-bounds-tape-at t c =
-    let rd = c.requires.ready in
-    let q = c.requires.choice_ready in
-    let low = choice_tape rd q.0 q.1 in search rules
 
 pub side-side-part-requires : goal.side-side-part-requires
 side-side-part-requires t c =
@@ -1182,20 +762,10 @@ side-returns-then-shut t c =
     let rd = c.requires.ready in
     let q = c.requires.choice_ready in
     let l = c.if-choice-first.false in
-    let h = sym c.shut.ensures ∙ c.if-shut.true in record { siding = side_shut rd q.0 q.1 l c.side-part.ensures h; stays = stays_stuck c.requires.equipped }
-
-pub side-keeps-same-requires : goal.side-keeps-same-requires
-side-keeps-same-requires t c =
-    tt
-
-pub side-past-requires : goal.side-past-requires
-side-past-requires t c =
-    tt
-
-pub side-chose-requires : goal.side-chose-requires
-side-chose-requires t c =
-    let rd = c.requires.ready in
-    let q = c.requires.choice_ready in record { at_bound = choice_tape rd q.0 q.1; counted = rd.counted }
+    let h = sym c.shut.ensures ∙ c.if-shut.true in record {
+      siding = side_shut rd q.0 q.1 l c.side-part.ensures h;
+      stays = stays_stuck c.requires.equipped;
+    }
 
 pub side-enter-r-requires : goal.side-enter-r-requires
 side-enter-r-requires t c =
@@ -1206,18 +776,6 @@ side-enter-r-requires t c =
     c.chose.ensures.value h t c.decreases in
     (asked.0, (asked.1.0, (asked.1.1, equipped_at (ap (λ (x : Branch). x.count) c.chose.ensures.value) c.requires.equipped)))
 
-pub side-enum_told-1 : goal.side-enum_told-1
-side-enum_told-1 t c =
-    c.in-Solved.in-Solved-own.keys1
-
-pub side-shape_of-codes-in_default : goal.side-shape_of-codes-in_default
-side-shape_of-codes-in_default t c =
-    c.enter-r.ensures.stays.code_same
-
-pub side-shape_of-words-in_default : goal.side-shape_of-words-in_default
-side-shape_of-words-in_default t c =
-    c.enter-r.ensures.stays.same
-
 pub side-returns-in_default : goal.side-returns-in_default
 side-returns-in_default t c =
     let rd = c.requires.ready in
@@ -1227,33 +785,15 @@ side-returns-in_default t c =
       stays = c.enter-r.ensures.stays;
     }
 
-pub side-follow-requires : goal.side-follow-requires
-side-follow-requires t c =
-    c.enter-r.ensures.stays.way_room
-
-pub side-shape_of-codes : goal.side-shape_of-codes
-side-shape_of-codes t c =
-    c.enter-r.ensures.stays.code_same
-
-pub side-shape_of-words : goal.side-shape_of-words
-side-shape_of-words t c =
-    c.enter-r.ensures.stays.same
-
 pub side-returns : goal.side-returns
 unfolding answer_in
 side-returns t c =
     let rd = c.requires.ready in
     let q = c.requires.choice_ready in record {
       siding = side_solved rd q.0 q.1 c.if-choice-first.false c.side-part.ensures _ _ c.keeps-same.ensures c.past.ensures _
-          c.chose.ensures.value c.enter-r.ensures.entering _ _ (solved_said c.in-Solved.is _) c.follow.ensures.way_after;
-      stays = stays_from large_self c.enter-r.ensures.stays _ c.follow.ensures.way_len (weary_solved _);
+          c.chose.ensures.value c.enter-r.ensures.entering _ _ (solved_said c.in-Solved.is _) c.follow.ensures;
+      stays = stays_from large_self c.enter-r.ensures.stays _ (weary_solved _);
     }
-
-pub solve-unwind-c-requires : goal.solve-unwind-c-requires
-solve-unwind-c-requires t c = record { sound = c.requires.ready.sound; laid = c.requires.laid; counted = c.requires.ready.counted }
-
-pub solve-closed-requires : goal.solve-closed-requires
-solve-closed-requires t c = record { way_len = c.requires.equipped.way_room; counted = c.unwind-c.ensures.unwound.counted }
 
 pub solve-returns-then-c-eq0 : goal.solve-returns-then-c-eq0
 solve-returns-then-c-eq0 t c =
@@ -1261,23 +801,129 @@ solve-returns-then-c-eq0 t c =
     let eq = c.requires.equipped in
     let u = c.unwind-c.ensures.unwound in record {
       solving = unwound_searched u
-          (closed_searched (unwound_ready u rd) c.closed.ensures.words.0 _ c.if-c-eq0.true c.closed.ensures.way_after);
-      stays = awake_stays eq c.closed.ensures.words.1.0 c.closed.ensures.words.1.1;
+          (closed_searched (unwound_ready u rd) c.closed.ensures.words _ c.if-c-eq0.true c.closed.ensures.answer);
+      stays = awake_stays eq c.closed.ensures.awake;
     }
-
-pub solve-overflow_sub-c : goal.solve-overflow_sub-c
-solve-overflow_sub-c t c =
-    omega (arith, c.if-c-eq0.false)
 
 pub solve-node-requires : goal.solve-node-requires
 solve-node-requires t c =
     let rd = c.requires.ready in
     let u = c.unwind-c.ensures.unwound in
     let some = c.if-c-eq0.false in
-    (top_within c.unwind-c.result rd.sound u.laid (omega arith), u.laid.room)
+    top_within c.unwind-c.result rd.sound u.laid (omega arith)
 
-pub solve-kind-k-requires : goal.solve-kind-k-requires
-solve-kind-k-requires t c =
+pub use_clause-overflow_cast-tape : goal.use_clause-overflow_cast-tape
+use_clause-overflow_cast-tape t c =
+    let rd = c.requires.ready in
+    let can = c.requires.can_use.0 in
+    let low = entry_byte rd can.step.next can in search rules
+
+pub use_clause-bounds-nodes-e : goal.use_clause-bounds-nodes-e
+use_clause-bounds-nodes-e t c =
+    let rd = c.requires.ready in
+    let can = c.requires.can_use.0 in
+    let low = entry_byte rd can.step.next can in search rules
+
+pub use_clause-push-p-requires : goal.use_clause-push-p-requires
+use_clause-push-p-requires t c =
+    let rd = c.requires.ready in
+    let can = c.requires.can_use.0 in let room = use_room rd can.step.next can _ _ _ _ _ _ refl c.inner-n.ensures c.requires.can_use.1 refl refl refl in record {
+      sound = rd.sound;
+      a_clause = room.0;
+      nest_bound = room.1.0;
+      room = room.1.1.0;
+    }
+
+pub enter-kind_of-requires : goal.enter-kind_of-requires
+enter-kind_of-requires t c =
+    let rd = c.requires.ready in
+    let q = rw c.if-meets.true at c.requires.part_ready in
+    core_here rd q c.push-p.ensures
+
+pub enter-choose-requires : goal.enter-choose-requires
+enter-choose-requires t c =
+    let rd = c.requires.ready in
+    let q = rw c.if-meets.true at c.requires.part_ready in
+    let asked = menu_call rd q c.push-p.ensures c.in-Menu.ensures _ c.sized-c.ensures.value t c.decreases in
+    (asked.0, (asked.1.0, (asked.1.1, equipped_at (ap (λ (x : Branch). x.count) c.sized-c.ensures.value) c.requires.equipped)))
+
+pub enter-solve-requires : goal.enter-solve-requires
+enter-solve-requires t c =
+    let rd = c.requires.ready in
+    let q = rw c.if-meets.true at c.requires.part_ready in
+    let asked = head_call rd q c.push-p.ensures (λ k. omega (arith, k, c.in-Atom.ensures)) _ c.sized-c.ensures.value t c.decreases in (
+      asked.0,
+      (
+        asked.1.0,
+        (
+          asked.1.1,
+          (equipped_at (ap (λ (x : Branch). x.count) c.sized-c.ensures.value) c.requires.equipped, count_is_scan asked.1.0),
+        ),
+      ),
+    )
+
+pub enter-returns-in-Menu-clause-entering : goal.enter-returns-in-Menu-clause-entering
+enter-returns-in-Menu-clause-entering t c =
+    let rd = c.requires.ready in
+    let q = rw c.if-meets.true at c.requires.part_ready in
+    rw c.if-meets.true (menu_told rd q c.push-p.ensures c.in-Menu.ensures _ c.sized-c.ensures.value c.choose.ensures.entering)
+
+pub enter-returns-in-Atom-clause-entering : goal.enter-returns-in-Atom-clause-entering
+enter-returns-in-Atom-clause-entering t c =
+    let rd = c.requires.ready in
+    let q = rw c.if-meets.true at c.requires.part_ready in
+    rw c.if-meets.true (head_told rd q c.push-p.ensures (λ k. omega (arith, k, c.in-Atom.ensures)) _ c.sized-c.ensures.value
+    c.solve.ensures.solving)
+
+pub enter-returns-in-Top : goal.enter-returns-in-Top
+enter-returns-in-Top t c =
+    let q = rw c.if-meets.true at c.requires.part_ready in
+    absurd (grind (arith, c.kind_of.ensures, c.in-Top.is, core_kinds c.requires.ready q c.push-p.ensures))
+
+pub one_of-kind_of-requires : goal.one_of-kind_of-requires
+one_of-kind_of-requires t c =
+    let rd = c.requires.ready in
+    let q = c.requires.one_of_next in
+    rw c.node-goal.ensures (top_here c.args.b rd.sound q.laid q.some)
+
+pub one_of-choose-requires : goal.one_of-choose-requires
+one_of-choose-requires t c =
+    let rd = c.requires.ready in
+    let q = c.requires.one_of_next in
+    let asked = one_of_call rd q _ c.node-goal.ensures _ c.nest-n.ensures (λ k. grind (arith, c.kind_of.ensures, c.in-Oplus.is, k)) _
+    c.dropped.ensures.value t c.decreases in
+    (asked.0, (asked.1.0, (asked.1.1, equipped_at (ap (λ (x : Branch). x.count) c.dropped.ensures.value) c.requires.equipped)))
+
+pub one_of-returns-in-Oplus-clause-solving : goal.one_of-returns-in-Oplus-clause-solving
+one_of-returns-in-Oplus-clause-solving t c =
+    let rd = c.requires.ready in
+    let q = c.requires.one_of_next in
+    one_of_told rd q _ c.node-goal.ensures _ c.nest-n.ensures (λ k. grind (arith, c.kind_of.ensures, c.in-Oplus.is, k)) _ c.dropped.ensures.value
+    c.choose.ensures.entering
+
+pub one_of-returns-in-Atom : goal.one_of-returns-in-Atom
+unfolding answer_in
+one_of-returns-in-Atom t c =
+    let rd = c.requires.ready in
+    let q = c.requires.one_of_next in
+    record {
+      solving = never_told rd q _ c.node-goal.ensures
+          (grind (arith, c.kind_of.ensures, c.in-Atom.is, one_of_kinds rd q _ c.node-goal.ensures));
+      stays = stays_stuck c.requires.equipped;
+    }
+
+pub part-kind_of-requires : goal.part-kind_of-requires
+part-kind_of-requires t c =
+    let rd = c.requires.ready in
+    node_here rd.sound c.args.goal (goal_low rd.sound c.requires.goal_ready.0)
+
+pub part-returns-in-Atom : goal.part-returns-in-Atom
+part-returns-in-Atom t c =
+    let q = c.requires.goal_ready.0 in
+    absurd (grind (arith, c.kind_of.ensures, c.in-Atom.is, q.kind, part_kind c.requires.ready.sound q))
+
+pub solve-kind_of-requires : goal.solve-kind_of-requires
+solve-kind_of-requires t c =
     let rd = c.requires.ready in
     let u = c.unwind-c.ensures.unwound in
     let some = c.if-c-eq0.false in
@@ -1287,191 +933,89 @@ solve-kind-k-requires t c =
 pub solve-need-requires : goal.solve-need-requires
 solve-need-requires t c =
     let rd = c.requires.ready in
-    let eq = c.requires.equipped in
     let number_is = c.decreases in
     let u = c.unwind-c.ensures.unwound in
     let some = c.if-c-eq0.false in
-    let top = c.node.ensures in
     let falls = unwound_number u in (
       omega (arith, falls, number_is),
       (
         unwound_ready u rd,
         (
-          name_next u.laid c.unwind-c.ensures.opened (omega arith)
-              (c.kind-k.ensures.0 ∙ ap (kind_at c.args.card.now) top) c.if-k-eq1.true,
-          equipped_at u.same_count eq,
+          name_next u.laid c.unwind-c.ensures.opened (omega arith) (ap (kind_at c.args.card.now) c.node.ensures) c.in-Atom.ensures,
+          equipped_at u.same_count c.requires.equipped,
         ),
       ),
     )
-
-pub solve-shape_of-codes-then-k-eq1 : goal.solve-shape_of-codes-then-k-eq1
-solve-shape_of-codes-then-k-eq1 t c =
-    c.need.ensures.stays.code_same
-
-pub solve-shape_of-words-then-k-eq1 : goal.solve-shape_of-words-then-k-eq1
-solve-shape_of-words-then-k-eq1 t c =
-    c.need.ensures.stays.same
-
-pub solve-returns-then-k-eq1 : goal.solve-returns-then-k-eq1
-solve-returns-then-k-eq1 t c = record { solving = unwound_searched c.unwind-c.ensures.unwound c.need.ensures.solving; stays = c.need.ensures.stays }
-
-pub solve-one_of-requires : goal.solve-one_of-requires
-solve-one_of-requires t c =
-    let rd = c.requires.ready in
-    let eq = c.requires.equipped in
-    let number_is = c.decreases in
-    let u = c.unwind-c.ensures.unwound in
-    let some = c.if-c-eq0.false in
-    let top = c.node.ensures in
-    let falls = unwound_number u in (
-      omega (arith, falls, number_is),
-      (
-        unwound_ready u rd,
-        (
-          one_of_next u.laid c.unwind-c.ensures.opened (omega arith)
-              (c.kind-k.ensures.0 ∙ ap (kind_at c.args.card.now) top) c.if-k-gt7.true,
-          equipped_at u.same_count eq,
-        ),
-      ),
-    )
-
-pub solve-shape_of-codes-then-k-gt7 : goal.solve-shape_of-codes-then-k-gt7
-solve-shape_of-codes-then-k-gt7 t c =
-    c.one_of.ensures.stays.code_same
-
-pub solve-shape_of-words-then-k-gt7 : goal.solve-shape_of-words-then-k-gt7
-solve-shape_of-words-then-k-gt7 t c =
-    c.one_of.ensures.stays.same
-
-pub solve-returns-then-k-gt7 : goal.solve-returns-then-k-gt7
-solve-returns-then-k-gt7 t c = record { solving = unwound_searched c.unwind-c.ensures.unwound c.one_of.ensures.solving; stays = c.one_of.ensures.stays }
 
 pub solve-behind-requires : goal.solve-behind-requires
 solve-behind-requires t c =
     let rd = c.requires.ready in
-    let eq = c.requires.equipped in
     let number_is = c.decreases in
     let u = c.unwind-c.ensures.unwound in
     let some = c.if-c-eq0.false in
-    let top = c.node.ensures in
     let falls = unwound_number u in (
       omega (arith, falls, number_is),
       (
         unwound_ready u rd,
         (
-          part_next u.laid c.unwind-c.ensures.opened (omega arith)
-              (c.kind-k.ensures.0 ∙ ap (kind_at c.args.card.now) top) c.if-k-eq1.false c.if-k-gt7.false,
-          equipped_at u.same_count eq,
+          part_next u.laid c.unwind-c.ensures.opened (omega arith) (ap (kind_at c.args.card.now) c.node.ensures)
+              (grind (arith, c.kind_of.ensures, c.in-With.is)) (grind (arith, c.kind_of.ensures, c.in-With.is)),
+          equipped_at u.same_count c.requires.equipped,
         ),
       ),
     )
 
-pub solve-shape_of-codes : goal.solve-shape_of-codes
-solve-shape_of-codes t c =
-    c.behind.ensures.stays.code_same
+pub solve-one_of-requires : goal.solve-one_of-requires
+solve-one_of-requires t c =
+    let rd = c.requires.ready in
+    let number_is = c.decreases in
+    let u = c.unwind-c.ensures.unwound in
+    let some = c.if-c-eq0.false in
+    let falls = unwound_number u in (
+      omega (arith, falls, number_is),
+      (
+        unwound_ready u rd,
+        (
+          one_of_next u.laid c.unwind-c.ensures.opened (omega arith) (ap (kind_at c.args.card.now) c.node.ensures)
+              (grind (arith, c.kind_of.ensures, c.in-Oplus.is)),
+          equipped_at u.same_count c.requires.equipped,
+        ),
+      ),
+    )
 
-pub solve-shape_of-words : goal.solve-shape_of-words
-solve-shape_of-words t c =
-    c.behind.ensures.stays.same
+pub solve-returns-in-Atom-clause-solving : goal.solve-returns-in-Atom-clause-solving
+solve-returns-in-Atom-clause-solving t c = unwound_searched c.unwind-c.ensures.unwound c.need.ensures.solving
 
-pub solve-returns : goal.solve-returns
-solve-returns t c = record { solving = unwound_searched c.unwind-c.ensures.unwound c.behind.ensures.solving; stays = c.behind.ensures.stays }
+pub solve-returns-in-With-clause-solving : goal.solve-returns-in-With-clause-solving
+solve-returns-in-With-clause-solving t c = unwound_searched c.unwind-c.ensures.unwound c.behind.ensures.solving
 
-pub use_clause-overflow_cast-tape : goal.use_clause-overflow_cast-tape
-use_clause-overflow_cast-tape t c =
+pub solve-returns-in-Oplus-clause-solving : goal.solve-returns-in-Oplus-clause-solving
+solve-returns-in-Oplus-clause-solving t c = unwound_searched c.unwind-c.ensures.unwound c.one_of.ensures.solving
+
+pub solve-returns-in-Top : goal.solve-returns-in-Top
+solve-returns-in-Top t c =
+    let u = c.unwind-c.ensures.unwound in
+    let some = c.if-c-eq0.false in
+    absurd (grind (
+      arith,
+      c.kind_of.ensures,
+      c.in-Top.is,
+      open_kind _ u.laid c.unwind-c.ensures.opened (omega arith) (ap (kind_at c.args.card.now) c.node.ensures),
+    ))
+
+pub use_clause-kind_of-requires : goal.use_clause-kind_of-requires
+use_clause-kind_of-requires t c =
     let rd = c.requires.ready in
     let can = c.requires.can_use.0 in
-    let low = entry_byte rd can.step.next can in search rules
-
-pub use_clause-bounds-tape-at : goal.use_clause-bounds-tape-at
-use_clause-bounds-tape-at t c =
-    let rd = c.requires.ready in
-    let can = c.requires.can_use.0 in
-    let low = at_inside rd can.step.next can in search rules
-
-pub use_clause-overflow_sub-top : goal.use_clause-overflow_sub-top
-use_clause-overflow_sub-top t c =
-    let can = c.requires.can_use.0 in
-    let some = can.step.next.some in search rules
-
-pub use_clause-offset_bounds-nodes-e : goal.use_clause-offset_bounds-nodes-e
-use_clause-offset_bounds-nodes-e t c =
-    let rd = c.requires.ready in
-    let can = c.requires.can_use.0 in
-    let low = entry_byte rd can.step.next can in omega arith
-
-pub use_clause-bounds-nodes-e : goal.use_clause-bounds-nodes-e
-use_clause-bounds-nodes-e t c =
-    let rd = c.requires.ready in
-    let can = c.requires.can_use.0 in
-    let low = entry_byte rd can.step.next can in search rules
-
-pub use_clause-overflow_cast-clause : goal.use_clause-overflow_cast-clause
-use_clause-overflow_cast-clause t c =
-    let rd = c.requires.ready in
-    let can = c.requires.can_use.0 in
-    let low = clause_lower _ _ _ (entry_clause rd can.step.next can) in
-    let f = sound_front _ rd.sound in omega arith
-
-pub use_clause-inner-n-requires : goal.use_clause-inner-n-requires
-use_clause-inner-n-requires t c =
-    let rd = c.requires.ready in
-    let can = c.requires.can_use.0 in record { top_bound = top_inside rd can.step.next; bound = can.step.deep }
-
-pub use_clause-push-p-requires : goal.use_clause-push-p-requires
-use_clause-push-p-requires t c =
-    let rd = c.requires.ready in
-    let can = c.requires.can_use.0 in let room = use_room rd can.step.next can _ _ _ _ _ _ refl c.inner-n.ensures c.requires.can_use.1 refl refl refl in record { sound = rd.sound; clause_value = room.0; nest_bound = room.1 }
-
-pub use_clause-byte-requires : goal.use_clause-byte-requires
-use_clause-byte-requires t c =
-    let rd = c.requires.ready in
-    card_front rd.sound 3 (omega arith)
-
-pub use_clause-byte-requires-2 : goal.use_clause-byte-requires-2
-use_clause-byte-requires-2 t c =
-    let rd = c.requires.ready in
-    card_front rd.sound 4 (omega arith)
-
-pub use_clause-using-c-requires : goal.use_clause-using-c-requires
-use_clause-using-c-requires t c =
-    let rd = c.requires.ready in
-    let can = c.requires.can_use.0 in
-    let few = (sound_front _ rd.sound).lines in record { at_bound = (at_inside rd can.step.next can, omega (arith, c.byte-2.ensures.0, few)); counted = rd.counted }
-
-pub use_clause-kind-requires : goal.use_clause-kind-requires
-use_clause-kind-requires t c =
-    let rd = c.requires.ready in
-    let can = c.requires.can_use.0 in
-    use_core rd can.step.next can _ _ _ _ _ _ refl c.inner-n.ensures c.requires.can_use.1 refl refl refl
-    c.push-p.ensures
+    use_core rd can.step.next can _ _ _ _ _ _ refl c.inner-n.ensures c.requires.can_use.1 refl refl refl c.push-p.ensures
 
 pub use_clause-choose-requires : goal.use_clause-choose-requires
 use_clause-choose-requires t c =
     let rd = c.requires.ready in
     let can = c.requires.can_use.0 in
     let asked = use_menu_call rd can.step.next can _ _ _ _ _ _ refl c.inner-n.ensures c.requires.can_use.1 refl
-    c.byte.ensures.0 c.byte-2.ensures.0 c.push-p.ensures _ c.using-c.ensures.value
-    (sym c.kind.ensures.0 ∙ c.if-kind-eq10.true) t c.decreases in
+    c.byte.ensures.0 c.byte-2.ensures.0 c.push-p.ensures _ c.using-c.ensures.value c.in-Menu.ensures t c.decreases in
     (asked.0, (asked.1.0, (asked.1.1, equipped_at (using_count _ _ _ _ _ _ c.using-c.ensures.value) c.requires.equipped)))
-
-pub use_clause-shape_of-codes-then-kind-eq10 : goal.use_clause-shape_of-codes-then-kind-eq10
-use_clause-shape_of-codes-then-kind-eq10 t c =
-    c.choose.ensures.stays.code_same
-
-pub use_clause-shape_of-words-then-kind-eq10 : goal.use_clause-shape_of-words-then-kind-eq10
-use_clause-shape_of-words-then-kind-eq10 t c =
-    c.choose.ensures.stays.same
-
-pub use_clause-returns-then-kind-eq10 : goal.use_clause-returns-then-kind-eq10
-use_clause-returns-then-kind-eq10 t c =
-    let rd = c.requires.ready in
-    let can = c.requires.can_use.0 in record {
-      using = use_menu_told rd can.step.next can _ _ _ _ _ _ refl c.inner-n.ensures c.requires.can_use.1 refl
-          c.byte.ensures.0 c.byte-2.ensures.0 c.push-p.ensures _ c.using-c.ensures.value
-          (sym c.kind.ensures.0 ∙ c.if-kind-eq10.true) c.choose.ensures.entering;
-      stays = c.choose.ensures.stays;
-    }
 
 pub use_clause-solve-requires : goal.use_clause-solve-requires
 use_clause-solve-requires t c =
@@ -1479,23 +1023,38 @@ use_clause-solve-requires t c =
     let can = c.requires.can_use.0 in
     let asked = use_head_call rd can.step.next can _ _ _ _ _ _ refl c.inner-n.ensures c.requires.can_use.1 refl
     c.byte.ensures.0 c.byte-2.ensures.0 c.push-p.ensures _ c.using-c.ensures.value
-    (λ k. c.if-kind-eq10.false (c.kind.ensures.0 ∙ k)) t c.decreases in
-    (asked.0, (asked.1.0, (asked.1.1, (equipped_at (using_count _ _ _ _ _ _ c.using-c.ensures.value) c.requires.equipped, count_is_scan asked.1.0))))
+    (λ k. omega (arith, k, c.in-Atom.ensures)) t c.decreases in (
+      asked.0,
+      (
+        asked.1.0,
+        (
+          asked.1.1,
+          (equipped_at (using_count _ _ _ _ _ _ c.using-c.ensures.value) c.requires.equipped, count_is_scan asked.1.0),
+        ),
+      ),
+    )
 
-pub use_clause-shape_of-codes : goal.use_clause-shape_of-codes
-use_clause-shape_of-codes t c =
-    c.solve.ensures.stays.code_same
-
-pub use_clause-shape_of-words : goal.use_clause-shape_of-words
-use_clause-shape_of-words t c =
-    c.solve.ensures.stays.same
-
-pub use_clause-returns : goal.use_clause-returns
-use_clause-returns t c =
+pub use_clause-returns-in-Menu-clause-using : goal.use_clause-returns-in-Menu-clause-using
+use_clause-returns-in-Menu-clause-using t c =
     let rd = c.requires.ready in
-    let can = c.requires.can_use.0 in record {
-      using = use_head_told rd can.step.next can _ _ _ _ _ _ refl c.inner-n.ensures c.requires.can_use.1 refl
-          c.byte.ensures.0 c.byte-2.ensures.0 c.push-p.ensures _ c.using-c.ensures.value
-          (λ k. c.if-kind-eq10.false (c.kind.ensures.0 ∙ k)) c.solve.ensures.solving;
-      stays = c.solve.ensures.stays;
-    }
+    let can = c.requires.can_use.0 in
+    use_menu_told rd can.step.next can _ _ _ _ _ _ refl c.inner-n.ensures c.requires.can_use.1 refl
+    c.byte.ensures.0 c.byte-2.ensures.0 c.push-p.ensures _ c.using-c.ensures.value c.in-Menu.ensures c.choose.ensures.entering
+
+pub use_clause-returns-in-Atom-clause-using : goal.use_clause-returns-in-Atom-clause-using
+use_clause-returns-in-Atom-clause-using t c =
+    let rd = c.requires.ready in
+    let can = c.requires.can_use.0 in
+    use_head_told rd can.step.next can _ _ _ _ _ _ refl c.inner-n.ensures c.requires.can_use.1 refl
+    c.byte.ensures.0 c.byte-2.ensures.0 c.push-p.ensures _ c.using-c.ensures.value
+    (λ k. omega (arith, k, c.in-Atom.ensures)) c.solve.ensures.solving
+
+pub use_clause-returns-in-Top : goal.use_clause-returns-in-Top
+use_clause-returns-in-Top t c =
+    let can = c.requires.can_use.0 in
+    absurd (grind (
+      arith,
+      c.kind_of.ensures,
+      c.in-Top.is,
+      use_kinds c.requires.ready can.step.next can _ _ _ _ _ _ refl c.inner-n.ensures c.requires.can_use.1 refl refl refl c.push-p.ensures,
+    ))

@@ -56,7 +56,7 @@ decreases-use_clause l = 8 * number l.card.now l.agenda.now l.b + 1
 abbrev pub invariant-behind-loop-r : goal.invariant-behind-loop-r
 invariant-behind-loop-r l =
     Behind l.card l.waits (task (goal_at l.card l.goal) l.n) (agenda_of l.card l.agenda (l.b.len - 1)) l.initial.g l.g l.b l.initial.tape l.tape l.initial.nodes l.nodes l.initial.heads l.heads l.fresh
-    × (Equipped l.card l.names l.table l.masks l.codes l.words l.way l.nodes l.b.count × AsLarge l.codes l.words l.initial.codes l.initial.words)
+    × (Equipped l.card l.names l.table l.masks l.codes l.words l.nodes l.b.count × AsLarge l.codes l.words l.initial.codes l.initial.words)
 
 abbrev pub decreases-behind-loop-r : goal.decreases-behind-loop-r
 decreases-behind-loop-r l =
@@ -65,7 +65,7 @@ decreases-behind-loop-r l =
 abbrev pub invariant-both_ways-loop-first : goal.invariant-both_ways-loop-first
 invariant-both_ways-loop-first l =
     Either l.card l.waits (goal_at l.card (left_at l.card l.goal)) (goal_at l.card (right_at l.card l.goal)) l.n l.initial.g l.g l.b l.initial.tape l.tape l.initial.nodes l.nodes l.initial.heads l.heads l.fresh
-    × (Equipped l.card l.names l.table l.masks l.codes l.words l.way l.nodes l.b.count × AsLarge l.codes l.words l.initial.codes l.initial.words)
+    × (Equipped l.card l.names l.table l.masks l.codes l.words l.nodes l.b.count × AsLarge l.codes l.words l.initial.codes l.initial.words)
 
 abbrev pub decreases-both_ways-loop-first : goal.decreases-both_ways-loop-first
 decreases-both_ways-loop-first l =
@@ -74,7 +74,7 @@ decreases-both_ways-loop-first l =
 abbrev pub invariant-others-loop-e : goal.invariant-others-loop-e
 invariant-others-loop-e l =
     Round l.card l.waits l.agenda l.f l.b l.first l.initial.tape l.tape l.initial.nodes l.nodes l.initial.heads l.heads l.from
-    × (Equipped l.card l.names l.table l.masks l.codes l.words l.way l.nodes l.b.count × AsLarge l.codes l.words l.initial.codes l.initial.words)
+    × (Equipped l.card l.names l.table l.masks l.codes l.words l.nodes l.b.count × AsLarge l.codes l.words l.initial.codes l.initial.words)
 
 abbrev pub decreases-others-loop-e : goal.decreases-others-loop-e
 decreases-others-loop-e l =

@@ -213,9 +213,8 @@ pub record Siding (bs codes : List ℕ) (meets : Bool) (node name n c first : �
       × Searches bs (task (part_goal bs meets name (side_at bs node c)) n ∷ agenda_of bs codes b.len) (past_f f (keeps_by f b.at first c))
       (chose_b b) (set tape b.at c) tape' nodes nodes' heads heads' s
 
--- What the prunings are stocked with, and a place for a way.
-pub record Equipped (bs names table masks codes words way nodes : List ℕ) (n : ℕ) : Type 0 where
-  pub way_room : length way ≡ 7
+-- What the prunings are stocked with.
+pub record Equipped (bs names table masks codes words nodes : List ℕ) (n : ℕ) : Type 0 where
   pub rooted : Rooted bs nodes n
   pub stocked : Stocked bs names table masks codes words
 
@@ -225,9 +224,8 @@ Weary IsSolved words = Unit {0}
 Weary IsStuck words = Unit {0}
 Weary IsTired words = length words ≡ 1
 
--- What a call leaves: a place for a way, prunings stocked as before, a memory as large as before.
-pub record Stays (bs names table masks codes words codes' words' way' : List ℕ) (r : Outcome) : Type 0 where
-  pub way_room : length way' ≡ 7
+-- What a call leaves: prunings stocked as before, a memory as large as before.
+pub record Stays (bs names table masks codes words codes' words' : List ℕ) (r : Outcome) : Type 0 where
   pub stocked : Stocked bs names table masks codes' words'
   pub code_same : length codes' ≡ length codes
   pub same : length words' ≡ length words

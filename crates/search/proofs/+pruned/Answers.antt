@@ -14,21 +14,12 @@ unasked false e m = absurd (false≢true e)
 pub remembering-requires : goal.remembering-requires
 remembering-requires t c = record { starts = c.requires; tabled = λ h. absurd (omega (arith, h)) }
 
-pub returns-then-not-bounded : goal.returns-then-not-bounded
-returns-then-not-bounded t c = record { ran = c.remembering.ensures.ran; tape_len = c.remembering.ensures.tape_len }
-
 pub prepare-ready-requires : goal.prepare-ready-requires
-prepare-ready-requires t c = record { table_held = record { sound = c.requires.sound; names_held = new_names 1577 refl; table_held = new_table 66177 refl }; masks_len = refl }
+prepare-ready-requires t c = record { sound = c.requires.sound; names_held = new_names 1577 refl; table_held = new_table 66177 refl }
 
 pub pruned-requires : goal.pruned-requires
 pruned-requires t c =
     (unasked c.args.bounded c.if-not-bounded.false c.decreases, c.requires)
 
-pub returns-then-not-ready : goal.returns-then-not-ready
-returns-then-not-ready t c = record { ran = c.pruned.ensures.ran; tape_len = c.pruned.ensures.tape_len }
-
 pub remembering-requires-2 : goal.remembering-requires-2
-remembering-requires-2 t c = record { starts = c.requires; tabled = λ h. (c.prepare-ready.ensures.table_held_2.0, c.prepare-ready.ensures.variant.0 c.if-not-ready.false) }
-
-pub returns : goal.returns
-returns t c = record { ran = c.remembering-2.ensures.ran; tape_len = c.remembering-2.ensures.tape_len }
+remembering-requires-2 t c = record { starts = c.requires; tabled = λ h. (c.prepare-ready.ensures.held, c.prepare-ready.ensures.settled.0 c.if-not-ready.false) }

@@ -23,4 +23,5 @@ run-requires c = record { starts = c.requires.starts; stocked = record { settled
 
 pub returns : goal.returns
 returns c =
-    let q = c.run.ensures in record { ran = q.ran; tape_len = (q.starts_2.0.tape_room, (q.starts_2.0.way_room, awake _ 9216 refl _ (length-replicate {A = ℕ} 9216 0) q.starts_2.1)) }
+    let q = c.run.ensures in
+    record { ran = q.ran; awake = awake _ 9216 refl _ (length-replicate {A = ℕ} 9216 0) q.weary }

@@ -21,30 +21,26 @@ pub put-requires : goal.put-requires
 put-requires c =
     let g = c.word-goal.ensures.0 in
     let d = c.byte-depth.ensures.0 in
-    let small = goal_code c.requires.starts.sound in record { i_bound = (omega arith, (omega (arith, small.0), omega (arith, small.1))); agenda_len = refl }
-
-pub start-b-requires : goal.start-b-requires
-start-b-requires c =
-    c.requires.starts.sound
+    let small = goal_code c.requires.starts.sound in (omega arith, (omega (arith, small.0), omega (arith, small.1)))
 
 pub solve-requires : goal.solve-requires
 solve-requires c =
     let q = c.requires.starts in
-    let small = c.shared_slice_known-1.given 10 in
+    let small = c.type_inv.card 10 in
     let goal = at_goal (replicate 104 0) c.start-b.ensures.value c.word-goal.ensures.0 c.byte-depth.ensures.0
     c.put.ensures refl in
     let told = asked q.sound goal _ _ _ _ q.scope q.waiting q.entered q.tape_room (omega arith) in record {
       ready = told.0;
       laid = told.1;
       equipped = equipped_at (start_count _ c.start-b.ensures.value)
-          (record { way_room = q.way_room; rooted = rooted_start q.scope; stocked = c.requires.stocked });
+          (record { rooted = rooted_start q.scope; stocked = c.requires.stocked });
       count_is_scan = count_is_scan told.0;
     }
 
 pub returns : goal.returns
 returns c =
     let q = c.requires.starts in
-    let small = c.shared_slice_known-1.given 10 in
+    let small = c.type_inv.card 10 in
     let goal = at_goal (replicate 104 0) c.start-b.ensures.value c.word-goal.ensures.0 c.byte-depth.ensures.0
     c.put.ensures refl in
-    let stays = c.solve.ensures.stays in record { ran = ran q.sound goal c.solve.ensures.solving q.scope (omega arith); starts_2 = (started q.sound goal c.solve.ensures.solving q stays.way_room, stays.weary) }
+    let stays = c.solve.ensures.stays in record { ran = ran q.sound goal c.solve.ensures.solving q.scope (omega arith); starts = started q.sound goal c.solve.ensures.solving q; weary = stays.weary }

@@ -1,27 +1,13 @@
--- What the callees answer, put together.
-use Prim.Native.Nat.{◌+◌}
+-- The counts and the depth limit are bytes of the front.
+use Rattle.std.proofs.Common.{rules}
 use Rattle.card.proofs.CardChecked.{sound_front}
-use Rattle.summary.specs.Inner.Values.{start_p}
-use borrow.Author.Rules.{rules}
 use Rattle.trace.proofs.start.Goals as goal
 
-pub byte-p-requires : goal.byte-p-requires
-byte-p-requires c =
-    let f = sound_front c.args.card.now c.requires in search rules
+pub byte-rules-requires : goal.byte-rules-requires
+byte-rules-requires c = let f = sound_front c.args.card.now c.requires in search rules
 
-pub byte-t-requires : goal.byte-t-requires
-byte-t-requires c =
-    let f = sound_front c.args.card.now c.requires in search rules
+pub byte-requires : goal.byte-requires
+byte-requires c = let f = sound_front c.args.card.now c.requires in search rules
 
-pub byte-depth-requires : goal.byte-depth-requires
-byte-depth-requires c =
-    let f = sound_front c.args.card.now c.requires in search rules
-
-pub returns : goal.returns
-unfolding start_p
-returns c =
-    let p = c.byte-p.ensures.0 in
-    let t = c.byte-t.ensures.0 in
-    let depth = c.byte-depth.ensures.0 in
-    let k = c.args.k in
-    λ i. record { rules = p i; given = k; at = 0; count = p i + t i; depth = depth i; met = 0 }
+pub byte-requires-2 : goal.byte-requires-2
+byte-requires-2 c = let f = sound_front c.args.card.now c.requires in search rules

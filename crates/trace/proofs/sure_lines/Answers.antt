@@ -1,10 +1,13 @@
 -- Without an "either way" or a "rest" every line in the list is surely used. Else the list is walked, and is not refused.
-use native.Mathlib.Omega.{arith}
-use mathlib.Core.Path.{◌≡◌, sym, ◌∙◌, ap}
-use Prim.Native.Nat.{ℕ}
+use Rattle.std.proofs.Common.{◌≡◌, sym, ◌∙◌, ap, ℕ, arith}
+use Rattle.std.proofs.Common.{List, Result, Ok, Err}
+use Rattle.std.specs.Result.{result_unwrap_or}
+use Rattle.calculus.specs.Job.{Listed}
+use Rattle.card.specs.declared.faults.Refusal.{Refusal}
+use Rattle.card.specs.Decode.{job_of}
+use Rattle.scope.specs.Inner.Sets.{SureLines}
 use lib.Seq.{length-take-le}
 use borrow.Author.Tests.{lt-ltb}
-use Rattle.card.specs.Verdict.{sound}
 use Rattle.card.proofs.CardChecked.{sound_front}
 use Rattle.card.proofs.NodesDecoded.{listed_short}
 use Rattle.card.proofs.SureByKinds.{lines_sure}
@@ -13,25 +16,20 @@ use Rattle.lines.specs.Set.{full_s}
 use Rattle.lines.specs.Inner.Word.{line_in, lines_of}
 use Rattle.lines.proofs.MemberLaws.{member_full}
 use Rattle.lines.proofs.LineLaws.{line_of}
-use Rattle.trace.specs.Inner.Listing.{told_followed, SurelyFollows}
+use Rattle.trace.specs.Inner.Listing.{told_followed, Following, SurelyFollows}
 use Rattle.trace.proofs.StepsMean.{listed_follows}
 use Rattle.trace.proofs.sure_lines.Goals as goal
 
-pub may_differ-requires : goal.may_differ-requires
-may_differ-requires c = c.requires.sound
-
 pub byte-requires : goal.byte-requires
-byte-requires c =
-    let f = sound_front _ c.requires.sound in omega (arith, f.whole)
+byte-requires c = let f = sound_front _ c.requires.sound in omega (arith, f.whole)
 
 pub full-requires : goal.full-requires
-full-requires c =
-    let f = sound_front _ c.requires.sound in omega (arith, f.lines, c.byte.ensures.0)
+full-requires c = let f = sound_front _ c.requires.sound in omega (arith, f.lines, c.byte.ensures.0)
 
 -- all T lines
-pub returns-then-not-may_differ : goal.returns-then-not-may_differ
-returns-then-not-may_differ c =
-    let none = c.may_differ.ensures.0 c.if-not-may_differ.true in
+pub returns-else-may_differ : goal.returns-else-may_differ
+returns-else-may_differ c =
+    let none = c.may_differ.ensures.0 c.if-may_differ.false in
     let f = sound_front _ c.requires.sound in
     let all = c.lines.ensures ∙ ap lines_of (c.full.ensures ∙ ap full_s c.byte.ensures.0) in
     record {
@@ -40,19 +38,20 @@ returns-then-not-may_differ c =
           ∙ sym (lines_sure c.requires.sound x i h t none);
     }
 
-pub steps_check-found-requires : goal.steps_check-found-requires
-steps_check-found-requires c =
-    let p = c.requires in
-    let short = listed_short _ _ p.listed in record { sound = p.sound; k_in_bounds = p.k_in_bounds; k_bound = omega (arith, short, length-take-le c.args.k c.args.steps.now p.k_in_bounds) }
+pub steps_check-requires-clause-k_bound : goal.steps_check-requires-clause-k_bound
+steps_check-requires-clause-k_bound c =
+    let short = listed_short _ _ c.requires.listed in
+    omega (arith, short, length-take-le c.args.k c.args.steps.now c.requires.k_in_bounds)
 
-pub returns-in_default : goal.returns-in_default
-unfolding told_followed
-returns-in_default c =
-    let e : ◌≡◌ (told_followed c.steps_check-found.result) sound = listed_follows _ _ c.requires.listed c.steps_check-found.ensures.following in
-    let f = sym (ap told_followed c.in_default.is) ∙ e in
-    let z : ◌≡◌ {A = ℕ} 0 1 = cc f in absurd (omega arith)
+-- a derivation's list is not refused
+sure_of : {bs l : List ℕ} (r : Result LineWord Refusal) (d : LineWord) → Listed (job_of bs) l → Following bs l (told_followed r)
+    → SurelyFollows bs l r → SureLines bs l (result_unwrap_or r d)
+unfolding told_followed SurelyFollows
+sure_of (Ok s) d y f h = h
+sure_of {bs} {l} (Err e) d y f h =
+    let q = listed_follows bs l y f in let z : ◌≡◌ {A = ℕ} 0 1 = cc q in absurd (omega arith)
 
-pub returns : goal.returns
-unfolding SurelyFollows
-returns c =
-    rw c.in-Listed.is at c.steps_check-found.ensures.surely_follows
+pub returns-then-may_differ : goal.returns-then-may_differ
+returns-then-may_differ c =
+    let e = c.steps_check.ensures in
+    rw c.unwrap_or.ensures (sure_of c.steps_check.result c.empty.result c.requires.listed e.following e.surely_follows)

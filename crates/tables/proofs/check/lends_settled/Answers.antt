@@ -1,25 +1,16 @@
--- Those so far are settled.
-use native.Mathlib.Omega.{arith}
-use borrow.Author.Count.{below_more}
-use Rattle.node_bounds.proofs.ChecksDecide.{holds, fails, unmet}
+use Rattle.std.proofs.Common.{◌≡◌, ℕ, rules, tests, refl, arith, true}
+use Rattle.std.proofs.lemmas.Iterator.{cases_from_all, YieldsList-from_range}
+use Rattle.bounds.specs.Inner.Table.{UseSettled}
+use Rattle.card.specs.Format.{kind_at, left_at}
+use Rattle.bounds.proofs.EachBelow.{all_below}
+use Rattle.node_bounds.proofs.ChecksDecide.{unmet}
 use Rattle.tables.proofs.check.lends_settled.Goals as goal
-
-pub loop-i-init : goal.loop-i-init
-loop-i-init c = (omega arith, λ k h. absurd (omega arith))
-
-pub returns-then-not-lend_settled : goal.returns-then-not-lend_settled
-returns-then-not-lend_settled c =
-    fails
-    (λ f.
-    unmet c.lend_settled.ensures c.if-not-lend_settled.true
-    (f c.loop-i.i (omega (arith, c.loop-i-test, c.node_count-n.ensures.0))))
-
-pub loop-i-preserved : goal.loop-i-preserved
-loop-i-preserved c = (
-  omega arith,
-  below_more _ _ c.loop-i.invariant.1 (c.lend_settled.ensures.0 c.if-not-lend_settled.false),
-)
 
 pub returns : goal.returns
 returns c =
-    holds (λ k h. c.loop-i.invariant.1 k (omega (arith, c.node_count-n.ensures.0, c.loop-i-test, c.loop-i.invariant.0)))
+    let P : ℕ → Type 0 =
+    λ k. kind_at c.args.card.now k ≡ 6 → UseSettled c.args.card.now c.args.names.now c.args.table.now (left_at c.args.card.now k) true in
+    rw c.node_count.ensures.0 at
+    (all_below c.node_count.result P _
+    (cases_from_all _ _ _ P (λ k. P k → ⊥) c.all.ensures.ran (YieldsList-from_range 0 c.node_count.result c.node_count.result refl (omega arith))
+    (λ x q k. search (rules, tests)) (λ x q k. search (rules, tests, unmet))))

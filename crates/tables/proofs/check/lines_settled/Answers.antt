@@ -1,44 +1,19 @@
--- Those so far are settled.
-use borrow.Author.Rules.{rules}
-use native.Mathlib.Omega.{arith}
-use mathlib.Core.Bool.{true}
+use Rattle.std.proofs.Common.{ℕ, rules, tests, refl, arith, true}
+use Rattle.std.proofs.lemmas.Iterator.{cases_from_all, YieldsList-from_range}
 use Rattle.bounds.specs.Inner.Table.{UseSettled}
+use Rattle.card.specs.Format.{line_node}
 use Rattle.card.proofs.CardChecked.{sound_front}
-use Rattle.card.proofs.SoundNodes.{sound_line_node}
-use borrow.Author.Count.{below_more}
-use mathlib.Core.Path.{sym, subst}
-use Rattle.node_bounds.proofs.ChecksDecide.{holds, fails, unmet}
+use Rattle.bounds.proofs.EachBelow.{all_below}
+use Rattle.node_bounds.proofs.ChecksDecide.{unmet}
 use Rattle.tables.proofs.check.lines_settled.Goals as goal
 
-pub byte-n-requires : goal.byte-n-requires
-byte-n-requires c = let f = sound_front c.args.card.now c.requires.sound in search rules
-
-pub loop-i-init : goal.loop-i-init
-loop-i-init c = (omega arith, λ k h. absurd (omega arith))
-
-pub use_settled-requires : goal.use_settled-requires
-use_settled-requires c = record {
-  table_held = c.requires;
-  i_value = rw c.line_at.ensures.0
-      (sound_line_node c.requires.sound c.loop-i.i (omega (arith, c.loop-i-test, c.byte-n.ensures.0)));
-}
-
-pub returns-then-not-use_settled : goal.returns-then-not-use_settled
-returns-then-not-use_settled c =
-    fails
-    (λ f.
-    unmet c.use_settled.ensures c.if-not-use_settled.true
-    (subst (λ d. UseSettled c.args.card.now c.args.names.now c.args.table.now d true) (sym c.line_at.ensures.0)
-    (f c.loop-i.i (omega (arith, c.loop-i-test, c.byte-n.ensures.0)))))
-
-pub loop-i-preserved : goal.loop-i-preserved
-loop-i-preserved c =
-    let bs = c.args.card.now in (
-      omega arith,
-      below_more _ _ c.loop-i.invariant.1
-          (subst (λ d. UseSettled bs c.args.names.now c.args.table.now d true) c.line_at.ensures.0
-          (c.use_settled.ensures.0 c.if-not-use_settled.false)),
-    )
+pub byte-lines-requires : goal.byte-lines-requires
+byte-lines-requires c = let f = sound_front c.args.card.now c.requires.sound in search rules
 
 pub returns : goal.returns
-returns c = holds (λ k h. c.loop-i.invariant.1 k (omega (arith, c.byte-n.ensures.0, c.loop-i-test, c.loop-i.invariant.0)))
+returns c =
+    let P : ℕ → Type 0 = λ k. UseSettled c.args.card.now c.args.names.now c.args.table.now (line_node c.args.card.now k) true in
+    rw c.byte-lines.ensures.0 at
+    (all_below c.byte-lines.result P _
+    (cases_from_all _ _ _ P (λ k. P k → ⊥) c.all.ensures.ran (YieldsList-from_range 0 c.byte-lines.result c.byte-lines.result refl (omega arith))
+    (λ x q k. search (rules, tests)) (λ x q k. search (rules, tests, unmet))))

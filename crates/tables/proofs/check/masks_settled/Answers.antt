@@ -1,23 +1,14 @@
--- Those so far are settled.
-use native.Mathlib.Omega.{arith}
-use borrow.Author.Count.{below_more}
-use Rattle.node_bounds.proofs.ChecksDecide.{holds, fails, unmet}
+use Rattle.std.proofs.Common.{ℕ, rules, tests, refl, arith}
+use Rattle.std.proofs.lemmas.Iterator.{cases_from_all, YieldsList-from_range}
+use Rattle.bounds.specs.Inner.Table.{Masked}
+use Rattle.bounds.proofs.EachBelow.{all_below}
+use Rattle.node_bounds.proofs.ChecksDecide.{unmet}
 use Rattle.tables.proofs.check.masks_settled.Goals as goal
-
-pub loop-c-init : goal.loop-c-init
-loop-c-init c = (omega arith, λ k h. absurd (omega arith))
-
-pub returns-then-not-masked : goal.returns-then-not-masked
-returns-then-not-masked c =
-    fails
-    (λ f.
-    unmet c.masked.ensures c.if-not-masked.true
-    (f c.loop-c.c (omega (arith, c.loop-c-test, c.classes-n.ensures.0))))
-
-pub loop-c-preserved : goal.loop-c-preserved
-loop-c-preserved c =
-    (omega arith, below_more _ _ c.loop-c.invariant.1 (c.masked.ensures.0 c.if-not-masked.false))
 
 pub returns : goal.returns
 returns c =
-    holds (λ k h. c.loop-c.invariant.1 k (omega (arith, c.classes-n.ensures.0, c.loop-c-test, c.loop-c.invariant.0)))
+    let P : ℕ → Type 0 = λ k. Masked c.args.card.now c.args.names.now c.args.masks.now k in
+    rw c.classes.ensures.0 at
+    (all_below c.classes.result P _
+    (cases_from_all _ _ _ P (λ k. P k → ⊥) c.all.ensures.ran (YieldsList-from_range 0 c.classes.result c.classes.result refl (omega arith))
+    (λ x q k. search (rules, tests)) (λ x q k. search (rules, tests, unmet))))

@@ -5,25 +5,23 @@ use Rattle.node_bounds.proofs.ChecksDecide.{holds, fails, unmet}
 use Rattle.tables.proofs.check.name_settled.Goals as goal
 
 pub loop-c-init : goal.loop-c-init
-loop-c-init c = (omega arith, λ k h. absurd (omega arith))
+loop-c-init c = λ k h. absurd (omega arith)
 
 pub returns-then-not-row_fits : goal.returns-then-not-row_fits
 returns-then-not-row_fits c =
     fails
     (λ u.
     unmet (rw c.weight-w.ensures.0 at c.row_fits.ensures) c.if-not-row_fits.true
-    (u.class c.loop-c.c (omega (arith, c.loop-c-test, c.classes-n.ensures.0))))
+    (u.class c.loop-c.c (omega (arith, c.classes-c-end.ensures.0))))
 
 pub loop-c-preserved : goal.loop-c-preserved
-loop-c-preserved c = (
-  omega arith,
-  below_more _ _ c.loop-c.invariant.1 (rw c.weight-w.ensures.0 at (c.row_fits.ensures.0 c.if-not-row_fits.false)),
-)
+loop-c-preserved c =
+    below_more _ _ c.loop-c.invariant (rw c.weight-w.ensures.0 at (c.row_fits.ensures.0 c.if-not-row_fits.false))
 
 pub returns : goal.returns
 returns c =
     holds
     (record {
       class = λ k l.
-          c.loop-c.invariant.1 k (omega (arith, c.classes-n.ensures.0, c.loop-c-test, c.loop-c.invariant.0));
+          c.loop-c.invariant k (omega (arith, c.classes-c-end.ensures.0));
     })

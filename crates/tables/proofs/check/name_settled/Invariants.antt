@@ -1,4 +1,4 @@
-use Prim.Native.Nat.{ℕ, ◌-◌, ◌≤◌, ◌<◌}
+use Prim.Native.Nat.{ℕ, ◌<◌}
 use mathlib.Core.Bool.{◌&&◌}
 use Rattle.lines.specs.Count.{bit}
 use Rattle.bounds.specs.Inner.Table.{in_class, RowFits}
@@ -6,7 +6,4 @@ use Rattle.tables.proofs.check.name_settled.Given as goal
 
 abbrev pub invariant-loop-c : goal.invariant-loop-c
 invariant-loop-c l =
-    (l.c ≤ l.n) × ((k : ℕ) → k < l.c → RowFits l.table l.r k 1 (bit (l.linear && in_class l.names l.i k)) (bit (l.linear && in_class l.names l.i k)))
-
-abbrev pub decreases-loop-c : goal.decreases-loop-c
-decreases-loop-c l = l.n - l.c
+    (k : ℕ) → k < l.c → RowFits l.table l.r k 1 (bit (l.linear && in_class l.names l.i k)) (bit (l.linear && in_class l.names l.i k))

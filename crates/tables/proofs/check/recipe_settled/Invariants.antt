@@ -1,4 +1,4 @@
-use Prim.Native.Nat.{ℕ, ◌+◌, ◌-◌, ◌≤◌, ◌<◌}
+use Prim.Native.Nat.{ℕ, ◌+◌, ◌<◌}
 use mathlib.Core.Bool.{◌&&◌}
 use Rattle.lines.specs.Count.{bit}
 use Rattle.bounds.specs.Inner.Table.{in_class, least_at, low_at, high_at, RowFits}
@@ -6,9 +6,6 @@ use Rattle.tables.proofs.check.recipe_settled.Given as goal
 
 abbrev pub invariant-loop-c : goal.invariant-loop-c
 invariant-loop-c l =
-    (l.c ≤ l.n) × ((k : ℕ) → k < l.c
+    (k : ℕ) → k < l.c
     → RowFits l.table l.r k (1 + least_at l.table l.g) (bit (l.linear && in_class l.names l.i k) + low_at l.table l.g k)
-    (bit (l.linear && in_class l.names l.i k) + high_at l.table l.g k))
-
-abbrev pub decreases-loop-c : goal.decreases-loop-c
-decreases-loop-c l = l.n - l.c
+    (bit (l.linear && in_class l.names l.i k) + high_at l.table l.g k)

@@ -1,60 +1,48 @@
--- Each part of the table is settled, and every clause that may come into scope is one of a rule, a line or a lend.
-use Prim.Native.Nat.{ℕ, ◌<◌}
-use native.Mathlib.Omega.{arith}
-use mathlib.Core.Path.{◌≡◌, refl, sym, ◌∙◌}
-use mathlib.Core.Bool.{Bool, true, false}
-use Rattle.bounds.specs.Inner.Table.{Origin, rule, line, lent, UseSettled}
-use mathlib.Core.List.{List}
-use mathlib.Core.Path.{subst}
-use Rattle.card.specs.Format.{rule_count, line_count, node_count, kind_at, left_at, rule_node, line_node}
+-- Each part of the table is settled.
+use Rattle.std.proofs.Common.{◌≡◌, ℕ, ◌<◌, Bool, true, false, sym, ◌∙◌, arith}
+use Rattle.std.proofs.lemmas.Bool.{false≢true}
+use Rattle.card.specs.Format.{node_count}
+use Rattle.bounds.specs.Inner.Table.{NodeSettled, UseSettled, Origin}
 use Rattle.node_bounds.proofs.ChecksDecide.{fails, unmet}
 use Rattle.tables.proofs.check.settled.Goals as goal
+use Rattle.tables.proofs.check.settled.Goals.{then-nodes_settled, else-nodes_settled}
 
 pos : (n : ℕ) → (n ≡ 0 → ⊥) → 0 < n
 pos n h = omega arith
 
--- every clause that may come into scope
-uses_of : {bs names t : List ℕ} → ((k : ℕ) → k < rule_count bs → UseSettled bs names t (rule_node bs k) false)
-    → ((k : ℕ) → k < line_count bs → UseSettled bs names t (line_node bs k) true)
-    → ((j : ℕ) → j < node_count bs → kind_at bs j ≡ 6 → UseSettled bs names t (left_at bs j) true)
-    → (i : ℕ) (b : Bool) → Origin bs i b → UseSettled bs names t i b
-uses_of {bs} {names} {t} p q r i b (rule k j h e) = subst (λ d. UseSettled bs names t d false) (sym e) (p k h)
-uses_of {bs} {names} {t} p q r i b (line k j h e) = subst (λ d. UseSettled bs names t d true) (sym e) (q k h)
-uses_of {bs} {names} {t} p q r i b (lent n j h k e) = subst (λ d. UseSettled bs names t d true) (sym e) (r n h k)
-
 pub returns-then-classes-eq0 : goal.returns-then-classes-eq0
 returns-then-classes-eq0 c = fails (λ f. omega (arith, f.some, c.if-classes-eq0.true, c.classes.ensures.0))
 
-pub returns-then-not-nodes_settled : goal.returns-then-not-nodes_settled
-returns-then-not-nodes_settled c = fails (λ f. unmet c.nodes_settled.ensures c.if-not-nodes_settled.true f.nodes)
+pub returns-then-uses_settled : goal.returns-then-uses_settled
+returns-then-uses_settled c =
+    let bs = c.args.card.now in
+    let nodes : (i : ℕ) → i < node_count bs → NodeSettled c.args.card.now c.args.names.now c.args.table.now i =
+    elim c.if-nodes_settled.branch [
+      | then-nodes_settled w ↦ c.nodes_settled.ensures.0 w.if-nodes_settled.true
+      | else-nodes_settled w ↦ let e : false ≡ true = cc in absurd (false≢true e)
+    ] in
+    let uses : (i : ℕ) (b : Bool) → Origin bs i b → UseSettled c.args.card.now c.args.names.now c.args.table.now i b =
+    elim c.if-nodes_settled.branch [
+      | then-nodes_settled w ↦ w.uses_settled.ensures.0 (sym w.value-is ∙ c.if-uses_settled.true)
+      | else-nodes_settled w ↦ let e : false ≡ true = cc in absurd (false≢true e)
+    ] in (
+      λ q. record {
+        some = pos _ (λ z. c.if-classes-eq0.false (c.classes.ensures.0 ∙ z));
+        nodes = nodes;
+        uses = uses;
+        masked = c.masks_settled.ensures.0 q;
+      },
+      λ f. c.masks_settled.ensures.1 f.masked,
+    )
 
-pub returns-then-not-rules_settled : goal.returns-then-not-rules_settled
-returns-then-not-rules_settled c = fails (λ f. unmet c.rules_settled.ensures c.if-not-rules_settled.true (λ k h. f.uses _ _ (rule k _ h refl)))
-
-pub returns-then-not-lines_settled : goal.returns-then-not-lines_settled
-returns-then-not-lines_settled c = fails (λ f. unmet c.lines_settled.ensures c.if-not-lines_settled.true (λ k h. f.uses _ _ (line k _ h refl)))
-
-pub returns-then-not-lends_settled : goal.returns-then-not-lends_settled
-returns-then-not-lends_settled c = fails (λ f. unmet c.lends_settled.ensures c.if-not-lends_settled.true (λ j h e. f.uses _ _ (lent j _ h e refl)))
-
-pub returns : goal.returns
-returns c = (
-  λ q. record {
-    some =
-        pos _
-        (λ z.
-        c.if-classes-eq0.false
-        (c.classes.ensures.0 ∙ z));
-    nodes =
-        c.nodes_settled.ensures.0
-        c.if-not-nodes_settled.false;
-    uses =
-        uses_of
-        (c.rules_settled.ensures.0
-        c.if-not-rules_settled.false)
-        (c.lines_settled.ensures.0 c.if-not-lines_settled.false)
-        (c.lends_settled.ensures.0 c.if-not-lends_settled.false);
-    masked = c.masks_settled.ensures.0 q;
-  },
-  λ f. c.masks_settled.ensures.1 f.masked,
+pub returns-else-uses_settled : goal.returns-else-uses_settled
+returns-else-uses_settled c = (
+  λ q. absurd (false≢true (sym c.if-uses_settled.false ∙ q)),
+  λ f.
+      let no : ⊥ =
+      elim c.if-nodes_settled.branch [
+        | then-nodes_settled w ↦ unmet w.uses_settled.ensures (sym w.value-is ∙ c.if-uses_settled.false) f.uses
+        | else-nodes_settled w ↦ unmet c.nodes_settled.ensures w.if-nodes_settled.false f.nodes
+      ] in
+      absurd no,
 )

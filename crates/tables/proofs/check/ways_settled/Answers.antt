@@ -6,33 +6,35 @@ use Rattle.node_bounds.proofs.ChecksDecide.{holds, fails, unmet}
 use Rattle.tables.proofs.check.ways_settled.Goals as goal
 
 pub loop-c-init : goal.loop-c-init
-loop-c-init c = (omega arith, λ k h. absurd (omega arith))
+loop-c-init c = λ k h. absurd (omega arith)
 
 pub weight-w-requires : goal.weight-w-requires
 weight-w-requires c =
-    let n = clause_node c.requires.table_held.sound c.requires.i_value in
-    (n.few, (omega (arith, c.loop-c-test, c.classes-n.ensures.1), c.requires.table_held.names_held))
+    let n = clause_node c.requires.table_held.sound c.requires.clause in
+    (n.few, (omega (arith, c.classes-c-end.ensures.1), c.requires.table_held.names_held))
 
 pub ways_fit-requires : goal.ways_fit-requires
-ways_fit-requires c = record { table_held = c.requires.table_held; i_value = (c.requires.i_value, omega (arith, c.loop-c-test, c.classes-n.ensures.1)); on_way = way_starts (clause_node c.requires.table_held.sound c.requires.i_value) c.weight-w.ensures.1 }
+ways_fit-requires c = record {
+  table_held = c.requires.table_held;
+  clause = (c.requires.clause, omega (arith, c.classes-c-end.ensures.1));
+  on_way = way_starts (clause_node c.requires.table_held.sound c.requires.clause) c.weight-w.ensures.1;
+}
 
 pub returns-then-not-ways_fit : goal.returns-then-not-ways_fit
 returns-then-not-ways_fit c =
     fails
     (λ u.
     unmet (rw c.weight-w.ensures.0 at c.ways_fit.ensures) c.if-not-ways_fit.true
-    (u.class c.loop-c.c (omega (arith, c.loop-c-test, c.classes-n.ensures.0))))
+    (u.class c.loop-c.c (omega (arith, c.classes-c-end.ensures.0))))
 
 pub loop-c-preserved : goal.loop-c-preserved
-loop-c-preserved c = (
-  omega arith,
-  below_more _ _ c.loop-c.invariant.1 (rw c.weight-w.ensures.0 at (c.ways_fit.ensures.0 c.if-not-ways_fit.false)),
-)
+loop-c-preserved c =
+    below_more _ _ c.loop-c.invariant (rw c.weight-w.ensures.0 at (c.ways_fit.ensures.0 c.if-not-ways_fit.false))
 
 pub returns : goal.returns
 returns c =
     holds
     (record {
       class = λ k l.
-          c.loop-c.invariant.1 k (omega (arith, c.classes-n.ensures.0, c.loop-c-test, c.loop-c.invariant.0));
+          c.loop-c.invariant k (omega (arith, c.classes-c-end.ensures.0));
     })

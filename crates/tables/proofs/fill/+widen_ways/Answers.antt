@@ -1,7 +1,7 @@
 -- The array keeps to its type.
 use Prim.Native.Nat.{ℕ, ◌<◌}
 use native.Mathlib.Omega.{arith}
-use mathlib.Core.Path.{◌≡◌, sym, ◌∙◌}
+use mathlib.Core.Path.{◌≡◌}
 use mathlib.Core.List.{List}
 use Rattle.card.specs.Format.{kind_at, left_at, right_at}
 use Rattle.card.specs.Fault.{Sound}
@@ -11,18 +11,16 @@ use Rattle.bounds.specs.Inner.Table.{Node}
 use Rattle.tables.proofs.fill.+widen_ways.Goals as goal
 
 -- the parts of a recipe or menu are lower
-parts : {bs : List ℕ} {i k : ℕ} → Sound bs → Node bs i → k ≡ kind_at bs i → (3 < k) × (k ≡ 9 → ⊥) → (left_at bs i < i) × (right_at bs i < i)
-parts {bs} {i} s n e h = parts_below s i n.here (omega (arith, h.0)) (λ q. h.1 (e ∙ q))
+recipe_lower : {bs : List ℕ} {i : ℕ} → Sound bs → Node bs i → kind_at bs i ≡ 7 → (left_at bs i < i) × (right_at bs i < i)
+recipe_lower {bs} {i} s n e = parts_below s i n.here (omega arith) (λ q. omega arith)
 
-pub right_part-requires : goal.right_part-requires
-right_part-requires t c =
-    let k = sym c.kind_at-k.ensures ∙ c.if-k-eq7.true in record { sound = c.requires.table_held.sound; node = c.requires.node.0; bound = (omega (arith, k), λ c. omega (arith, k, c)) }
+menu_lower : {bs : List ℕ} {i : ℕ} → Sound bs → Node bs i → kind_at bs i ≡ 10 → (left_at bs i < i) × (right_at bs i < i)
+menu_lower {bs} {i} s n e = parts_below s i n.here (omega arith) (λ q. omega arith)
 
 pub widen_ways-requires : goal.widen_ways-requires
 widen_ways-requires t c =
     let z = c.requires.table_held in
-    let k = c.if-k-eq7.true in
-    let lower = (parts z.sound c.requires.node.0 c.kind_at-k.ensures (omega (arith, k), λ q. omega (arith, q, k))).1 in (
+    let lower = (recipe_lower z.sound c.requires.node.0 c.in-Recipe.ensures).1 in (
       omega (arith, lower, c.decreases, c.right_part.ensures.0),
       (
         z,
@@ -37,8 +35,7 @@ widen_ways-requires t c =
 pub widen_ways-first-requires : goal.widen_ways-first-requires
 widen_ways-first-requires t c =
     let z = c.requires.table_held in
-    let k = c.if-k-eq10.true in
-    let lower = (parts z.sound c.requires.node.0 c.kind_at-k.ensures (omega (arith, k), λ q. omega (arith, q, k))).0 in (
+    let lower = (menu_lower z.sound c.requires.node.0 c.in-Menu.ensures).0 in (
       omega (arith, lower, c.decreases, c.left_part-d.ensures.0),
       (
         z,
@@ -52,8 +49,7 @@ widen_ways-first-requires t c =
 pub widen_ways-second-requires : goal.widen_ways-second-requires
 widen_ways-second-requires t c =
     let z = c.requires.table_held in
-    let k = c.if-k-eq10.true in
-    let lower = (parts z.sound c.requires.node.0 c.kind_at-k.ensures (omega (arith, k), λ q. omega (arith, q, k))).1 in (
+    let lower = (menu_lower z.sound c.requires.node.0 c.in-Menu.ensures).1 in (
       omega (arith, lower, c.decreases, c.right_part-e.ensures.0),
       (
         record { sound = z.sound; names_held = z.names_held; table_held = c.widen_ways-first.ensures },

@@ -1,7 +1,6 @@
--- The array keeps to its type.
-use borrow.Author.Rules.{rules}
+use Rattle.std.proofs.Common.{rules}
 use Rattle.card.proofs.CardChecked.{sound_front}
 use Rattle.tables.proofs.fill.widen_rules.Goals as goal
 
-pub byte-n-requires : goal.byte-n-requires
-byte-n-requires c = let f = sound_front c.args.card.now c.requires.sound in search rules
+pub byte-i-end-requires : goal.byte-i-end-requires
+byte-i-end-requires c = let f = sound_front c.args.card.now c.requires.sound in search rules

@@ -1,2 +1,0 @@
--- What no public contract mentions: the terms of inner contracts.
-pub mod Nonzero

@@ -1,0 +1,14 @@
+use Rattle.std.proofs.Common.{ℕ, rules, tests, refl, arith}
+use Rattle.std.proofs.lemmas.Iterator.{cases_from_all, YieldsList-from_range}
+use Rattle.bounds.specs.Inner.Table.{NodeFits}
+use Rattle.bounds.proofs.EachBelow.{all_below}
+use Rattle.node_bounds.proofs.ChecksDecide.{unmet}
+use Rattle.tables.proofs.check.classes_fit.Goals as goal
+
+pub returns : goal.returns
+returns c =
+    let P : ℕ → Type 0 = λ k. NodeFits c.args.card.now c.args.names.now c.args.table.now c.args.i k in
+    rw c.classes.ensures.0 at
+    (all_below c.classes.result P _
+    (cases_from_all _ _ _ P (λ k. P k → ⊥) c.all.ensures.ran (YieldsList-from_range 0 c.classes.result c.classes.result refl (omega arith))
+    (λ x q k. search (rules, tests)) (λ x q k. search (rules, tests, unmet))))
