@@ -53,7 +53,7 @@ pub fn about(card: Option<Which>, found: Result<(), Refusal>) -> Result<(), Benc
     found.map_err(|refusal| BenchRefusal { card, refusal })
 }
 
-// Both cards, if they fit on one bench; or the first of the first card's own 1 to 9, the second's, and 15 that applies.
+// Both cards, which are sound and fit on one; or the first of the first card's own 1 to 9, the second's, and 15 that applies.
 pub fn bench_cards<'a>(
     first: &'a [u8],
     second: &'a [u8],
