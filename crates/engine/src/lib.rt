@@ -246,6 +246,7 @@ fn one_of(
             f,
             b.dropped(),
         ),
+        Kind::Zero => Outcome::Stuck,
         Kind::Atom
         | Kind::Top
         | Kind::One
@@ -253,7 +254,6 @@ fn one_of(
         | Kind::With
         | Kind::Lend
         | Kind::Recipe
-        | Kind::Zero
         | Kind::Menu
         | Kind::Unknown => Outcome::Stuck,
     }

@@ -901,16 +901,22 @@ one_of-returns-in-Oplus-clause-solving t c =
     one_of_told rd q _ c.node-goal.ensures _ c.nest-n.ensures (λ k. grind (arith, c.kind_of.ensures, c.in-Oplus.is, k)) _ c.dropped.ensures.value
     c.choose.ensures.entering
 
-pub one_of-returns-in-Atom : goal.one_of-returns-in-Atom
+pub one_of-returns-in-Zero : goal.one_of-returns-in-Zero
 unfolding answer_in
-one_of-returns-in-Atom t c =
-    let rd = c.requires.ready in
-    let q = c.requires.one_of_next in
+one_of-returns-in-Zero t c =
     record {
-      solving = never_told rd q _ c.node-goal.ensures
-          (grind (arith, c.kind_of.ensures, c.in-Atom.is, one_of_kinds rd q _ c.node-goal.ensures));
+      solving = never_told c.requires.ready c.requires.one_of_next _ c.node-goal.ensures c.in-Zero.ensures;
       stays = stays_stuck c.requires.equipped;
     }
+
+pub one_of-returns-in-Atom : goal.one_of-returns-in-Atom
+one_of-returns-in-Atom t c =
+    absurd (grind (
+      arith,
+      c.kind_of.ensures,
+      c.in-Atom.is,
+      one_of_kinds c.requires.ready c.requires.one_of_next _ c.node-goal.ensures,
+    ))
 
 pub part-kind_of-requires : goal.part-kind_of-requires
 part-kind_of-requires t c =
