@@ -379,22 +379,10 @@ fn enter(
         };
     }
     put(agenda, b.len, part, n);
+    let d = b.longer();
     solve(
-        card,
-        waits,
-        tape,
-        nodes,
-        heads,
-        way,
-        names,
-        table,
-        masks,
-        codes,
-        words,
-        agenda,
-        f.fixed,
-        f.from,
-        b.longer(),
+        card, waits, tape, nodes, heads, way, names, table, masks, codes, words, agenda, f.fixed,
+        f.from, d,
     )
 }
 

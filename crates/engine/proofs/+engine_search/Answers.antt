@@ -477,8 +477,8 @@ enter-put-requires t c =
     let rd = c.requires.ready in
     let q = rw c.if-meets.false at c.requires.part_ready in goal_room rd q
 
-pub enter-longer-requires : goal.enter-longer-requires
-enter-longer-requires t c =
+pub enter-longer-d-requires : goal.enter-longer-d-requires
+enter-longer-d-requires t c =
     let rd = c.requires.ready in
     let q = rw c.if-meets.false at c.requires.part_ready in record { len_bound = (goal_room rd q).0; counted = rd.counted }
 
@@ -486,14 +486,14 @@ pub enter-solve-requires-2 : goal.enter-solve-requires-2
 enter-solve-requires-2 t c =
     let rd = c.requires.ready in
     let q = rw c.if-meets.false at c.requires.part_ready in
-    let asked = goal_call rd q _ c.put.ensures _ c.longer.ensures.value t c.decreases in
-    (asked.0, (asked.1.0, (asked.1.1, (equipped_at (ap (λ (x : Branch). x.count) c.longer.ensures.value) c.requires.equipped, count_is_scan asked.1.0))))
+    let asked = goal_call rd q _ c.put.ensures _ c.longer-d.ensures.value t c.decreases in
+    (asked.0, (asked.1.0, (asked.1.1, (equipped_at (ap (λ (x : Branch). x.count) c.longer-d.ensures.value) c.requires.equipped, count_is_scan asked.1.0))))
 
 pub enter-returns : goal.enter-returns
 enter-returns t c =
     let rd = c.requires.ready in
     let q = rw c.if-meets.false at c.requires.part_ready in record {
-      entering = rw c.if-meets.false (goal_told rd q _ c.put.ensures _ c.longer.ensures.value c.solve-2.ensures.solving);
+      entering = rw c.if-meets.false (goal_told rd q _ c.put.ensures _ c.longer-d.ensures.value c.solve-2.ensures.solving);
       stays = c.solve-2.ensures.stays;
     }
 
