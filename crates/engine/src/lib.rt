@@ -66,8 +66,9 @@ pub fn solve(
         Kind::Oplus | Kind::Zero => one_of(
             card, waits, tape, nodes, heads, way, names, table, masks, codes, words, agenda, f, c,
         ),
+        // `unwind` leaves none of ⊤, 1 and ⊗ on top, and the others are no goals.
         Kind::Top | Kind::One | Kind::Tensor | Kind::Recipe | Kind::Menu | Kind::Unknown =>
-            Outcome::Stuck,
+            unreachable!(),
     }
 }
 
@@ -247,6 +248,7 @@ fn one_of(
             b.dropped(),
         ),
         Kind::Zero => Outcome::Stuck,
+        // The task is ⊕ or 0.
         Kind::Atom
         | Kind::Top
         | Kind::One
@@ -255,7 +257,7 @@ fn one_of(
         | Kind::Lend
         | Kind::Recipe
         | Kind::Menu
-        | Kind::Unknown => Outcome::Stuck,
+        | Kind::Unknown => unreachable!(),
     }
 }
 
@@ -307,6 +309,7 @@ fn use_clause(
             card, waits, tape, nodes, heads, way, names, table, masks, codes, words, &mut rest,
             f.fixed, f.from, c,
         ),
+        // Past its recipes, a clause is a head or a menu.
         Kind::Top
         | Kind::One
         | Kind::Tensor
@@ -315,7 +318,7 @@ fn use_clause(
         | Kind::Recipe
         | Kind::Oplus
         | Kind::Zero
-        | Kind::Unknown => Outcome::Stuck,
+        | Kind::Unknown => unreachable!(),
     }
 }
 
@@ -363,6 +366,7 @@ fn enter(
                 card, waits, tape, nodes, heads, way, names, table, masks, codes, words, agenda,
                 f.fixed, f.from, c,
             ),
+            // As in `use_clause`.
             Kind::Top
             | Kind::One
             | Kind::Tensor
@@ -371,26 +375,14 @@ fn enter(
             | Kind::Recipe
             | Kind::Oplus
             | Kind::Zero
-            | Kind::Unknown => Outcome::Stuck,
+            | Kind::Unknown => unreachable!(),
         };
     }
     put(agenda, b.len, part, n);
+    let d = b.longer();
     solve(
-        card,
-        waits,
-        tape,
-        nodes,
-        heads,
-        way,
-        names,
-        table,
-        masks,
-        codes,
-        words,
-        agenda,
-        f.fixed,
-        f.from,
-        b.longer(),
+        card, waits, tape, nodes, heads, way, names, table, masks, codes, words, agenda, f.fixed,
+        f.from, d,
     )
 }
 
@@ -700,6 +692,7 @@ fn part(
         Kind::Lend => lent(
             card, waits, tape, nodes, heads, way, names, table, masks, codes, words, goal, n, f, b,
         ),
+        // The goal is & or ⊸.
         Kind::Atom
         | Kind::Top
         | Kind::One
@@ -708,7 +701,7 @@ fn part(
         | Kind::Oplus
         | Kind::Zero
         | Kind::Menu
-        | Kind::Unknown => Outcome::Stuck,
+        | Kind::Unknown => unreachable!(),
     }
 }
 

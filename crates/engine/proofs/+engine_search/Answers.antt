@@ -477,8 +477,8 @@ enter-put-requires t c =
     let rd = c.requires.ready in
     let q = rw c.if-meets.false at c.requires.part_ready in goal_room rd q
 
-pub enter-longer-requires : goal.enter-longer-requires
-enter-longer-requires t c =
+pub enter-longer-d-requires : goal.enter-longer-d-requires
+enter-longer-d-requires t c =
     let rd = c.requires.ready in
     let q = rw c.if-meets.false at c.requires.part_ready in record { len_bound = (goal_room rd q).0; counted = rd.counted }
 
@@ -486,14 +486,14 @@ pub enter-solve-requires-2 : goal.enter-solve-requires-2
 enter-solve-requires-2 t c =
     let rd = c.requires.ready in
     let q = rw c.if-meets.false at c.requires.part_ready in
-    let asked = goal_call rd q _ c.put.ensures _ c.longer.ensures.value t c.decreases in
-    (asked.0, (asked.1.0, (asked.1.1, (equipped_at (ap (λ (x : Branch). x.count) c.longer.ensures.value) c.requires.equipped, count_is_scan asked.1.0))))
+    let asked = goal_call rd q _ c.put.ensures _ c.longer-d.ensures.value t c.decreases in
+    (asked.0, (asked.1.0, (asked.1.1, (equipped_at (ap (λ (x : Branch). x.count) c.longer-d.ensures.value) c.requires.equipped, count_is_scan asked.1.0))))
 
 pub enter-returns : goal.enter-returns
 enter-returns t c =
     let rd = c.requires.ready in
     let q = rw c.if-meets.false at c.requires.part_ready in record {
-      entering = rw c.if-meets.false (goal_told rd q _ c.put.ensures _ c.longer.ensures.value c.solve-2.ensures.solving);
+      entering = rw c.if-meets.false (goal_told rd q _ c.put.ensures _ c.longer-d.ensures.value c.solve-2.ensures.solving);
       stays = c.solve-2.ensures.stays;
     }
 
@@ -875,10 +875,10 @@ enter-returns-in-Atom-clause-entering t c =
     rw c.if-meets.true (head_told rd q c.push-p.ensures (λ k. omega (arith, k, c.in-Atom.ensures)) _ c.sized-c.ensures.value
     c.solve.ensures.solving)
 
-pub enter-returns-in-Top : goal.enter-returns-in-Top
-enter-returns-in-Top t c =
+pub enter-unreachable-requires : goal.enter-unreachable-requires
+enter-unreachable-requires t c =
     let q = rw c.if-meets.true at c.requires.part_ready in
-    absurd (grind (arith, c.kind_of.ensures, c.in-Top.is, core_kinds c.requires.ready q c.push-p.ensures))
+    grind (arith, c.kind_of.ensures, c.in-Top.is, core_kinds c.requires.ready q c.push-p.ensures)
 
 pub one_of-kind_of-requires : goal.one_of-kind_of-requires
 one_of-kind_of-requires t c =
@@ -904,29 +904,26 @@ one_of-returns-in-Oplus-clause-solving t c =
 pub one_of-returns-in-Zero : goal.one_of-returns-in-Zero
 unfolding answer_in
 one_of-returns-in-Zero t c =
+    let rd = c.requires.ready in
+    let q = c.requires.one_of_next in
     record {
-      solving = never_told c.requires.ready c.requires.one_of_next _ c.node-goal.ensures c.in-Zero.ensures;
+      solving = never_told rd q _ c.node-goal.ensures c.in-Zero.ensures;
       stays = stays_stuck c.requires.equipped;
     }
 
-pub one_of-returns-in-Atom : goal.one_of-returns-in-Atom
-one_of-returns-in-Atom t c =
-    absurd (grind (
-      arith,
-      c.kind_of.ensures,
-      c.in-Atom.is,
-      one_of_kinds c.requires.ready c.requires.one_of_next _ c.node-goal.ensures,
-    ))
+pub one_of-unreachable-requires : goal.one_of-unreachable-requires
+one_of-unreachable-requires t c =
+    grind (arith, c.kind_of.ensures, c.in-Atom.is, one_of_kinds c.requires.ready c.requires.one_of_next _ c.node-goal.ensures)
 
 pub part-kind_of-requires : goal.part-kind_of-requires
 part-kind_of-requires t c =
     let rd = c.requires.ready in
     node_here rd.sound c.args.goal (goal_low rd.sound c.requires.goal_ready.0)
 
-pub part-returns-in-Atom : goal.part-returns-in-Atom
-part-returns-in-Atom t c =
+pub part-unreachable-requires : goal.part-unreachable-requires
+part-unreachable-requires t c =
     let q = c.requires.goal_ready.0 in
-    absurd (grind (arith, c.kind_of.ensures, c.in-Atom.is, q.kind, part_kind c.requires.ready.sound q))
+    grind (arith, c.kind_of.ensures, c.in-Atom.is, q.kind, part_kind c.requires.ready.sound q)
 
 pub solve-kind_of-requires : goal.solve-kind_of-requires
 solve-kind_of-requires t c =
@@ -998,16 +995,16 @@ solve-returns-in-With-clause-solving t c = unwound_searched c.unwind-c.ensures.u
 pub solve-returns-in-Oplus-clause-solving : goal.solve-returns-in-Oplus-clause-solving
 solve-returns-in-Oplus-clause-solving t c = unwound_searched c.unwind-c.ensures.unwound c.one_of.ensures.solving
 
-pub solve-returns-in-Top : goal.solve-returns-in-Top
-solve-returns-in-Top t c =
+pub solve-unreachable-requires : goal.solve-unreachable-requires
+solve-unreachable-requires t c =
     let u = c.unwind-c.ensures.unwound in
     let some = c.if-c-eq0.false in
-    absurd (grind (
+    grind (
       arith,
       c.kind_of.ensures,
       c.in-Top.is,
       open_kind _ u.laid c.unwind-c.ensures.opened (omega arith) (ap (kind_at c.args.card.now) c.node.ensures),
-    ))
+    )
 
 pub use_clause-kind_of-requires : goal.use_clause-kind_of-requires
 use_clause-kind_of-requires t c =
@@ -1055,12 +1052,12 @@ use_clause-returns-in-Atom-clause-using t c =
     c.byte.ensures.0 c.byte-2.ensures.0 c.push-p.ensures _ c.using-c.ensures.value
     (λ k. omega (arith, k, c.in-Atom.ensures)) c.solve.ensures.solving
 
-pub use_clause-returns-in-Top : goal.use_clause-returns-in-Top
-use_clause-returns-in-Top t c =
+pub use_clause-unreachable-requires : goal.use_clause-unreachable-requires
+use_clause-unreachable-requires t c =
     let can = c.requires.can_use.0 in
-    absurd (grind (
+    grind (
       arith,
       c.kind_of.ensures,
       c.in-Top.is,
       use_kinds c.requires.ready can.step.next can _ _ _ _ _ _ refl c.inner-n.ensures c.requires.can_use.1 refl refl refl c.push-p.ensures,
-    ))
+    )
