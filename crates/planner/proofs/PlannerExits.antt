@@ -1,9 +1,9 @@
 -- What the checks' and the search's answers show of the outcome.
-use Rattle.std.proofs.Common.{ℕ, List, ◌≡◌, ◌≤◌, Some, None, Err, length, refl, sym}
+use Rattle.std.proofs.Common.{ℕ, List, ◌≡◌, Some, None, Err, refl, sym}
 use Rattle.calculus.specs.Job.{DerivableWithin}
 use Rattle.card.specs.declared.faults.Refusal.{Refusal}
 use Rattle.card.specs.Verdict.{told}
-use Rattle.card.specs.Fault.{first_fault, Sound}
+use Rattle.card.specs.Fault.{first_fault}
 use Rattle.card.specs.Decode.{job_of}
 use Rattle.planning.specs.Plan.{told_plan, Planning, faulty}
 use Rattle.search.specs.Inner.Found.{FirstOn, Finds}
