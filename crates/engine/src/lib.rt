@@ -73,6 +73,7 @@ pub fn solve(
 }
 
 // The next task is a name.
+#[inline(always)]
 #[cycle(engine_search)]
 fn need(
     card: &[u8],
@@ -119,6 +120,7 @@ fn need(
 }
 
 // The entries from the given one on. The given step goes on with the floor, and those above it with none.
+#[inline(always)]
 #[cycle(engine_search)]
 fn others(
     card: &[u8],

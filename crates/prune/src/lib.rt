@@ -33,6 +33,7 @@ fn tired(words: &mut [u64]) -> bool
 
 // Whether nothing is to be found for the agenda: so the table of bounds says, or the memory, which is of the job's scope alone. `false` is free:
 // it claims nothing of the agenda, the search goes on, and what it finds is the same.
+#[inline(always)]
 pub fn doomed(
     card: &[u8],
     names: &[u16],
