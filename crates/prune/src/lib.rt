@@ -2,7 +2,7 @@
 // hopeless, the memory which were found dead. A first run has neither: it counts its dead ends and gives up after so many.
 #![tactic(auto)]
 
-ghost use Rattle.std.specs.Prelude.{◌≡◌, true, ◌↔◌, ◌-◌, length, get_or};
+ghost use Rattle.std.specs.Prelude.{ℕ, List, ◌≡◌, true, ◌↔◌, ◌-◌, length, get_or};
 ghost use Rattle.card.specs.Fault.{Sound};
 ghost use Rattle.entries.specs.Inner.Entries.{scope_in};
 ghost use Rattle.dead.specs.Inner.Barren.{BarrenIn};
@@ -10,6 +10,36 @@ ghost use Rattle.prune.specs.Inner.Prune.{job_count, PruneAsks, Memory, Stocked,
 
 use branch::Branch;
 use card::format::byte;
+
+// What prunes a search.
+pub trait Prune {
+    // what it is stocked with, of the card
+    ghost stocked: { Self → List ℕ → Type 0 };
+
+    // that a run may give up
+    ghost gives_up: { Type 0 };
+
+    // Whether nothing is to be found for the agenda. `false` is free: it claims nothing of the agenda.
+    fn doomed(&self, card: &[u8], nodes: &[u16; 256], agenda: &[u16; 104], b: Branch) -> bool
+        requires prune_asks { PruneAsks card.now nodes.now agenda.now b }
+        requires stocked { stocked self.now card.now }
+        ensures { result ≡ true → Doom card.now nodes.now agenda.now b };
+
+    // A dead end, on which no floor bore if it is open. Whether the search gives up.
+    fn dead_end(
+        &mut self,
+        card: &[u8],
+        nodes: &[u16; 256],
+        agenda: &[u16; 104],
+        open: bool,
+        b: Branch,
+    ) -> bool
+        requires prune_asks { PruneAsks card.now nodes.now agenda.now b }
+        requires stocked { stocked self.old card.now }
+        requires barren_in { «open» ≡ true → BarrenIn card.now (scope_in card.now nodes.now b.count) agenda.now b }
+        ensures stocked { stocked self.new card.now }
+        ensures first_run { result ≡ true → gives_up };
+}
 
 // Whether nothing is lent: the scope is the job's.
 fn unlent(card: &[u8], count: usize) -> bool
