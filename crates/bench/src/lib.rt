@@ -3,11 +3,10 @@
 
 ghost use Rattle.std.specs.Prelude.{◌≡◌, ◌≤◌};
 ghost use Rattle.card.specs.Format.{line_start};
-ghost use Rattle.card.specs.Fault.{Sound};
 ghost use Rattle.bench.specs.Bench.{Joining, told_join, source_of, source_part, told_source};
 
-use benched::{BenchRefusal, Which, about, bench_check};
-use card::format::{byte, word};
+use benched::{BenchRefusal, Which, about, bench_cards};
+use card::sound::Card;
 use card::{Fault, Place, refuse};
 use fields::joined_length;
 use joining::put_joined;
@@ -23,23 +22,22 @@ pub struct LineSource {
 pub fn join(first: &[u8], second: &[u8], joined: &mut [u8]) -> Result<u16, BenchRefusal>
     ensures { Joining first.now second.now joined.old (told_join result) joined.new }
 {
-    bench_check(first, second)?;
-    let long = joined_length(first, second);
+    let (first, second) = bench_cards(first, second)?;
+    let long = joined_length(&first, &second);
     about(
         None,
         refuse(joined.len() < long, Fault::NoRoom, Place::Sheet),
     )?;
-    put_joined(first, second, joined);
+    put_joined(&first, &second, joined);
     Ok(long as u16)
 }
 
 // Where line i of a card begins.
-fn line_start(card: &[u8], i: usize) -> u16
-    requires sound { Sound card.now }
-    requires i_bound { i ≤ 64 }
+fn line_start(card: &Card<'_>, i: usize) -> u16
+    requires { i ≤ 64 }
     ensures { result ≡ line_start card.now i }
 {
-    let at = 11 + 5 * word(card, 5) + 2 * byte(card, 3) + 3 * i;
+    let at = 11 + 5 * card.nodes() + 2 * card.rules() + 3 * i;
     at as u16
 }
 
@@ -47,22 +45,22 @@ fn line_start(card: &[u8], i: usize) -> u16
 pub fn locate(first: &[u8], second: &[u8], i: u16) -> Result<LineSource, BenchRefusal>
     ensures { told_source result ≡ source_of first.now second.now i }
 {
-    bench_check(first, second)?;
+    let (first, second) = bench_cards(first, second)?;
     let n = i as usize;
-    let t = byte(first, 4);
+    let t = first.lines();
     about(
         None,
-        refuse(t + byte(second, 4) <= n, Fault::NoLine, Place::Line(i)),
+        refuse(t + second.lines() <= n, Fault::NoLine, Place::Line(i)),
     )?;
     if n < t {
         Ok(LineSource {
             card: Which::First,
-            at: line_start(first, n),
+            at: line_start(&first, n),
         })
     } else {
         Ok(LineSource {
             card: Which::Second,
-            at: line_start(second, n - t),
+            at: line_start(&second, n - t),
         })
     }
 }

@@ -1,11 +1,12 @@
 // What both calls over two cards check first (02, #101): each card by itself, and whether the two fit on one.
 #![tactic(auto)]
 
-ghost use Rattle.std.specs.Prelude.{◌≡◌};
-ghost use Rattle.card.specs.Verdict.{told};
-ghost use Rattle.benched.specs.Benched.{about, owner_of, bench_fault, told_bench};
+ghost use Rattle.std.specs.Prelude.{◌≡◌, MatchResult};
+ghost use Rattle.card.specs.Verdict.{number_of, where_of, told};
+ghost use Rattle.benched.specs.Benched.{fine, stopped, about, owner_of, bench_fault, told_bench};
 
 use card::Refusal;
+use card::sound::Card;
 use checks::check;
 use limits::limits_check;
 use std::error::Error;
@@ -52,11 +53,28 @@ pub fn about(card: Option<Which>, found: Result<(), Refusal>) -> Result<(), Benc
     found.map_err(|refusal| BenchRefusal { card, refusal })
 }
 
-// The first card's own 1 to 9, the second's, and 15.
-pub fn bench_check(first: &[u8], second: &[u8]) -> Result<(), BenchRefusal>
-    ensures { told_bench result ≡ bench_fault first.now second.now }
+// Both cards, which are sound and fit on one; or the first of the first card's own 1 to 9, the second's, and 15 that applies.
+pub fn bench_cards<'a>(
+    first: &'a [u8],
+    second: &'a [u8],
+) -> Result<(Card<'a>, Card<'a>), BenchRefusal>
+    ensures { MatchResult result
+        (λ cards. ((cards.0 ≡ first.now) × (cards.1 ≡ second.now)) × (bench_fault first.now second.now ≡ fine))
+        (λ r. bench_fault first.now second.now
+        ≡ stopped (owner_of r.card) (number_of r.refusal.fault) (where_of r.refusal.place)) }
 {
     about(Some(Which::First), check(first))?;
     about(Some(Which::Second), check(second))?;
-    about(None, limits_check(first, second))
+    let a = Card::new(first);
+    let b = Card::new(second);
+    about(None, limits_check(&a, &b))?;
+    Ok((a, b))
+}
+
+// The same check alone.
+pub fn bench_check(first: &[u8], second: &[u8]) -> Result<(), BenchRefusal>
+    ensures { told_bench result ≡ bench_fault first.now second.now }
+{
+    bench_cards(first, second)?;
+    Ok(())
 }

@@ -39,6 +39,7 @@ impl<'a> Record<'a> {
         })
     }
 
+    // An Err is the writer's own; what was written before it stays written.
     fn print(&self, out: &mut impl Write) -> io::Result<()> {
         let mut buffer = [FILL; 2900];
         let size = self.size.min(buffer.len());

@@ -1,5 +1,5 @@
 // What the table says of an agenda.
-ghost use Rattle.std.specs.Prelude.{◌≡◌, true, ◌&&◌, ℕ, ◌+◌, ◌-◌, ◌*◌, ◌<◌, ◌≤◌, length, get_or};
+ghost use Rattle.std.specs.Prelude.{◌≡◌, true, ◌&&◌, ℕ, ◌+◌, ◌-◌, ◌*◌, ◌<◌, ◌≤◌, length};
 ghost use Rattle.card.specs.Format.{rule_count, line_count};
 ghost use Rattle.card.specs.Fault.{Sound};
 ghost use Rattle.lines.specs.Set.{member, join_s};

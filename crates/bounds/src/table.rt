@@ -12,9 +12,12 @@ pub const NO_NODE: usize = 512;
 // Where the names have each part: from 0 the head of each node, then the row of each name, the code of each class, and how many there are.
 pub const ROWS: usize = 512;
 
-pub const CLASSES: usize = 1512;
+pub const CLASS_CODES: usize = 1512;
 
 pub const CLASS_COUNT: usize = 1576;
+
+// How many names there are.
+pub const NAMES: usize = 1000;
 
 // Codes that are no names: no head, and the class of all clauses.
 pub const NO_HEAD: usize = 1000;
@@ -47,7 +50,7 @@ pub fn class(names: &[u16], c: usize) -> usize
     requires { (c < 64) × NameCells names.now }
     ensures { (result ≡ class_at names.now c) × (result < 65536) }
 {
-    names[CLASSES + c] as usize
+    names[CLASS_CODES + c] as usize
 }
 
 // Whether the class with this code takes in the clauses with the head.

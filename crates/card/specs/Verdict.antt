@@ -1,4 +1,4 @@
--- Refusals and their places (01, "Refused, and where"), and what each case of an answer enum tells of them.
+-- Refusals and their places (01, "Refused, and where"), and what a check's answer tells of them.
 use Rattle.std.specs.Prelude.{ℕ, zero, suc, Bool, true, false, Result, Ok, Err, ⊤}
 use Rattle.card.specs.declared.faults.Place.{Place}
 use Rattle.card.specs.declared.faults.Place.TheVariants.{Card, Node, Rule, Line, Sheet, Steps, Mark, Step}

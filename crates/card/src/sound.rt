@@ -4,6 +4,7 @@ use crate::kinds::{Kind, kind_of};
 use std::marker::Model;
 
 // What makes one has to know that the card is sound; in a clause it is its bytes.
+#[derive(Drop)]
 pub struct Card<'a> {
     bytes: &'a [u8],
 }

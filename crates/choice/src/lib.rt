@@ -1,7 +1,7 @@
 // The choice at a name: which entry is tried next, and where the given steps bear on it.
 #![tactic(auto)]
 
-ghost use Rattle.std.specs.Prelude.{◌≡◌, ℕ, ◌+◌, ◌-◌, ◌≤◌, ◌<◌, length, get_or, true};
+ghost use Rattle.std.specs.Prelude.{◌≡◌, ◌+◌, ◌-◌, ◌≤◌, ◌<◌, length, true};
 ghost use Rattle.card.specs.Format.{node_count, rule_count, line_count};
 ghost use Rattle.card.specs.Fault.{Sound, clause_part};
 ghost use Rattle.entries.specs.Inner.Entries.{code_fits};
@@ -34,6 +34,7 @@ fn fits(card: &[u8], code: usize, name: usize) -> bool
 }
 
 // The entry is at hand, and the lines that it waits for are seen.
+#[inline(always)]
 fn open(card: &[u8], waits: &[u64; 64], b: Branch, e: usize) -> bool
     requires { Sound card.now }
     ensures { result ≡ open_to card.now waits.now b e }
@@ -59,6 +60,7 @@ pub fn usable(
 }
 
 // The entry cannot be used for the name; where it has a menu, that is not asked.
+#[inline(always)]
 fn passes(card: &[u8], waits: &[u64; 64], b: Branch, name: usize, code: usize, e: usize) -> bool
     requires { Sound card.now }
     ensures { Passes card.now waits.now b name code e result }
@@ -67,6 +69,7 @@ fn passes(card: &[u8], waits: &[u64; 64], b: Branch, name: usize, code: usize, e
 }
 
 // The least of the entries from one on and below the end that is not passed.
+#[inline(always)]
 fn reach(
     card: &[u8],
     waits: &[u64; 64],

@@ -3,7 +3,7 @@
 // one memory is for one scope. A row is overwritten by the next key that falls on it. A row without tasks is free.
 #![tactic(auto)]
 
-ghost use Rattle.std.specs.Prelude.{◌≡◌, true, ◌↔◌, ◌≤◌, ◌<◌, length, get_or};
+ghost use Rattle.std.specs.Prelude.{◌≡◌, true, ◌↔◌, ◌≤◌, ◌<◌};
 ghost use Rattle.dead.specs.Inner.Rows.{mix, key_row, row_count, row_width, Stored, Recorded};
 ghost use Rattle.dead.specs.Inner.Barren.{Asking};
 

@@ -24,6 +24,7 @@ impl<'a> Record<'a> {
         Some(Record { label, card })
     }
 
+    // An Err is the writer's own; what was written before it stays written.
     fn print(&self, out: &mut impl Write) -> io::Result<()> {
         out.write_all(self.label)?;
         match checks::check(self.card) {

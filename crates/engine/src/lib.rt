@@ -68,12 +68,14 @@ impl<P: Prune> Search<P> {
             Kind::Atom => self.need(job, agenda, f, c),
             Kind::With | Kind::Lend => self.behind(job, agenda, f, c),
             Kind::Oplus | Kind::Zero => self.one_of(job, agenda, f, c),
+            // `unwind` leaves none of ⊤, 1 and ⊗ on top, and the others are no goals.
             Kind::Top | Kind::One | Kind::Tensor | Kind::Recipe | Kind::Menu | Kind::Unknown =>
-                Outcome::Stuck,
+                unreachable!(),
         }
     }
 
     // The next task is a name.
+    #[inline(always)]
     #[cycle(engine_search)]
     fn need(&mut self, job: &Job<'_>, agenda: &[u16; 104], f: Floor, b: Branch) -> Outcome
         requires ready { Ready job.now.card.now job.now.waits.now self.old.tape self.old.nodes self.old.heads f b }
@@ -100,6 +102,7 @@ impl<P: Prune> Search<P> {
     }
 
     // The entries from the given one on. The given step goes on with the floor, and those above it with none.
+    #[inline(always)]
     #[cycle(engine_search)]
     fn others(
         &mut self,
@@ -163,6 +166,7 @@ impl<P: Prune> Search<P> {
         match kind_of(job.card, goal) {
             Kind::Oplus => self.choose(job, agenda, false, goal, 0, n, f, b.dropped()),
             Kind::Zero => Outcome::Stuck,
+            // The task is ⊕ or 0.
             Kind::Atom
             | Kind::Top
             | Kind::One
@@ -171,7 +175,7 @@ impl<P: Prune> Search<P> {
             | Kind::Lend
             | Kind::Recipe
             | Kind::Menu
-            | Kind::Unknown => Outcome::Stuck,
+            | Kind::Unknown => unreachable!(),
         }
     }
 
@@ -206,6 +210,7 @@ impl<P: Prune> Search<P> {
         match kind_of(job.card, p.core) {
             Kind::Menu => self.choose(job, &rest, true, p.core, name, n, f, c),
             Kind::Atom => self.solve(job, &mut rest, f.fixed, f.from, c),
+            // Past its recipes, a clause is a head or a menu.
             Kind::Top
             | Kind::One
             | Kind::Tensor
@@ -214,7 +219,7 @@ impl<P: Prune> Search<P> {
             | Kind::Recipe
             | Kind::Oplus
             | Kind::Zero
-            | Kind::Unknown => Outcome::Stuck,
+            | Kind::Unknown => unreachable!(),
         }
     }
 
@@ -245,6 +250,7 @@ impl<P: Prune> Search<P> {
             return match kind_of(job.card, p.core) {
                 Kind::Menu => self.choose(job, agenda, true, p.core, name, n, f, c),
                 Kind::Atom => self.solve(job, agenda, f.fixed, f.from, c),
+                // As in `use_clause`.
                 Kind::Top
                 | Kind::One
                 | Kind::Tensor
@@ -253,7 +259,7 @@ impl<P: Prune> Search<P> {
                 | Kind::Recipe
                 | Kind::Oplus
                 | Kind::Zero
-                | Kind::Unknown => Outcome::Stuck,
+                | Kind::Unknown => unreachable!(),
             };
         }
         put(agenda, b.len, part, n);
@@ -421,6 +427,7 @@ impl<P: Prune> Search<P> {
         match kind_of(job.card, goal) {
             Kind::With => self.both_ways(job, goal, n, f, b),
             Kind::Lend => self.lent(job, goal, n, f, b),
+            // The goal is & or ⊸.
             Kind::Atom
             | Kind::Top
             | Kind::One
@@ -429,7 +436,7 @@ impl<P: Prune> Search<P> {
             | Kind::Oplus
             | Kind::Zero
             | Kind::Menu
-            | Kind::Unknown => Outcome::Stuck,
+            | Kind::Unknown => unreachable!(),
         }
     }
 

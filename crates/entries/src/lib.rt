@@ -1,7 +1,7 @@
 // The tables of the search: each entry's node and heads, and which lines each line waits for.
 #![tactic(auto)]
 
-ghost use Rattle.std.specs.Prelude.{◌≡◌, true, ◌+◌, ◌≤◌, ◌<◌, length, take, set};
+ghost use Rattle.std.specs.Prelude.{◌≡◌, true, ◌+◌, ◌≤◌, ◌<◌, take, set};
 ghost use Rattle.card.specs.Format.{node_count, rule_count, line_count, rule_node, listing};
 ghost use Rattle.card.specs.Fault.{Sound, clause_part};
 ghost use Rattle.card.specs.Decode.{job_of};

@@ -7,7 +7,7 @@ ghost use Rattle.card.specs.Fault.{Sound};
 ghost use Rattle.inside.specs.Inner.Inside.{Opening, InsideOpened, outside_w};
 
 use branch::{Branch, Way};
-use card::format::{byte, left};
+use card::format::left;
 use moves::{lent_item, right_alone};
 
 // D ⊸ G: D joins the scope and is strict, G is the only task.

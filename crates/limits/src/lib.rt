@@ -4,44 +4,40 @@
 ghost use Rattle.std.specs.Prelude.{◌≡◌, ◌≤◌};
 ghost use Rattle.card.specs.Format.{goal_node};
 ghost use Rattle.card.specs.Verdict.{told, refuse, card as cardAt};
-ghost use Rattle.card.specs.Fault.{Sound, height_at};
+ghost use Rattle.card.specs.Fault.{height_at};
 ghost use Rattle.joined.specs.Joined.{overfull};
 
-use card::format::{byte, word};
+use card::sound::Card;
 use card::{Fault, Place, Refusal, refuse};
 use nodes::height;
 
 // The height of the card's goal. Each node is looked at once, however often it is shared.
-fn goal_height(card: &[u8]) -> usize
-    requires { Sound card.now }
+fn goal_height(card: &Card<'_>) -> usize
     ensures { (result ≡ height_at card.now (goal_node card.now)) × (result ≤ 8) }
 {
-    let goal = word(card, 7);
+    let bytes = card.bytes();
+    let goal = card.goal();
     let mut heights = [0u8; 512];
     for i in 0..goal {
-        heights[i] = height(card, i, &heights) as u8;
+        heights[i] = height(bytes, i, &heights) as u8;
     }
-    height(card, goal, &heights)
+    height(bytes, goal, &heights)
 }
 
 // The joined P, T or N passes its limit, or the new goal is higher than 8.
-#[tactic(auto, using(card::proofs::CardChecked::front_here), unfolding(joined::specs::Joined::overfull, joined::specs::Joined::joined_height))]
-fn is_overfull(first: &[u8], second: &[u8]) -> bool
-    requires first_sound { Sound first.now }
-    requires second_sound { Sound second.now }
+#[tactic(auto, unfolding(joined::specs::Joined::overfull, joined::specs::Joined::joined_height))]
+fn is_overfull(first: &Card<'_>, second: &Card<'_>) -> bool
     ensures { result ≡ overfull first.now second.now }
 {
-    let rules = byte(first, 3) + byte(second, 3);
-    let lines = byte(first, 4) + byte(second, 4);
-    let nodes = word(first, 5) + word(second, 5) + 1;
+    let rules = first.rules() + second.rules();
+    let lines = first.lines() + second.lines();
+    let nodes = first.nodes() + second.nodes() + 1;
     let goal = goal_height(first).max(goal_height(second)) + 1;
     64 < rules || 64 < lines || 512 < nodes || 8 < goal
 }
 
 // 15.
-pub fn limits_check(first: &[u8], second: &[u8]) -> Result<(), Refusal>
-    requires first_sound { Sound first.now }
-    requires second_sound { Sound second.now }
+pub fn limits_check(first: &Card<'_>, second: &Card<'_>) -> Result<(), Refusal>
     ensures { told result ≡ refuse (overfull first.now second.now) 15 cardAt }
 {
     refuse(is_overfull(first, second), Fault::Overfull, Place::Card)

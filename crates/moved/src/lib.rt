@@ -3,13 +3,13 @@
 
 ghost use Rattle.std.specs.Prelude.{◌≡◌, [], ◌∷◌, ◌++◌, ◌+◌, ◌*◌, ◌≤◌, ◌<◌, length};
 ghost use Rattle.card.specs.Format.{node_count, rule_count, line_count};
-ghost use Rattle.card.specs.Fault.{Sound};
 ghost use Rattle.card.specs.Sheet.{word as word_bytes};
 ghost use Rattle.joined.specs.Joined.{shifted, node_bytes, moved_node, moved_nodes, moved_rules, moved_lines};
 ghost use Rattle.joined.specs.Inner.Written.{Written};
 
-use card::format::{byte, kind, left, line_byte, line_node, right, rule_node, word};
+use card::format::{kind, line_byte, line_node, rule_node};
 use card::kinds::Field;
+use card::sound::Card;
 use kinds::row;
 
 // A number of two bytes.
@@ -47,41 +47,39 @@ pub fn put_node(kind: u8, left: usize, right: usize, out: &mut [u8], at: usize)
 }
 
 // Node i, its parts shifted by n.
-fn put_moved(card: &[u8], n: usize, i: usize, out: &mut [u8], at: usize)
-    requires sound { Sound card.now }
+fn put_moved(card: &Card<'_>, n: usize, i: usize, out: &mut [u8], at: usize)
     requires n_bound { n ≤ 512 }
     requires i_bound { i < node_count card.now }
     requires room { at + 5 ≤ length out.old }
     ensures { Written out.old out.new at (moved_node n card.now i) }
 {
-    let k = kind(card, i);
+    let k = kind(card.bytes(), i);
     let asked = row(k);
-    let a = shift(n, asked.left, left(card, i));
-    let b = shift(n, asked.right, right(card, i));
+    let a = shift(n, asked.left, card.left(i));
+    let b = shift(n, asked.right, card.right(i));
     put_node(k as u8, a, b, out, at);
 }
 
 // All nodes, their parts shifted by n.
-pub fn put_nodes(card: &[u8], n: usize, out: &mut [u8], at: usize)
-    requires sound { Sound card.now }
+pub fn put_nodes(card: &Card<'_>, n: usize, out: &mut [u8], at: usize)
     requires n_bound { n ≤ 512 }
     requires room { at + 5 * node_count card.now ≤ length out.old }
     ensures { Written out.old out.new at (moved_nodes n card.now) }
 {
-    for i in 0..word(card, 5) {
+    for i in 0..card.nodes() {
         put_moved(card, n, i, out, at + 5 * i);
     }
 }
 
 // All rules, their nodes shifted by n.
-pub fn put_rules(card: &[u8], n: usize, out: &mut [u8], at: usize)
-    requires sound { Sound card.now }
+pub fn put_rules(card: &Card<'_>, n: usize, out: &mut [u8], at: usize)
     requires n_bound { n ≤ 512 }
     requires room { at + 2 * rule_count card.now ≤ length out.old }
     ensures { Written out.old out.new at (moved_rules n card.now) }
 {
-    for i in 0..byte(card, 3) {
-        put_word(n + rule_node(card, i), out, at + 2 * i);
+    let bytes = card.bytes();
+    for i in 0..card.rules() {
+        put_word(n + rule_node(bytes, i), out, at + 2 * i);
     }
 }
 
@@ -96,14 +94,14 @@ fn put_line(node: usize, must: u8, out: &mut [u8], at: usize)
 }
 
 // All lines, their nodes shifted by n.
-pub fn put_lines(card: &[u8], n: usize, out: &mut [u8], at: usize)
-    requires sound { Sound card.now }
+pub fn put_lines(card: &Card<'_>, n: usize, out: &mut [u8], at: usize)
     requires n_bound { n ≤ 512 }
     requires room { at + 3 * line_count card.now ≤ length out.old }
     ensures { Written out.old out.new at (moved_lines n card.now) }
 {
-    for i in 0..byte(card, 4) {
-        let must = line_byte(card, i) as u8;
-        put_line(n + line_node(card, i), must, out, at + 3 * i);
+    let bytes = card.bytes();
+    for i in 0..card.lines() {
+        let must = line_byte(bytes, i) as u8;
+        put_line(n + line_node(bytes, i), must, out, at + 3 * i);
     }
 }

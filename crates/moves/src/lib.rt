@@ -4,7 +4,7 @@
 
 ghost use Rattle.std.specs.Prelude.{◌≡◌, true, ℕ, ◌+◌, ◌-◌, ◌*◌, ◌≤◌, ◌<◌, length, get_or, set};
 ghost use Rattle.card.specs.Format.{node_count, rule_count, kind_at, left_at, right_at, byte_at};
-ghost use Rattle.card.specs.Fault.{Sound, clause_part, height_at};
+ghost use Rattle.card.specs.Fault.{Sound, clause_part};
 ghost use Rattle.branch.specs.Inner.Values.{Counted};
 ghost use Rattle.segment.specs.Inner.Tasks.{nest_of};
 ghost use Rattle.moves.specs.Inner.Moves.{raised_f, side_at, shut_by, start_b};

@@ -14,13 +14,13 @@ use bounds::table::{NO_HEAD, class, head, high, least, low, of_head, row};
 use card::kinds::Kind;
 
 // The greatest number in a cell: as a greatest number of items it is none.
-pub const NONE: usize = 255;
+pub const MOST: usize = 255;
 
 // A greatest number less b; none stays none.
 fn taken_off(h: usize, b: usize) -> usize
     ensures { (result ≤ h) × ((h < 255 → result ≡ h - b) × (255 ≤ h → result ≡ h)) }
 {
-    if h < NONE { h.saturating_sub(b) } else { h }
+    if h < MOST { h.saturating_sub(b) } else { h }
 }
 
 // The value at a recipe, 0 at any other clause.
@@ -102,7 +102,7 @@ pub fn least_step(card: &[u8], names: &[u16; 1577], table: &[u8; 66177], i: usiz
             let left = least(table, left_part(card, i));
             1 + left.min(least(table, right_part(card, i)))
         }
-        Kind::Zero => NONE,
+        Kind::Zero => MOST,
         Kind::Top | Kind::One | Kind::Menu | Kind::Unknown => 0,
     }
 }
@@ -136,7 +136,7 @@ pub fn low_step(card: &[u8], names: &[u16; 1577], table: &[u8; 66177], i: usize,
             let left = low(table, left_part(card, i), c);
             left.min(low(table, right_part(card, i), c))
         }
-        Kind::Zero => NONE,
+        Kind::Zero => MOST,
         Kind::Top | Kind::One | Kind::Menu | Kind::Unknown => 0,
     }
 }
@@ -149,7 +149,7 @@ pub fn high_step(card: &[u8], names: &[u16; 1577], table: &[u8; 66177], i: usize
 {
     match kind_at(card, i) {
         Kind::Atom => high(table, row(names, name_at(card, i)), c),
-        Kind::Top => NONE,
+        Kind::Top => MOST,
         Kind::Tensor => {
             let left = high(table, left_part(card, i), c);
             left + high(table, right_part(card, i), c)
@@ -183,7 +183,7 @@ pub fn node_fits(card: &[u8], names: &[u16; 1577], table: &[u8; 66177], i: usize
 {
     let h = high(table, i, c);
     low(table, i, c) <= low_step(card, names, table, i, c)
-        && (h == NONE || high_step(card, names, table, i, c) <= h)
+        && (h == MOST || high_step(card, names, table, i, c) <= h)
 }
 
 // Whether the bounds at row r take in so many steps and items of class c.
@@ -199,7 +199,7 @@ pub fn row_fits(
     ensures { (result ≡ true) ↔ RowFits table.now r c steps lowest highest }
 {
     let h = high(table, r, c);
-    least(table, r) <= steps && low(table, r, c) <= lowest && (h == NONE || highest <= h)
+    least(table, r) <= steps && low(table, r, c) <= lowest && (h == MOST || highest <= h)
 }
 
 // Whether the bounds of each head of the clause at node i take in the way to it: so many steps and items of class c before, its

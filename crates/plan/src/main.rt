@@ -10,6 +10,7 @@ use std::io;
 use std::io::Write;
 
 // A line for the number of steps, for each step, and for each line's mark.
+// An Err is the writer's own; what was written before it stays written.
 fn print_sheet(out: &mut impl Write, sheet: &Sheet) -> io::Result<()> {
     writeln!(out, "plan {}", sheet.steps.len())?;
     for step in sheet.steps {

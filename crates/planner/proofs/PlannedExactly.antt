@@ -19,8 +19,8 @@ use Rattle.card.specs.Sheet.{word, sheet_of}
 use Rattle.card.proofs.CardChecked.{sound_front}
 use Rattle.card.proofs.FaultsInRange.{fault_in_range}
 use Rattle.card.proofs.NodesDecoded.{listed_short}
-use Rattle.planning.specs.declared.Answer.{Answer}
-use Rattle.planning.specs.declared.Answer.TheVariants.{Planned}
+use Rattle.std.proofs.Common.{Result, Ok}
+use Rattle.card.specs.declared.faults.Refusal.{Refusal}
 use Rattle.planning.specs.Plan.{PlanVerdict, planned, refused, told_plan, room_of, Planning, faulty, short, none_within, planned_as}
 use Rattle.planning.specs.Plan.{room_for_any, NeverShort, PlanDecided, is_planned, is_refused, Carries}
 
@@ -98,7 +98,7 @@ unfolding sheet_of word
 lines_byte s = ap (λ (x : List ℕ). get_or x 4 0) s.bytes
 
 -- for a caller that reads the sheet by its byte 4: the steps and the marks lie within the buffer
-pub planned_room : (bs old new : List ℕ) (a : Answer) (k : ℕ) → a ≡ Planned k → Planning bs old (told_plan a) new
+pub planned_room : (bs old new : List ℕ) (a : Result ℕ Refusal) (k : ℕ) → a ≡ Ok k → Planning bs old (told_plan a) new
     → 5 + k + get_or new 4 0 ≤ length old
 unfolding told_plan
 planned_room bs old new a k e p =

@@ -1,20 +1,23 @@
--- What the search's answers show of the outcome.
-use Prim.Native.Nat.{ℕ}
-use mathlib.Core.Path.{◌≡◌, refl}
-use mathlib.Core.List.{List}
-use Rattle.calculus.specs.Job.{DerivableWithin, Listed}
+-- What the checks' and the search's answers show of the outcome.
+use Rattle.std.proofs.Common.{ℕ, List, ◌≡◌, Some, None, Err, refl, sym}
+use Rattle.calculus.specs.Job.{DerivableWithin}
+use Rattle.card.specs.declared.faults.Refusal.{Refusal}
+use Rattle.card.specs.Verdict.{told}
+use Rattle.card.specs.Fault.{first_fault}
 use Rattle.card.specs.Decode.{job_of}
-use Rattle.search.specs.declared.Found.{Found}
-use Rattle.search.specs.declared.Found.TheVariants.{List as ListOf, Nothing}
+use Rattle.planning.specs.Plan.{told_plan, Planning, faulty}
 use Rattle.search.specs.Inner.Found.{FirstOn, Finds}
 
-module _ (bs : List ℕ) where
-  pub list_found : {tape : List ℕ} {k : ℕ} {r : Found} → r ≡ ListOf k → Finds bs tape r → FirstOn bs tape k
-  unfolding Finds
-  list_found e h = rw e at h
+-- 1 to 9
+pub found_faulty : (bs old : List ℕ) (r : Refusal) → told (Err r) ≡ first_fault bs → Planning bs old (told_plan (Err r)) old
+unfolding told told_plan
+found_faulty bs old r e = faulty (sym e)
 
-  pub none_found : (tape : List ℕ) {r : Found} → r ≡ Nothing → Finds bs tape r → DerivableWithin (job_of bs) → ⊥
+module _ (bs tape : List ℕ) where
+  pub list_found : (k : ℕ) → Finds bs tape (Some k) → FirstOn bs tape k
   unfolding Finds
-  none_found tape e h d =
-      let none : (l : List ℕ) → Listed (job_of bs) l → ⊥ = rw e at h in
-      none _ (record { derivation = d.derivation; limited = d.limited; list = refl })
+  list_found k h = h
+
+  pub none_found : Finds bs tape None → DerivableWithin (job_of bs) → ⊥
+  unfolding Finds
+  none_found h d = h _ (record { derivation = d.derivation; limited = d.limited; list = refl })

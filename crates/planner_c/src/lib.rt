@@ -13,10 +13,10 @@ ghost use Rattle.bench_numbers.specs.BenchNumbers.{join_in, source_in, Carded, U
 pub extern "C" fn kit_plan(card: &[u8], sheet: &mut [u8]) -> u32
     ensures planning { Planning card.now sheet.old (plan_in result) sheet.new }
     ensures plain { Plain result }
-    ensures result_value { card_in result ≡ 0 }
+    ensures no_card { card_in result ≡ 0 }
 {
     let answer = planner::plan(card, sheet);
-    numbers::packed_plan(answer)
+    numbers::packed_answer(answer)
 }
 
 // Reads the sheet against the card: reader::read, its answer as a number that reads as the outcome.
@@ -25,10 +25,10 @@ pub extern "C" fn kit_read(card: &[u8], sheet: &[u8]) -> u32
     ensures reading { Reading card.now sheet.now (read_in result) }
     ensures accepts_exactly { AcceptsExactly card.now sheet.now (read_in result) }
     ensures plain { Plain result }
-    ensures result_value { card_in result ≡ 0 }
+    ensures no_card { card_in result ≡ 0 }
 {
     let answer = reader::read(card, sheet);
-    numbers::packed_read(answer)
+    numbers::packed_answer(answer)
 }
 
 // Joins two cards into the lent buffer: bench::join, its answer as a number that reads as the outcome.
@@ -47,7 +47,7 @@ pub extern "C" fn kit_join(first: &[u8], second: &[u8], joined: &mut [u8]) -> u3
 // Which card holds joined line i, and where its three bytes begin there: bench::locate, its answer as a number that reads as the outcome.
 #[unsafe(no_mangle)]
 pub extern "C" fn kit_source(first: &[u8], second: &[u8], i: u16) -> u32
-    ensures result_value { source_in result ≡ source_of first.now second.now i }
+    ensures source { source_in result ≡ source_of first.now second.now i }
     ensures plain { Plain result }
     ensures carded { Carded result }
 {

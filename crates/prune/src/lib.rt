@@ -94,6 +94,7 @@ impl<'a> Prune for Stock<'a> {
 
     ghost gives_up = { ⊥ };
 
+    #[inline(always)]
     fn doomed(&self, card: &[u8], nodes: &[u16; 256], agenda: &[u16; 104], b: Branch) -> bool {
         let names = self.names;
         let table = self.table;
@@ -112,7 +113,7 @@ impl<'a> Prune for Stock<'a> {
             b.strict,
             b.lax,
             room,
-        ) || unlent(card, b.count) && dead::known(&self.codes, &self.words, agenda, b)
+        ) || (unlent(card, b.count) && dead::known(&self.codes, &self.words, agenda, b))
     }
 
     fn dead_end(

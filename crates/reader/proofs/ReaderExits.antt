@@ -1,26 +1,25 @@
 -- What each way out of the reader's code shows of the outcome.
-use Rattle.std.proofs.Common.{ℕ, zero, suc, ◌+◌, ◌-◌, ◌≤◌, ◌<◌, ◌≡◌, refl, sym, ap, ap₂, subst, ◌∙◌, not, List, length, take, drop, Ok, Err, arith}
+use Rattle.std.proofs.Common.{ℕ, zero, suc, ◌+◌, ◌-◌, ◌≤◌, ◌<◌, ◌≡◌, refl, sym, ap, ap₂, ◌∙◌, not, List, length, take, drop, Ok, Err, arith}
 use Rattle.std.specs.Bool.{⊤}
 use lib.Dec.{eqb}
 use lib.ListN.{length-drop}
+use Rattle.std.proofs.lemmas.List.{length-take}
 use lib.Seq.{take_all}
 use Rattle.calculus.specs.Job.{Listed, surely_used}
 use Rattle.card.specs.declared.faults.Refusal.{Refusal}
-use Rattle.card.specs.Format.{byte_at, line_count, step_limit}
-use Rattle.card.specs.Verdict.{Verdict, Where, sound, fault, mark, refuse, ◌▹◌, first_of, told, number_of, where_of, steps}
+use Rattle.card.specs.Format.{byte_at, line_count}
+use Rattle.card.specs.Verdict.{Verdict, Where, sound, fault, mark, refuse, ◌▹◌, first_of, told, steps}
 use Rattle.card.specs.Fault.{Sound, first_fault}
 use Rattle.card.specs.Decode.{job_of}
-use Rattle.card.proofs.CardChecked.{passed}
 use Rattle.card.proofs.MarksByLines.{mark_same}
 use Rattle.lines.specs.declared.LineWord.{LineWord}
 use Rattle.scope.specs.Inner.Sets.{word_items, SureLines}
 use Rattle.scope.proofs.SetsAreItems.{word_lines}
 use Rattle.trace.specs.Inner.Listing.{told_followed, Following, strays, divides_not, follows, SurelyFollows}
 use Rattle.sheet_front.specs.Front.{step_count, steps_of, marks_in, sheet_fault}
-use Rattle.sheet_front.specs.Inner.Fitting.{Fitting}
 use Rattle.sheet_front.proofs.SheetFits.{fitting, steps_length}
 use Rattle.marks.specs.Marks.{mark_fault}
-use Rattle.reader.specs.Read.{ReadVerdict, accepted, refused, told_read, marks_fault, Reading, faulty, misfit, astray, undivided, wrong_mark, accepted_as}
+use Rattle.reader.specs.Read.{refused, told_read, marks_fault, Reading, faulty, misfit, astray, undivided, wrong_mark, accepted_as}
 
 first_same : (n : ℕ) {f g : ℕ → Verdict} → ((i : ℕ) → i < n → f i ≡ g i) → first_of n f ≡ first_of n g
 unfolding first_of
@@ -42,8 +41,8 @@ module _ (bs sh : List ℕ) (k : ℕ) (s : Sound bs) (fits : sheet_fault bs sh �
   lent_steps : take (5 + k - 5) (drop 5 sh) ≡ steps_of sh
   lent_steps = let e : 5 + k - 5 ≡ step_count sh = omega arith in ap (λ (n : ℕ). take n (drop 5 sh)) e
 
-  pub steps_few : length (take (5 + k - 5) (drop 5 sh)) ≤ step_limit bs
-  steps_few = let f = fitting bs sh fits in rw lent_steps (omega (arith, steps_length f))
+  pub steps_room : k ≤ length (take (5 + k - 5) (drop 5 sh))
+  steps_room = let f = fitting bs sh fits in rw lent_steps (omega (arith, steps_length f))
 
   -- and from 5 + k on: its marks
   lent_marks : take (length sh - (5 + k)) (drop (5 + k) sh) ≡ marks_in sh
@@ -54,10 +53,14 @@ module _ (bs sh : List ℕ) (k : ℕ) (s : Sound bs) (fits : sheet_fault bs sh �
   pub marks_room : line_count bs ≤ length (take (length sh - (5 + k)) (drop (5 + k) sh))
   marks_room = let f = fitting bs sh fits in rw lent_marks (simp length-drop (omega arith))
 
+  -- the walk goes along all of the lent steps
+  walked_steps : take k (take (5 + k - 5) (drop 5 sh)) ≡ steps_of sh
+  walked_steps = let e : 5 + k - 5 ≡ k = omega arith in take_all k (take (5 + k - 5) (drop 5 sh)) (simp length-take (omega arith)) ∙ lent_steps
+
   -- 13, 17, 18 and 19, of the lent steps
-  pub found_wrong : (r : Refusal) → Following bs (take (5 + k - 5) (drop 5 sh)) (told_followed (Err r)) → Reading bs sh (told_read (Err r))
+  pub found_wrong : (r : Refusal) → Following bs (take k (take (5 + k - 5) (drop 5 sh))) (told_followed (Err r)) → Reading bs sh (told_read (Err r))
   unfolding told_followed told_read
-  found_wrong r h = wrong (rw lent_steps at h) refl
+  found_wrong r h = wrong (rw walked_steps at h) refl
     where
       wrong : {v : Verdict} {m : ℕ} {w : Where} → Following bs (steps_of sh) v → v ≡ fault m w → Reading bs sh (refused m w)
       wrong (strays q) p = astray s fits (q ∙ p)
@@ -67,18 +70,18 @@ module _ (bs sh : List ℕ) (k : ℕ) (s : Sound bs) (fits : sheet_fault bs sh �
           rw (sym x, sym y) (undivided s fits q d)
       wrong (follows x) p = cc
 
-  pub found_list : (u : LineWord) → Following bs (take (5 + k - 5) (drop 5 sh)) (told_followed (Ok u)) → Listed (job_of bs) (steps_of sh)
+  pub found_list : (u : LineWord) → Following bs (take k (take (5 + k - 5) (drop 5 sh))) (told_followed (Ok u)) → Listed (job_of bs) (steps_of sh)
   unfolding told_followed
-  found_list u h = listed (rw lent_steps at h) refl
+  found_list u h = listed (rw walked_steps at h) refl
     where
       listed : {v : Verdict} → Following bs (steps_of sh) v → v ≡ sound → Listed (job_of bs) (steps_of sh)
       listed (strays q) p = cc
       listed (divides_not q n) p = cc
       listed (follows x) p = x
 
-  pub found_sure : (u : LineWord) → SurelyFollows bs (take (5 + k - 5) (drop 5 sh)) (Ok u) → SureLines bs (steps_of sh) u
+  pub found_sure : (u : LineWord) → SurelyFollows bs (take k (take (5 + k - 5) (drop 5 sh))) (Ok u) → SureLines bs (steps_of sh) u
   unfolding SurelyFollows
-  found_sure u h = rw lent_steps at h
+  found_sure u h = rw walked_steps at h
 
   -- 14, of the lent steps and marks
   module _ {sure : LineWord} (x : Listed (job_of bs) (steps_of sh)) (g : SureLines bs (steps_of sh) sure) {v : Verdict}

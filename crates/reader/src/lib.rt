@@ -1,21 +1,21 @@
 // The reader (01, "Refused, and where"; 02, #102 and #105): the checks of a card and a sheet in their order. It writes nothing.
 #![tactic(auto)]
 
-ghost use Rattle.card.specs.Fault.{Sound};
 ghost use Rattle.reader.specs.Read.{told_read, Reading, AcceptsExactly};
 
 use card::Refusal;
 use card::format::byte;
+use card::sound::Card;
 
 // 12, then 13, 17, 18 and 19, then 14. The steps and the marks are read where they stand in the sheet.
-fn read_sheet(card: &[u8], sheet: &[u8]) -> Result<u8, Refusal>
-    requires { Sound card.now }
+fn read_sheet(card: &Card<'_>, sheet: &[u8]) -> Result<u8, Refusal>
     ensures { Reading card.now sheet.now (told_read result) }
 {
+    let bytes = card.bytes();
     sheet_front::front_check(card, sheet)?;
     let k = byte(sheet, 3);
     let steps = &sheet[5..5 + k];
-    let sure = trace::steps_check(card, steps)?;
+    let sure = trace::steps_check(bytes, steps, k)?;
     marks::marks_check(card, steps, sure, &sheet[5 + k..])?;
     Ok(k as u8)
 }
@@ -25,6 +25,6 @@ pub fn read(card: &[u8], sheet: &[u8]) -> Result<u8, Refusal>
     ensures reading { Reading card.now sheet.now (told_read result) }
     ensures accepts_exactly { AcceptsExactly card.now sheet.now (told_read result) }
 {
-    checks::check(card)?;
-    read_sheet(card, sheet)
+    let card = checks::sound_card(card)?;
+    read_sheet(&card, sheet)
 }

@@ -1,6 +1,6 @@
 // The agenda as an array of tasks, each a goal's node and the nesting left to it; the next task is the last.
-ghost use Rattle.std.specs.Prelude.{◌≡◌, true, ◌+◌, ◌*◌, ◌≤◌, ◌<◌, ◌/◌, length, get_or, set};
-ghost use Rattle.card.specs.Format.{node_count, kind_at};
+ghost use Rattle.std.specs.Prelude.{◌≡◌, true, ◌+◌, ◌*◌, ◌≤◌, ◌<◌, ◌/◌, get_or, set};
+ghost use Rattle.card.specs.Format.{node_count};
 ghost use Rattle.card.specs.Fault.{Sound, clause_part, height_at};
 ghost use Rattle.branch.specs.Inner.Values.{Counted};
 ghost use Rattle.segment.specs.Inner.Tasks.{node_of, nest_of, Laid, Splitting, halves, Unwound, Opened, Pushing};

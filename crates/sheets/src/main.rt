@@ -27,6 +27,7 @@ impl<'a> Record<'a> {
         Some(Record { label, card, sheet })
     }
 
+    // An Err is the writer's own; what was written before it stays written.
     fn print(&self, out: &mut impl Write) -> io::Result<()> {
         out.write_all(self.label)?;
         match reader::read(self.card, self.sheet) {

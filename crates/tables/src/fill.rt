@@ -6,18 +6,18 @@ ghost use Rattle.bounds.specs.Inner.Table.{NameCells, TableCells, TableHeld, Nod
 
 use bounds::nodes::{kind_at, left_part, line_at, name_at, node_count, right_part, rule_at};
 use bounds::table::{
-    ALL, CLASS_COUNT, CLASSES, HIGHS, LEASTS, MOST_CLASSES, NO_HEAD, NO_NODE, ROWS, class, classes,
-    head, high, least, low, of_head, row,
+    ALL, CLASS_CODES, CLASS_COUNT, HIGHS, LEASTS, MOST_CLASSES, NAMES, NO_HEAD, NO_NODE, ROWS,
+    class, classes, head, high, least, low, of_head, row,
 };
 use card::format::byte;
 use card::kinds::Kind;
-use node_bounds::{NONE, head_step, high_step, least_step, low_step, weight};
+use node_bounds::{MOST, head_step, high_step, least_step, low_step, weight};
 
 // A number as a byte.
 fn capped(v: usize) -> u8
     ensures { result < 256 }
 {
-    v.min(NONE) as u8
+    v.min(MOST) as u8
 }
 
 fn put_name(names: &mut [u16; 1577], at: usize, v: usize)
@@ -63,7 +63,7 @@ fn fill_rows(card: &[u8], names: &mut [u16; 1577])
     requires cells { NameCells names.old }
     ensures { NameCells names.new }
 {
-    for a in 0..NO_HEAD {
+    for a in 0..NAMES {
         put_name(names, ROWS + a, NO_NODE);
     }
     for i in 0..node_count(card) {
@@ -86,7 +86,7 @@ fn add_class(names: &mut [u16; 1577], i: usize)
     let n = classes(names);
     let h = head(names, i);
     if n < MOST_CLASSES && !has_class(names, h) {
-        put_name(names, CLASSES + n, h);
+        put_name(names, CLASS_CODES + n, h);
         put_name(names, CLASS_COUNT, n + 1);
     }
 }
@@ -97,8 +97,8 @@ fn line_classes(card: &[u8], names: &mut [u16; 1577])
     requires cells { NameCells names.old }
     ensures { NameCells names.new }
 {
-    put_name(names, CLASSES, ALL);
-    put_name(names, CLASSES + 1, NO_HEAD);
+    put_name(names, CLASS_CODES, ALL);
+    put_name(names, CLASS_CODES + 1, NO_HEAD);
     put_name(names, CLASS_COUNT, 2);
     for i in 0..byte(card, 4) {
         let d = line_at(card, i);
@@ -169,9 +169,9 @@ fn start(card: &[u8], names: &[u16; 1577], table: &mut [u8; 66177])
     ensures { TableCells table.new }
 {
     let n = classes(names);
-    put_row(table, NO_NODE, n, 0, NONE);
+    put_row(table, NO_NODE, n, 0, MOST);
     for i in 0..node_count(card) {
-        put_row(table, i, n, NONE, 0);
+        put_row(table, i, n, MOST, 0);
     }
 }
 
@@ -241,9 +241,9 @@ fn rise(table: &mut [u8; 66177], at: usize, old: usize, v: usize, wide: bool) ->
     requires { (at < 66177) × TableCells table.old }
     ensures { TableCells table.new }
 {
-    let rose = old < v && old != NONE;
+    let rose = old < v && old != MOST;
     if rose {
-        put(table, at, if wide { NONE } else { v });
+        put(table, at, if wide { MOST } else { v });
     }
     rose
 }

@@ -29,6 +29,7 @@ impl<'a> Record<'a> {
         Some(Record { label, size, card })
     }
 
+    // An Err is the writer's own; what was written before it stays written.
     fn print(&self, out: &mut impl Write) -> io::Result<()> {
         let mut buffer = [FILL; 324];
         let size = self.size.min(buffer.len());

@@ -16,13 +16,10 @@ use Rattle.lines.proofs.CountLaws.{bit_one}
 use Rattle.card.specs.Format.{node_count, rule_count, kind_at, left_at, right_at}
 use Rattle.card.specs.Fault.{goal_part, clause_part, height_at}
 use Rattle.card.specs.Decode.{goal_at, clause_of, scope_of}
-use Rattle.card.specs.Kinds.{Numbered}
-use Rattle.card.specs.declared.kinds.Kind.{Kind}
-use Rattle.card.specs.declared.kinds.Kind.TheVariants.{Atom, Top, One, Tensor, With, Lend, Recipe, Oplus, Zero, Menu, Unknown}
 use Rattle.card.specs.Inner.Size.{weight, clause_weight}
 use Rattle.card.proofs.CardChecked.{sound_front}
 use Rattle.card.proofs.NodesDecoded.{reads_name, reads_never, line_within}
-use Rattle.card.proofs.SoundNodes.{goal_lower, goal_kind, goal_above, clause_lower, clause_above, clause_kind, node_here, height_low}
+use Rattle.card.proofs.SoundNodes.{goal_lower, goal_above, clause_lower, clause_above, clause_kind, node_here, height_low}
 use Rattle.card.proofs.SoundNodes.{height_pos, height_parts, both_parts, either_parts, lend_parts, recipe_parts}
 use Rattle.card.proofs.SoundNodes.{one_of_parts, menu_parts, sound_both, sound_either, sound_lend, sound_recipe, sound_one_of}
 use Rattle.card.proofs.SoundNodes.{sound_menu, usable_name, usable_rest, usable_recipe}
@@ -271,27 +268,6 @@ module _ {bs steps : List ℕ} {ts : Tables} {b : Position} (R : WalkReady bs st
           (ready_on F met (met_low F met em), part_ready (right_at bs node) (on_b b w.at met) second heights.1 refl refl refl),
         )
 
-    -- a goal is no recipe, no menu and of no unknown kind
-    no_goal : (kind_at bs node ≡ 0) ⊎ ((kind_at bs node ≡ 7) ⊎ (10 ≤ kind_at bs node)) → ⊥
-    no_goal h =
-        let k = goal_kind bs (node_count bs) node Q.is_goal_part in
-        ⊎_elim (λ z. omega (arith, z, k.0))
-        (⊎_elim (λ s. ⊎_elim (λ l. omega (arith, s, l)) (⊎_elim (λ l. omega (arith, s, l)) (λ l. omega (arith, s, l))) k.1)
-        (λ m. ⊎_elim (λ l. omega (arith, m, l)) (⊎_elim (λ l. omega (arith, m, l)) (λ l. omega (arith, m, l))) k.1)) h
-
-    pub other_zero : (k : Kind) → Numbered k (kind_at bs node) → (k ≡ Zero) ⊎ ((k ≡ Recipe) ⊎ ((k ≡ Menu) ⊎ (k ≡ Unknown)))
-        → kind_at bs node ≡ 9
-    other_zero k e (inl q) = subst (λ x. Numbered x (kind_at bs node)) q e
-    other_zero k e (inr (inl q)) =
-        let h : kind_at bs node ≡ 7 = subst (λ x. Numbered x (kind_at bs node)) q e in
-        absurd (no_goal (inr (inl h)))
-    other_zero k e (inr (inr (inl q))) =
-        let h : kind_at bs node ≡ 10 = subst (λ x. Numbered x (kind_at bs node)) q e in
-        absurd (no_goal (inr (inr (omega (arith, h)))))
-    other_zero k e (inr (inr (inr q))) =
-        let h : (kind_at bs node ≡ 0) ⊎ (11 ≤ kind_at bs node) = subst (λ x. Numbered x (kind_at bs node)) q e in
-        absurd (⊎_elim (λ z. no_goal (inl z)) (λ m. no_goal (inr (inr (omega (arith, m))))) h)
-
     pub tensor_parts : kind_at bs node ≡ 4 → (3 < kind_at bs node) × (kind_at bs node ≡ 9 → ⊥)
         × (goal_part bs node (left_at bs node) ≡ true) × (goal_part bs node (right_at bs node) ≡ true)
         × (weight (goal_at bs (left_at bs node)) + weight (goal_at bs (right_at bs node)) < weight (goal_at bs node))
@@ -503,25 +479,11 @@ module _ {bs steps : List ℕ} {ts : Tables} {b : Position} (R : WalkReady bs st
         (at_once {r = Ok (ended_w b false true)} (ends_here false R.at
         (λ g e. traced_head (sym (usable_name bs node k (scope_of bs).fits name) ∙ Q.fitting) e)))
 
-    -- a clause that can be used and is neither a name nor a menu is a recipe
-    pub kind_seven : (kind_at bs node ≡ 1 → ⊥) → (kind_at bs node ≡ 10 → ⊥) → kind_at bs node ≡ 7
-    kind_seven n m = ⊎_elim (λ k. absurd (n k))
-        (⊎_elim (λ k. absurd (false≢true (sym (usable_rest bs node k (scope_of bs).fits name) ∙ Q.fitting)))
-        (⊎_elim (λ k. k) (λ k. absurd (m k))))
+    -- a clause that can be used for a name is a name, a recipe or a menu
+    pub usable_kind : (kind_at bs node ≡ 1) ⊎ ((kind_at bs node ≡ 7) ⊎ (kind_at bs node ≡ 10))
+    usable_kind = ⊎_elim inl
+        (⊎_elim (λ k. absurd (false≢true (sym (usable_rest bs node k (scope_of bs).fits name) ∙ Q.fitting))) inr)
         (clause_kind bs (node_count bs) node Q.clause_node)
-
-    pub other_recipe : (k : Kind) → Numbered k (kind_at bs node) → (k ≡ Atom → ⊥) → (k ≡ Menu → ⊥) → kind_at bs node ≡ 7
-    other_recipe Recipe e n m = e
-    other_recipe Atom e n m = absurd (n refl)
-    other_recipe Menu e n m = absurd (m refl)
-    other_recipe Top e n m = kind_seven (λ h. omega (arith, e, h)) (λ h. omega (arith, e, h))
-    other_recipe One e n m = kind_seven (λ h. omega (arith, e, h)) (λ h. omega (arith, e, h))
-    other_recipe Tensor e n m = kind_seven (λ h. omega (arith, e, h)) (λ h. omega (arith, e, h))
-    other_recipe With e n m = kind_seven (λ h. omega (arith, e, h)) (λ h. omega (arith, e, h))
-    other_recipe Lend e n m = kind_seven (λ h. omega (arith, e, h)) (λ h. omega (arith, e, h))
-    other_recipe Oplus e n m = kind_seven (λ h. omega (arith, e, h)) (λ h. omega (arith, e, h))
-    other_recipe Zero e n m = kind_seven (λ h. omega (arith, e, h)) (λ h. omega (arith, e, h))
-    other_recipe Unknown e n m = kind_seven (λ h. omega (arith, e, h)) (λ h. omega (arith, e, h))
 
     -- G ⊸ D
     module _ (kind : kind_at bs node ≡ 7) where

@@ -37,8 +37,9 @@ pub fn walk(
         Kind::With => walk_with(card, steps, tables, b, node),
         Kind::Lend => walk_lend(card, steps, tables, b, node),
         Kind::Oplus => walk_one_of(card, steps, tables, b, node),
-        // 0. A goal is neither a recipe nor a menu, nor of an unknown kind.
-        Kind::Zero | Kind::Recipe | Kind::Menu | Kind::Unknown => Ok(b.ended(false, false)),
+        Kind::Zero => Ok(b.ended(false, false)),
+        // No goal is of these kinds.
+        Kind::Recipe | Kind::Menu | Kind::Unknown => unreachable!(),
     }
 }
 
@@ -210,8 +211,16 @@ fn conditions(
     match kind_of(card, node) {
         Kind::Atom => Ok(b.ended(false, true)),
         Kind::Menu => menu(card, steps, tables, b, name, node),
-        // Of the other clauses only a recipe can be used for a name.
-        _ => recipe(card, steps, tables, b, name, node),
+        Kind::Recipe => recipe(card, steps, tables, b, name, node),
+        // ⊤ serves no name, and no clause is of the other kinds.
+        Kind::Top
+        | Kind::One
+        | Kind::Tensor
+        | Kind::With
+        | Kind::Lend
+        | Kind::Oplus
+        | Kind::Zero
+        | Kind::Unknown => unreachable!(),
     }
 }
 

@@ -1,22 +1,18 @@
 -- `put_all_nodes` meets its contract: the second's nodes stand behind the first's, and the new node behind both.
 use Rattle.std.proofs.Common.{◌+◌, ◌*◌, length-append, arith}
 use Rattle.card.specs.Format.{node_count}
-use Rattle.card.proofs.CardChecked.{sound_front}
 use Rattle.joined.specs.Joined.{moved_nodes}
 use Rattle.joined.proofs.LaidInTurn.{length_moved_nodes}
 use Rattle.joined.proofs.WrittenInTurn.{written_behind}
 use Rattle.joining.proofs.put_all_nodes.Goals as goal
-
-pub put_nodes-requires-2-clause-n_bound : goal.put_nodes-requires-2-clause-n_bound
-put_nodes-requires-2-clause-n_bound c = omega (arith, c.word-n.ensures.0, (sound_front _ c.requires.first_sound).few)
 
 pub returns : goal.returns
 returns c =
     let first = c.args.first.now in
     let second = c.args.second.now in
     let room = c.requires.room in
-    let n = c.word-n.ensures.0 in
-    let m = c.word-m.ensures.0 in
+    let n = c.nodes-n.ensures.0 in
+    let m = c.nodes-m.ensures.0 in
     let l = length_moved_nodes 0 first in
     let r = length_moved_nodes (node_count first) second in
     let both = length-append (moved_nodes 0 first) (moved_nodes (node_count first) second) in

@@ -1,7 +1,10 @@
-use mathlib.Core.Path.{sym, subst}
-use native.Mathlib.Omega.{arith}
+-- `plan_sound` meets its contract: 10, 11, or the sheet of the first list.
+use Rattle.std.proofs.Common.{arith}
+use Rattle.std.proofs.lemmas.List.{length-take}
+use Rattle.std.proofs.lemmas.Result.{err_from_is_err_and}
+use Rattle.card.specs.Verdict.{where_of}
 use Rattle.card.proofs.CardChecked.{sound_front}
-use Rattle.planning.specs.Plan.{PlanVerdict, Planning, short, none_within}
+use Rattle.planning.specs.Plan.{told_plan, none_within}
 use Rattle.planning.proofs.SheetPlanned.{room_enough, room_short}
 use Rattle.planner.proofs.PlannerExits.{list_found, none_found}
 use Rattle.planner.proofs.plan_sound.Goals as goal
@@ -9,26 +12,32 @@ use Rattle.planner.proofs.plan_sound.Goals as goal
 pub room_for-requires : goal.room_for-requires
 room_for-requires c = let front = sound_front _ c.requires in omega arith
 
-pub returns-in_default : goal.returns-in_default
-returns-in_default c =
-    let s = c.args in
-    subst (λ (v : PlanVerdict). Planning s.card.now s.sheet.now v s.sheet.now) (sym c.no_room.ensures)
-    (short c.requires (room_short _ c.in_default.is c.room_for.ensures))
+pub returns-in_err-room_for : goal.returns-in_err-room_for
+returns-in_err-room_for c =
+    let p = err_from_is_err_and c.from_residual.result c.from_residual.ensures.1 in
+    rw (p.1, p.2) (room_short _ _ _ c.requires c.in_err-room_for.ensures)
 
-pub returns-in_default-first_list : goal.returns-in_default-first_list
-returns-in_default-first_list c =
-    let s = c.args in
-    subst (λ (v : PlanVerdict). Planning s.card.now s.sheet.now v s.sheet.now) (sym c.no_plan.ensures)
-    (none_within c.requires
-    (room_enough _ c.in-Enough.is
-    c.room_for.ensures)
-    (none_found _ _ c.in_default-first_list.is c.first_list.ensures.finds))
+pub returns-in_default : goal.returns-in_default
+unfolding told_plan where_of
+returns-in_default c =
+    none_within c.requires (room_enough _ _ _ c.in_ok-room_for.ensures) (none_found _ _ (rw c.in_default.is at c.first_list.ensures))
 
 pub sure_lines-sure-requires : goal.sure_lines-sure-requires
 sure_lines-sure-requires c =
-    let f = list_found _ c.in-List.is c.first_list.ensures.finds in record { sound = c.requires; k_in_bounds = omega (arith, f.room, c.first_list.ensures.tape_len_2); listed = f.first.listed }
+    let f = list_found _ _ _ c.in-Some.ensures in record { sound = c.requires; k_in_bounds = omega arith; listed = f.first.listed }
 
-pub write_plan-requires : goal.write_plan-requires
-write_plan-requires c =
-    let f = list_found _ c.in-List.is c.first_list.ensures.finds in
-    let room = room_enough _ c.in-Enough.is c.room_for.ensures in record { sound = c.requires; steps_len = c.first_list.ensures.tape_len_2; k_bound = f.room; first = f.first; sure_lines = c.sure_lines-sure.ensures; card_in_bounds = room }
+pub slice_bounds-tape-end : goal.slice_bounds-tape-end
+slice_bounds-tape-end c = let f = list_found _ _ _ c.in-Some.ensures in omega arith
+
+pub slice_bounds-write_plan-end : goal.slice_bounds-write_plan-end
+slice_bounds-write_plan-end c = let f = list_found _ _ _ c.in-Some.ensures in simp length-take (omega arith)
+
+pub write_plan-requires-clause-first : goal.write_plan-requires-clause-first
+write_plan-requires-clause-first c = let f = list_found _ _ _ c.in-Some.ensures in f.first
+
+pub write_plan-requires-clause-room : goal.write_plan-requires-clause-room
+write_plan-requires-clause-room c = room_enough _ _ _ c.in_ok-room_for.ensures
+
+pub returns : goal.returns
+unfolding told_plan
+returns c = c.write_plan.ensures

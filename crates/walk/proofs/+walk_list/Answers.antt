@@ -8,11 +8,12 @@ use Rattle.calculus.proofs.SurelyByList.{traced_1, traced_⊤}
 use Rattle.card.specs.Format.{left_at, right_at}
 use Rattle.card.specs.Decode.{clause_of, scope_of}
 use Rattle.card.proofs.NodesDecoded.{reads_rest, reads_done}
+use Rattle.card.proofs.SoundNodes.{goal_kind}
 use Rattle.walk.proofs.CallsAreReady.{Fitting, entry_room, first_lost, run_lost, run_tensor, run_with, goal_here}
-use Rattle.walk.proofs.CallsAreReady.{done_ends, never_ends, other_zero, left_call, right_call, tensor_parts, with_parts, tensor_both}
+use Rattle.walk.proofs.CallsAreReady.{done_ends, never_ends, left_call, right_call, tensor_parts, with_parts, tensor_both}
 use Rattle.walk.proofs.CallsAreReady.{tensor_joins, with_both, with_joins, put_room, lend_call, lend_lost, lend_done, one_of_lost}
 use Rattle.walk.proofs.CallsAreReady.{one_of_room, one_of_call, one_of_done, atom_lost, atom_call, atom_done, clause_here, head_ends}
-use Rattle.walk.proofs.CallsAreReady.{other_recipe, recipe_both, recipe_joins, recipe_call, condition_call, menu_clauses}
+use Rattle.walk.proofs.CallsAreReady.{usable_kind, recipe_both, recipe_joins, recipe_call, condition_call, menu_clauses}
 use Rattle.walk.proofs.CallsAreReady.{menu_lost, menu_room, menu_call, menu_done, use_call, use_lost, rule_done, met_room, item_done, item_low}
 use Rattle.walk.proofs.+walk_list.Goals as goal
 
@@ -30,18 +31,13 @@ pub conditions-returns-in-Atom : goal.conditions-returns-in-Atom
 conditions-returns-in-Atom t c =
     head_ends c.requires.walk_ready _ _ c.requires.clause_ready c.in-Atom.ensures _ c.ended.ensures
 
--- what is neither a head nor a menu is a recipe
 pub conditions-recipe-requires : goal.conditions-recipe-requires
-conditions-recipe-requires t c = (
-  omega (arith, c.decreases),
-  (
-    c.requires.walk_ready,
-    (
-      c.requires.clause_ready,
-      other_recipe c.requires.walk_ready _ _ c.requires.clause_ready _ c.kind_of.ensures c.in_default.not-Atom c.in_default.not-Menu,
-    ),
-  ),
-)
+conditions-recipe-requires t c =
+    (omega (arith, c.decreases), (c.requires.walk_ready, (c.requires.clause_ready, c.in-Recipe.ensures)))
+
+pub conditions-unreachable-requires : goal.conditions-unreachable-requires
+conditions-unreachable-requires t c =
+    grind (arith, c.kind_of.ensures, c.in-Top.is, usable_kind c.requires.walk_ready _ _ c.requires.clause_ready)
 
 pub menu-left-requires : goal.menu-left-requires
 menu-left-requires t c = clause_here c.requires.walk_ready _ _ c.requires.clause_ready
@@ -170,8 +166,11 @@ walk-returns-in-One t c =
 
 pub walk-returns-in-Zero : goal.walk-returns-in-Zero
 walk-returns-in-Zero t c =
-    never_ends c.requires.walk_ready _ c.requires.goal_walk_ready
-    (other_zero c.requires.walk_ready _ c.requires.goal_walk_ready _ c.kind_of.ensures c.in-Zero.is) _ c.ended-in-Zero.ensures
+    never_ends c.requires.walk_ready _ c.requires.goal_walk_ready c.in-Zero.ensures _ c.ended-in-Zero.ensures
+
+pub walk-unreachable-requires : goal.walk-unreachable-requires
+walk-unreachable-requires t c =
+    grind (arith, c.kind_of.ensures, c.in-Recipe.is, goal_kind _ _ _ c.requires.goal_walk_ready.is_goal_part)
 
 pub walk_atom-left-name-requires : goal.walk_atom-left-name-requires
 walk_atom-left-name-requires t c = goal_here c.requires.walk_ready _ c.requires.goal_walk_ready

@@ -864,10 +864,10 @@ enter-returns-in-Atom-clause-entering g t c =
     rw c.if-meets.true (head_told rd q c.push-p.ensures (λ k. omega (arith, k, c.in-Atom.ensures)) _ c.sized-c.ensures.value
     c.solve.ensures.solving)
 
-pub enter-returns-in-Top : goal.enter-returns-in-Top
-enter-returns-in-Top g t c =
+pub enter-unreachable-requires : goal.enter-unreachable-requires
+enter-unreachable-requires g t c =
     let q = rw c.if-meets.true at c.requires.part_ready in
-    absurd (grind (arith, c.kind_of.ensures, c.in-Top.is, core_kinds c.requires.ready q c.push-p.ensures))
+    grind (arith, c.kind_of.ensures, c.in-Top.is, core_kinds c.requires.ready q c.push-p.ensures)
 
 pub one_of-kind_of-requires : goal.one_of-kind_of-requires
 one_of-kind_of-requires g t c =
@@ -898,24 +898,24 @@ one_of-returns-in-Zero g t c =
       stays = stays_stuck _ c.requires.equipped;
     }
 
-pub one_of-returns-in-Atom : goal.one_of-returns-in-Atom
-one_of-returns-in-Atom g t c =
-    absurd (grind (
+pub one_of-unreachable-requires : goal.one_of-unreachable-requires
+one_of-unreachable-requires g t c =
+    grind (
       arith,
       c.kind_of.ensures,
       c.in-Atom.is,
       one_of_kinds c.requires.ready c.requires.one_of_next _ c.node-goal.ensures,
-    ))
+    )
 
 pub part-kind_of-requires : goal.part-kind_of-requires
 part-kind_of-requires g t c =
     let rd = c.requires.ready in
     node_here rd.sound c.args.goal (goal_low rd.sound c.requires.goal_ready.0)
 
-pub part-returns-in-Atom : goal.part-returns-in-Atom
-part-returns-in-Atom g t c =
+pub part-unreachable-requires : goal.part-unreachable-requires
+part-unreachable-requires g t c =
     let q = c.requires.goal_ready.0 in
-    absurd (grind (arith, c.kind_of.ensures, c.in-Atom.is, q.kind, part_kind c.requires.ready.sound q))
+    grind (arith, c.kind_of.ensures, c.in-Atom.is, q.kind, part_kind c.requires.ready.sound q)
 
 pub solve-kind_of-requires : goal.solve-kind_of-requires
 solve-kind_of-requires g t c =
@@ -996,16 +996,16 @@ solve-returns-in-With-clause-solving g t c = unwound_searched c.unwind-c.ensures
 pub solve-returns-in-Oplus-clause-solving : goal.solve-returns-in-Oplus-clause-solving
 solve-returns-in-Oplus-clause-solving g t c = unwound_searched c.unwind-c.ensures.unwound c.one_of.ensures.solving
 
-pub solve-returns-in-Top : goal.solve-returns-in-Top
-solve-returns-in-Top g t c =
+pub solve-unreachable-requires : goal.solve-unreachable-requires
+solve-unreachable-requires g t c =
     let u = c.unwind-c.ensures.unwound in
     let some = c.if-c-eq0.false in
-    absurd (grind (
+    grind (
       arith,
       c.kind_of.ensures,
       c.in-Top.is,
       open_kind _ u.laid c.unwind-c.ensures.opened (omega arith) (ap (kind_at c.args.job.now.card.now) c.node.ensures),
-    ))
+    )
 
 pub use_clause-kind_of-requires : goal.use_clause-kind_of-requires
 use_clause-kind_of-requires g t c =
@@ -1056,12 +1056,12 @@ use_clause-returns-in-Atom-clause-using g t c =
     c.byte.ensures.0 c.byte-2.ensures.0 c.push-p.ensures _ c.using-c.ensures.value
     (λ k. omega (arith, k, c.in-Atom.ensures)) c.solve.ensures.solving
 
-pub use_clause-returns-in-Top : goal.use_clause-returns-in-Top
-use_clause-returns-in-Top g t c =
+pub use_clause-unreachable-requires : goal.use_clause-unreachable-requires
+use_clause-unreachable-requires g t c =
     let can = c.requires.can_use.0 in
-    absurd (grind (
+    grind (
       arith,
       c.kind_of.ensures,
       c.in-Top.is,
       use_kinds c.requires.ready can.step.next can _ _ _ _ _ _ refl c.inner-n.ensures c.requires.can_use.1 refl refl refl c.push-p.ensures,
-    ))
+    )
