@@ -91,6 +91,7 @@ pub fn start(card: &[u8]) -> Branch
     requires { Sound card.now }
     ensures value { result ≡ start_b card.now }
     ensures counted { Counted result }
+    ensures short { result.limit ≤ 255 }
 {
     let lines = byte(card, 4);
     let strict = scope::strict_lines(card);

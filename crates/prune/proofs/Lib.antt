@@ -1,5 +1,4 @@
 -- Laws of the prunings.
 pub mod ScopesAgree
 pub mod RootsKept
-pub mod StockKept
 pub mod PruningsTell

@@ -17,17 +17,13 @@ use Rattle.dead.proofs.DeadStaysDead.{barren_none, stored_barren, recorded_hones
 use Rattle.bounds.specs.Inner.Table.{Settled}
 use Rattle.bounds.specs.Inner.Doom.{Coded, Doomed}
 use Rattle.bounds.proofs.DoomedHasNone.{doomed_none}
-use Rattle.prune.specs.Inner.Prune.{job_count, PruneAsks, Memory, Doom}
+use Rattle.prune.specs.Inner.Prune.{job_count, PruneAsks, Doom}
 use Rattle.prune.proofs.ScopesAgree.{scopes_agree, entered, stocked}
 
 -- the tasks are goals of the card
 pub coded : {bs agenda : List ℕ} {len count : ℕ} → Laid bs agenda len count → Coded bs agenda len
 unfolding node_of
 coded l = record { goals = λ k h. (l.fits k h).is_goal_part }
-
--- a run that does not count its dead ends has a memory
-pub remembering : {bs codes words : List ℕ} → Memory bs codes words → (length words ≡ 1 → ⊥) → Honest bs (job_of bs).scope codes words
-remembering m h = ⊎_elim (λ p. absurd (h p)) (λ p. p) m
 
 module _ {bs nodes agenda : List ℕ} {b : Branch} (a : PruneAsks bs nodes agenda b) where
   -- what the memory is handed
@@ -61,5 +57,5 @@ module _ {bs nodes agenda : List ℕ} {b : Branch} (a : PruneAsks bs nodes agend
 
   -- what is remembered is so
   pub honest_more : {codes words codes' words' : List ℕ} → b.count ≡ job_count bs → Honest bs (job_of bs).scope codes words
-      → BarrenIn bs (scope_in bs nodes b.count) agenda b → Recorded codes words codes' words' agenda b → Memory bs codes' words'
-  honest_more n h d m = inr (recorded_honest h (rw (job_scope n) at d) m)
+      → BarrenIn bs (scope_in bs nodes b.count) agenda b → Recorded codes words codes' words' agenda b → Honest bs (job_of bs).scope codes' words'
+  honest_more n h d m = recorded_honest h (rw (job_scope n) at d) m

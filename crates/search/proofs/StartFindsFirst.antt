@@ -27,16 +27,19 @@ use Rattle.entries.proofs.TwinsLoseNothing.{first_eligible, none_eligible}
 use Rattle.agenda.specs.Inner.Agenda.{Agenda, task}
 use Rattle.agenda.specs.Inner.Sought.{Place, None, Least, start_place}
 use Rattle.agenda.proofs.StartTells.{start_none, start_least}
+use Rattle.std.specs.Prelude.{Option}
 use Rattle.branch.specs.declared.Branch.{Branch}
 use Rattle.branch.specs.declared.Way.{Way}
 use Rattle.branch.specs.declared.Floor.{Floor}
-use Rattle.branch.specs.Inner.Values.{Answer, Solved, Stuck, Tired}
+use Rattle.branch.specs.declared.Outcome.{Outcome}
+use Rattle.branch.specs.declared.Outcome.TheVariants.{Solved as IsSolved, Stuck as IsStuck, Tired as IsTired}
+use Rattle.branch.specs.Inner.Values.{Answer, Solved, Stuck, Tired, answer_in}
 use Rattle.segment.specs.Inner.Tasks.{agenda_of, Laid}
 use Rattle.segment.proofs.TasksAreAgendas.{agenda_one, laid_one}
 use Rattle.choice.specs.Inner.Choice.{given_at, from_at}
 use Rattle.engine.specs.Inner.Engine.{place_at, Ready, Solves, Told, Solving}
 use Rattle.moves.specs.Inner.Moves.{start_b}
-use Rattle.search.specs.Inner.Found.{FirstOn, Ran, Starts}
+use Rattle.search.specs.Inner.Found.{FirstOn, Ran, Starts, Finds, FoundSays}
 use Rattle.entries.proofs.TablesAreScopes.{entered_kept, scope_kept}
 
 -- no floor
@@ -155,6 +158,10 @@ pub start_count : (bs : List ℕ) {b : Branch} → b ≡ start_b bs → b.count 
 unfolding start_b
 start_count bs e = ap (λ x. x.count) e
 
+pub start_limit : (bs : List ℕ) {b : Branch} → b ≡ start_b bs → b.limit ≤ 255 → step_limit bs < 256
+unfolding start_b
+start_limit bs {b} e h = let q : b.limit ≡ step_limit bs = ap (λ x. x.limit) e in omega arith
+
 pub record AtGoal (bs zeros codes : List ℕ) (b : Branch) (goal depth : ℕ) : Type 0 where
   pub branch : b ≡ start_b bs
   pub goal_is : goal ≡ goal_node bs
@@ -192,18 +199,9 @@ module _ {bs zeros codes : List ℕ} {b : Branch} {goal depth : ℕ} (s : Sound 
         at Stuck y = none_found s zeros a.room tape nodes e y refl
         at Tired y = tt
 
-    -- what the next run starts from
-    pub started : {waits : List ℕ} → Starts bs waits tape nodes heads → Starts bs waits tape' nodes' heads'
-    unfolding start_b
-    started {waits} q = at answered
-      where
-        at : Solving bs (goal_codes s zeros a.room) no_floor (start_b bs) tape tape' nodes nodes' heads heads' r
-            → Starts bs waits tape' nodes' heads'
-        at y = record {
-          sound = q.sound;
-          waiting = q.waiting;
-          tape_room = y.tape_kept.size ∙ q.tape_room;
-          entered = entered_kept nodes' heads' q.entered (y.node_kept.size ∙ q.entered.node_room)
-              (y.head_kept.size ∙ q.entered.head_room) (sym y.node_kept.same) (sym y.head_kept.same);
-          scope = scope_kept bs nodes' nodes (rule_count bs + line_count bs) y.node_kept.same ∙ q.scope;
-        }
+-- what a run says is what is found
+pub says_finds : (bs tape : List ℕ) (w : Way) (r : Outcome) (s : Option ℕ) → Ran bs tape (answer_in r w) → FoundSays w r s → Finds bs tape s
+unfolding Ran FoundSays Finds answer_in
+says_finds bs tape w IsSolved s q e = rw e q
+says_finds bs tape w IsStuck s q e = rw e q
+says_finds bs tape w IsTired s q e = absurd e

@@ -1,111 +1,62 @@
 // The search: the first list of a sound card (01, "Steps, nesting, order, marks").
 #![tactic(auto)]
 
+ghost use Rattle.std.specs.Prelude.{◌≡◌, ◌+◌, true, length};
+ghost use Rattle.card.specs.Format.{rule_count, line_count};
 ghost use Rattle.card.specs.Fault.{Sound};
+ghost use Rattle.card.specs.Decode.{job_of};
+ghost use Rattle.entries.specs.Inner.Entries.{Entered, scope_in};
+ghost use Rattle.entries.specs.Inner.Masks.{Waiting};
 ghost use Rattle.branch.specs.Inner.Values.{answer_in, Awake};
-ghost use Rattle.prune.specs.Inner.Prune.{Tabled, Stocked};
+ghost use Rattle.bounds.specs.Inner.Table.{TableHeld, Settled};
 ghost use Rattle.engine.specs.Inner.Engine.{Weary};
 ghost use Rattle.search.specs.Inner.Found.{Finds, Ran, FoundSays, Starts};
 
 use branch::{Outcome, Way};
+use engine::{Job, Search};
 use lines::{LineSet, LineWord};
+use prune::{Patience, Prune, Stock};
+
+// A search at its start: the job's entries stand in scope.
+fn at_start<P: Prune>(card: &[u8], prune: P) -> Search<P>
+    requires { Sound card.now }
+    ensures entered { Entered card.now result.nodes result.heads (rule_count card.now + line_count card.now) }
+    ensures scope { scope_in card.now result.nodes (rule_count card.now + line_count card.now) ≡ (job_of card.now).scope }
+    ensures tape_room { length result.tape ≡ 255 }
+    ensures stock { result.prune ≡ prune }
+{
+    let mut nodes = [0u16; 256];
+    let mut heads = [0u16; 256];
+    entries::enter(card, &mut nodes, &mut heads);
+    Search {
+        tape: [0; 255],
+        nodes,
+        heads,
+        way: Way {
+            at: 0,
+            used: LineSet::empty(),
+            seen: LineWord::empty(),
+            slack: false,
+            kept: false,
+        },
+        prune,
+    }
+}
 
 // The search from the card's goal.
-fn run(
-    card: &[u8],
-    waits: &[u64; 64],
-    tape: &mut [u8; 255],
-    nodes: &mut [u16; 256],
-    heads: &mut [u16; 256],
-    way: &mut Way,
-    names: &[u16],
-    table: &[u8],
-    masks: &[u64],
-    codes: &mut [u16],
-    words: &mut [u64],
-) -> Outcome
-    requires starts { Starts card.now waits.now tape.old nodes.old heads.old }
-    requires stocked { Stocked card.now names.now table.now masks.now codes.old words.old }
-    ensures ran { Ran card.now tape.new (answer_in result way.new) }
-    ensures starts { Starts card.now waits.now tape.new nodes.new heads.new }
-    ensures weary { Weary result words.old }
+fn run<P: Prune>(search: &mut Search<P>, job: &Job<'_>) -> Outcome
+    requires starts { Starts job.now.card.now job.now.waits.now search.old.tape search.old.nodes search.old.heads }
+    requires stocked { P.stocked search.old.prune job.now.card.now }
+    ensures ran { Ran job.now.card.now search.new.tape (answer_in result search.new.way) }
+    ensures weary { Weary result P.gives_up }
 {
+    let card = job.card;
     let mut agenda = [0u16; 104];
     let goal = card::format::word(card, 7);
     let depth = card::format::byte(card, 9);
     segment::tasks::put(&mut agenda, 0, goal, depth);
     let b = moves::start(card);
-    engine::solve(
-        card,
-        waits,
-        tape,
-        nodes,
-        heads,
-        way,
-        names,
-        table,
-        masks,
-        codes,
-        words,
-        &mut agenda,
-        0,
-        0,
-        b,
-    )
-}
-
-// A run with a memory of dead states, which is empty at first.
-fn remembering(
-    card: &[u8],
-    waits: &[u64; 64],
-    tape: &mut [u8; 255],
-    nodes: &mut [u16; 256],
-    heads: &mut [u16; 256],
-    way: &mut Way,
-    names: &[u16],
-    table: &[u8],
-    masks: &[u64],
-) -> Outcome
-    requires starts { Starts card.now waits.now tape.old nodes.old heads.old }
-    requires tabled { Tabled card.now names.now table.now masks.now }
-    ensures ran { Ran card.now tape.new (answer_in result way.new) }
-    ensures awake { Awake result }
-{
-    let mut codes = [0u16; 16384];
-    let mut words = [0u64; 9216];
-    run(
-        card, waits, tape, nodes, heads, way, names, table, masks, &mut codes, &mut words,
-    )
-}
-
-// A run with the table of bounds, if it is asked for and settled, and a memory. It calls itself where the table is not settled, so the
-// room for its arrays is not taken up by a first run that answers.
-fn pruned(
-    card: &[u8],
-    waits: &[u64; 64],
-    tape: &mut [u8; 255],
-    nodes: &mut [u16; 256],
-    heads: &mut [u16; 256],
-    way: &mut Way,
-    bounded: bool,
-) -> Outcome
-    requires { Starts card.now waits.now tape.old nodes.old heads.old }
-    ensures ran { Ran card.now tape.new (answer_in result way.new) }
-    ensures awake { Awake result }
-{
-    let mut names = [0u16; 1577];
-    let mut table = [0u8; 66177];
-    let mut masks = [0u64; 64];
-    if !bounded {
-        return remembering(
-            card, waits, tape, nodes, heads, way, &names, &table, &[0u64; 1],
-        );
-    }
-    let ready = tables::prepare(card, &mut names, &mut table, &mut masks);
-    if !ready {
-        return pruned(card, waits, tape, nodes, heads, way, false);
-    }
-    remembering(card, waits, tape, nodes, heads, way, &names, &table, &masks)
+    search.solve(job, &mut agenda, 0, 0, b)
 }
 
 // What a run found.
@@ -120,6 +71,47 @@ fn list_of(way: &Way, r: Outcome) -> Option<usize>
     }
 }
 
+// A run with a memory of dead states, which is empty at first, and with the table, if it is settled.
+fn remembering(
+    job: &Job<'_>,
+    tape: &mut [u8; 255],
+    settled: bool,
+    names: &[u16; 1577],
+    table: &[u8; 66177],
+    masks: &[u64; 64],
+) -> Option<usize>
+    requires sound { Sound job.now.card.now }
+    requires waiting { Waiting job.now.card.now job.now.waits.now }
+    requires tabled { settled ≡ true → TableHeld job.now.card.now names.now table.now × Settled job.now.card.now names.now table.now masks.now }
+    ensures { Finds job.now.card.now tape.new result }
+{
+    let stock = Stock {
+        settled,
+        names,
+        table,
+        masks,
+        codes: [0; 16384],
+        words: [0; 9216],
+    };
+    let mut search = at_start(job.card, stock);
+    let r = run(&mut search, job);
+    *tape = search.tape;
+    list_of(&search.way, r)
+}
+
+// A run with the table of bounds and a memory. So the room for their arrays is not taken up by a first run that answers.
+fn pruned(job: &Job<'_>, tape: &mut [u8; 255]) -> Option<usize>
+    requires sound { Sound job.now.card.now }
+    requires waiting { Waiting job.now.card.now job.now.waits.now }
+    ensures { Finds job.now.card.now tape.new result }
+{
+    let mut names = [0u16; 1577];
+    let mut table = [0u8; 66177];
+    let mut masks = [0u64; 64];
+    let settled = tables::prepare(job.card, &mut names, &mut table, &mut masks);
+    remembering(job, tape, settled, &names, &table, &masks)
+}
+
 // The first list, as the first steps of the tape, if there is one. A first run, which has neither table nor memory, gives up after 100 dead
 // ends; only then are they set up. The tape is free behind the list, and all of it where there is none: it holds what the search left there.
 pub fn first_list(card: &[u8], tape: &mut [u8; 255]) -> Option<usize>
@@ -127,33 +119,15 @@ pub fn first_list(card: &[u8], tape: &mut [u8; 255]) -> Option<usize>
     ensures { Finds card.now tape.new result }
 {
     let waits = entries::waits(card);
-    let mut nodes = [0u16; 256];
-    let mut heads = [0u16; 256];
-    entries::enter(card, &mut nodes, &mut heads);
-    let mut way = Way {
-        at: 0,
-        used: LineSet::empty(),
-        seen: LineWord::empty(),
-        slack: false,
-        kept: false,
-    };
-    let mut patience = [100u64; 1];
-    let r = run(
+    let job = Job {
         card,
-        &waits,
-        tape,
-        &mut nodes,
-        &mut heads,
-        &mut way,
-        &[0u16; 1],
-        &[0u8; 1],
-        &[0u64; 1],
-        &mut [0u16; 1],
-        &mut patience,
-    );
-    let Outcome::Tired = r else {
-        return list_of(&way, r);
+        waits: &waits,
     };
-    let s = pruned(card, &waits, tape, &mut nodes, &mut heads, &mut way, true);
-    list_of(&way, s)
+    let mut search = at_start(card, Patience { left: 100 });
+    let r = run(&mut search, &job);
+    let Outcome::Tired = r else {
+        *tape = search.tape;
+        return list_of(&search.way, r);
+    };
+    pruned(&job, tape)
 }

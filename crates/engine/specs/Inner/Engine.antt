@@ -25,7 +25,7 @@ use Rattle.branch.specs.declared.Outcome.{Outcome}
 use Rattle.branch.specs.declared.Outcome.TheVariants.{Solved as IsSolved, Stuck as IsStuck, Tired as IsTired}
 use Rattle.branch.specs.Inner.Values.{Counted, Answer, Solved, Stuck, Tired, using_b, chose_b, past_f, followed}
 use Rattle.segment.specs.Inner.Tasks.{node_of, nest_of, agenda_of, Laid}
-use Rattle.prune.specs.Inner.Prune.{Rooted, Stocked}
+use Rattle.prune.specs.Inner.Prune.{Rooted}
 use Rattle.choice.specs.Inner.Choice.{takable_by, given_at, from_at, keeps_by}
 use Rattle.moves.specs.Inner.Moves.{side_at}
 
@@ -213,20 +213,18 @@ pub record Siding (bs codes : List ℕ) (meets : Bool) (node name n c first : �
       × Searches bs (task (part_goal bs meets name (side_at bs node c)) n ∷ agenda_of bs codes b.len) (past_f f (keeps_by f b.at first c))
       (chose_b b) (set tape b.at c) tape' nodes nodes' heads heads' s
 
--- What the prunings are stocked with.
-pub record Equipped (bs names table masks codes words nodes : List ℕ) (n : ℕ) : Type 0 where
+-- What the prunings ask of the entries in scope, and what they are stocked with.
+pub record Equipped (bs nodes : List ℕ) (n : ℕ) (Stock : Type 0) : Type 0 where
   pub rooted : Rooted bs nodes n
-  pub stocked : Stocked bs names table masks codes words
+  pub stocked : Stock
 
--- Only a first run gives up.
-unfoldable pub Weary : Outcome → List ℕ → Type 0
-Weary IsSolved words = Unit {0}
-Weary IsStuck words = Unit {0}
-Weary IsTired words = length words ≡ 1
+-- Only a run that may gives up.
+unfoldable pub Weary : Outcome → Type 0 → Type 0
+Weary IsSolved may = Unit {0}
+Weary IsStuck may = Unit {0}
+Weary IsTired may = may
 
--- What a call leaves: prunings stocked as before, a memory as large as before.
-pub record Stays (bs names table masks codes words codes' words' : List ℕ) (r : Outcome) : Type 0 where
-  pub stocked : Stocked bs names table masks codes' words'
-  pub code_same : length codes' ≡ length codes
-  pub same : length words' ≡ length words
-  pub weary : Weary r words
+-- What a call leaves: prunings stocked as before.
+pub record Stays (Stock may : Type 0) (r : Outcome) : Type 0 where
+  pub stocked : Stock
+  pub weary : Weary r may

@@ -40,4 +40,4 @@ returns c =
       seen = c.empty-2.ensures i;
       slack = false;
     }) in
-    record { value = both.0; counted = both.1 }
+    record { value = both.0; counted = both.1; short = omega (arith, c.byte-2.ensures.1) }

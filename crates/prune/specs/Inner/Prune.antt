@@ -1,5 +1,5 @@
 -- What the prunings ask of a branch, what they are stocked with, and what they tell.
-use Rattle.std.specs.Prelude.{ℕ, ◌+◌, ◌-◌, ◌≤◌, ◌<◌, ◌≡◌, ◌⊎◌, true, List, length, get_or}
+use Rattle.std.specs.Prelude.{ℕ, ◌+◌, ◌-◌, ◌≤◌, ◌<◌, ◌≡◌, Bool, true, List, length, get_or}
 use Rattle.card.specs.Format.{rule_count, line_count, node_count, kind_at, left_at}
 use Rattle.card.specs.Fault.{Sound, clause_part}
 use Rattle.card.specs.Decode.{job_of}
@@ -42,18 +42,10 @@ pub record PruneAsks (bs nodes agenda : List ℕ) (b : Branch) : Type 0 where
   pub limit : b.limit ≤ 255
   pub rooted : Rooted bs nodes b.count
 
--- A first run has one word: how many dead ends it still puts up with. A later one has a memory of dead states of the job's scope.
-abbrev pub Memory : List ℕ → List ℕ → List ℕ → Type 0
-Memory bs codes words = (length words ≡ 1) ⊎ Honest bs (job_of bs).scope codes words
-
--- A table of bounds that is settled, if it is there.
-abbrev pub Tabled : List ℕ → List ℕ → List ℕ → List ℕ → Type 0
-Tabled bs names table masks = length masks ≡ 64 → TableHeld bs names table × Settled bs names table masks
-
--- What the prunings are stocked with.
-pub record Stocked (bs names table masks codes words : List ℕ) : Type 0 where
-  pub settled : Tabled bs names table masks
-  pub memory : Memory bs codes words
+-- What a later run is stocked with: a table of bounds that is settled, if it is asked, and a memory of dead states of the job's scope.
+pub record StockedWith (bs : List ℕ) (ready : Bool) (names table masks codes words : List ℕ) : Type 0 where
+  pub settled : ready ≡ true → TableHeld bs names table × Settled bs names table masks
+  pub memory : Honest bs (job_of bs).scope codes words
 
 -- Nothing is sought for the agenda in the branch, from any floor on.
 pub record Doom (bs nodes agenda : List ℕ) (b : Branch) : Type 0 where

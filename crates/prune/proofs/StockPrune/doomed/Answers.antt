@@ -1,14 +1,14 @@
 -- By the table, or by the memory.
-use borrow.Author.Tests.{eqb-true}
+use borrow.Author.Rules.{rules}
 use Rattle.segment.proofs.TasksAreAgendas.{laid_short}
-use Rattle.prune.proofs.PruningsTell.{coded, remembering, asking, hopeless_doom, known_doom}
-use Rattle.prune.proofs.doomed.Goals as goal
+use Rattle.prune.proofs.PruningsTell.{coded, asking, hopeless_doom, known_doom}
+use Rattle.prune.proofs.StockPrune.doomed.Goals as goal
 
 pub hopeless-requires : goal.hopeless-requires
 hopeless-requires c =
     let asks = c.requires.prune_asks in
     record {
-      table_held = λ p. let m = eqb-true _ _ p in ((c.requires.stocked.settled m).0, m);
+      table_held = λ p. ((c.requires.stocked.settled p).0, search rules);
       sound = asks.sound;
       counted = (asks.whole, asks.few);
       clauses = asks.clauses;
@@ -16,14 +16,14 @@ hopeless-requires c =
     }
 
 pub known-requires : goal.known-requires
-known-requires c = asking c.requires.prune_asks (remembering c.requires.stocked.memory c.if-words-eq1.false)
+known-requires c = asking c.requires.prune_asks c.requires.stocked.memory
 
 pub returns-then-hopeless : goal.returns-then-hopeless
 returns-then-hopeless c =
     let told = c.hopeless.ensures c.if-hopeless.true in
-    λ p. hopeless_doom c.requires.prune_asks (c.requires.stocked.settled (eqb-true _ _ told.0)).1 told.1
+    λ p. hopeless_doom c.requires.prune_asks (c.requires.stocked.settled told.0).1 told.1
 
 pub returns-then-unlent : goal.returns-then-unlent
 returns-then-unlent c =
     let bare = c.unlent.ensures.0 c.if-unlent.true in
-    λ p. known_doom c.requires.prune_asks bare (remembering c.requires.stocked.memory c.if-words-eq1.false) (c.known.ensures.0 p)
+    λ p. known_doom c.requires.prune_asks bare c.requires.stocked.memory (c.known.ensures.0 p)
