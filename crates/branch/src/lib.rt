@@ -83,10 +83,9 @@ impl Branch {
         ensures value { result ≡ dropped_b self }
         ensures counted { Counted result }
     {
-        Branch {
-            len: self.len - 1,
-            ..self
-        }
+        let mut b = self;
+        b.len -= 1;
+        b
     }
 
     // ⊗: two tasks where one was.
@@ -96,10 +95,9 @@ impl Branch {
         ensures value { result ≡ longer_b self }
         ensures counted { Counted result }
     {
-        Branch {
-            len: self.len + 1,
-            ..self
-        }
+        let mut b = self;
+        b.len += 1;
+        b
     }
 
     // With so many tasks.
@@ -108,7 +106,9 @@ impl Branch {
         ensures value { result ≡ sized_b self len }
         ensures counted { Counted result }
     {
-        Branch { len, ..self }
+        let mut b = self;
+        b.len = len;
+        b
     }
 
     // Past a choice.
@@ -118,10 +118,9 @@ impl Branch {
         ensures value { result ≡ chose_b self }
         ensures counted { Counted result }
     {
-        Branch {
-            at: self.at + 1,
-            ..self
-        }
+        let mut b = self;
+        b.at += 1;
+        b
     }
 
     // Any item may be used, none has to be.
@@ -285,15 +284,14 @@ impl Branch {
         } else {
             self.seen
         };
-        Branch {
-            len,
-            due: self.spent(item),
-            strict: self.strict.take(item),
-            lax: self.lax.take(item),
-            used: self.used.add(item),
-            seen,
-            ..self.chose()
-        }
+        let mut b = self.chose();
+        b.len = len;
+        b.due = self.spent(item);
+        b.strict = self.strict.take(item);
+        b.lax = self.lax.take(item);
+        b.used = self.used.add(item);
+        b.seen = seen;
+        b
     }
 
     // The agenda is empty: no strict item may be left, which the count tells. The words of the sets are those of the machine.

@@ -70,16 +70,16 @@ returns-clause-value c =
       | else-item-lines w ↦ w.seen-is ∙ none_seen a.rules a.e a.lines b.seen (rw (sym item) w.if-item-lines.false)
     ] in
     λ i. record {
-      at = (c.chose.ensures.value i).at;
-      count = (c.chose.ensures.value i).count;
+      at = (c.chose-b.ensures.value i).at;
+      count = (c.chose-b.ensures.value i).count;
       len = a.len;
-      limit = (c.chose.ensures.value i).limit;
+      limit = (c.chose-b.ensures.value i).limit;
       due = (c.spent.ensures ∙ ap (spent_b b) item ∙ left_due a.rules a.e b) i;
-      strict = (c.take.ensures ∙ ap (take_s b.strict) item ∙ taken a.rules a.e b.strict) i;
-      lax = (c.take-2.ensures ∙ ap (take_s b.lax) item ∙ taken a.rules a.e b.lax) i;
-      used = (c.add.ensures ∙ ap (add_s b.used) item ∙ added a.rules a.e b.used) i;
+      strict = (c.take-b.ensures ∙ ap (take_s b.strict) item ∙ taken a.rules a.e b.strict) i;
+      lax = (c.take-b-2.ensures ∙ ap (take_s b.lax) item ∙ taken a.rules a.e b.lax) i;
+      used = (c.add-b.ensures ∙ ap (add_s b.used) item ∙ added a.rules a.e b.used) i;
       seen = seen i;
-      slack = (c.chose.ensures.value i).slack;
+      slack = (c.chose-b.ensures.value i).slack;
     }
 
 pub returns-clause-counted : goal.returns-clause-counted
