@@ -9,7 +9,7 @@ use Rattle.calculus.specs.Job.{Listed, surely_used}
 use Rattle.card.specs.declared.faults.Refusal.{Refusal}
 use Rattle.card.specs.Format.{byte_at, line_count}
 use Rattle.card.specs.Verdict.{Verdict, Where, sound, fault, mark, refuse, ◌▹◌, first_of, told, steps}
-use Rattle.card.specs.Fault.{Sound, first_fault}
+use Rattle.card.specs.Fault.{Sound}
 use Rattle.card.specs.Decode.{job_of}
 use Rattle.card.proofs.MarksByLines.{mark_same}
 use Rattle.lines.specs.declared.LineWord.{LineWord}
@@ -19,18 +19,14 @@ use Rattle.trace.specs.Inner.Listing.{told_followed, Following, strays, divides_
 use Rattle.sheet_front.specs.Front.{step_count, steps_of, marks_in, sheet_fault}
 use Rattle.sheet_front.proofs.SheetFits.{fitting, steps_length}
 use Rattle.marks.specs.Marks.{mark_fault}
-use Rattle.reader.specs.Read.{refused, told_read, marks_fault, Reading, faulty, misfit, astray, undivided, wrong_mark, accepted_as}
+use Rattle.reader.specs.Read.{refused, told_read, marks_fault, Reading, misfit, astray, undivided, wrong_mark, accepted_as}
 
 first_same : (n : ℕ) {f g : ℕ → Verdict} → ((i : ℕ) → i < n → f i ≡ g i) → first_of n f ≡ first_of n g
 unfolding first_of
 first_same zero h = refl
 first_same (suc n) h = ap₂ ◌▹◌ (first_same n (λ i k. h i (omega arith))) (h n (omega arith))
 
--- 1 to 9, and 12
-pub found_faulty : (bs sh : List ℕ) (r : Refusal) → told (Err r) ≡ first_fault bs → Reading bs sh (told_read (Err r))
-unfolding told told_read
-found_faulty bs sh r e = faulty (sym e)
-
+-- 12
 pub found_misfit : (bs sh : List ℕ) (r : Refusal) → Sound bs → told (Err r) ≡ sheet_fault bs sh → Reading bs sh (told_read (Err r))
 unfolding told told_read
 found_misfit bs sh r s e = misfit s (sym e)

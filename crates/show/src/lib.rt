@@ -61,7 +61,8 @@ impl<'a> Input<'a> {
 
     // A number of one byte, where one is left.
     fn byte(&mut self) -> Option<usize>
-        ensures { MatchOption result ((length self.old ≡ 0) × (self.new ≡ self.old)) (λ n. (0 < length self.old) × (n ≡ byte_at self.old 0) × (self.new ≡ drop 1 self.old)) }
+        ensures { MatchOption result ((length self.old ≡ 0) × (self.new ≡ self.old))
+            (λ n. (0 < length self.old) × (n ≡ byte_at self.old 0) × (self.new ≡ drop 1 self.old)) }
     {
         let (byte, rest) = self.rest.split_first()?;
         self.rest = rest;
@@ -70,7 +71,8 @@ impl<'a> Input<'a> {
 
     // A number of two bytes, where two are left.
     pub fn word(&mut self) -> Option<usize>
-        ensures { MatchOption result ((length self.old < 2) × (self.new ≡ self.old)) (λ n. (2 ≤ length self.old) × (n ≡ from_be_bytes w16 (take 2 self.old)) × (self.new ≡ drop 2 self.old)) }
+        ensures { MatchOption result ((length self.old < 2) × (self.new ≡ self.old))
+            (λ n. (2 ≤ length self.old) × (n ≡ from_be_bytes w16 (take 2 self.old)) × (self.new ≡ drop 2 self.old)) }
     {
         let (bytes, rest) = self.rest.split_first_chunk()?;
         self.rest = rest;
@@ -105,7 +107,9 @@ pub struct Records<'a, R> {
 impl<'a, T, R: Fn(&mut Input<'a>) -> Option<T>> Iterator for Records<'a, R> {
     type Item = T;
 
-    ghost can_next = { λ s. R.IsAlwaysCallable s.read × ((before : _) (item : _) (after : _) → R.post s.read before (Some item) after → length after.now < length before.now) };
+    ghost can_next = { λ s. R.IsAlwaysCallable s.read
+        × ((before : _) (item : _) (after : _) → R.post s.read before (Some item) after
+        → length after.now < length before.now) };
 
     ghost next_gives = { λ s r t. (t.read ≡ s.read) × ((before : _) × (after : _) × R.post s.read before r after × (before.now ≡ s.input) × (after.now ≡ t.input)) };
 

@@ -16,7 +16,8 @@ returns-in_err-room_for c =
 pub returns-in_default : goal.returns-in_default
 unfolding told_plan where_of
 returns-in_default c =
-    none_within c.bytes-bytes.ensures.sound (room_enough _ _ _ c.in_ok-room_for.ensures) (none_found _ _ (rw (c.in_default.is, c.bytes-bytes.ensures.value) at c.first_list.ensures))
+    none_within c.bytes-bytes.ensures.sound (room_enough _ _ _ c.in_ok-room_for.ensures)
+    (none_found _ _ (rw (c.in_default.is, c.bytes-bytes.ensures.value) at c.first_list.ensures))
 
 pub sure_lines-sure-requires : goal.sure_lines-sure-requires
 sure_lines-sure-requires c =

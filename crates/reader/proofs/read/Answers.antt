@@ -1,6 +1,6 @@
 -- `read` meets its contract: 1 to 9, or the outcome of what comes after them; and it accepts exactly what holds a list, since every byte
 -- of the lent sheet is below 256.
-use Rattle.std.proofs.Common.{refl, arith}
+use Rattle.std.proofs.Common.{arith}
 use Rattle.std.proofs.lemmas.Result.{err_from_is_err_and}
 use Rattle.card.specs.Format.{Bytes}
 use Rattle.reader.specs.Read.{Reading, told_read, faulty}
