@@ -4,12 +4,13 @@
 ghost use Rattle.std.specs.Prelude.{◌≡◌, List, [], ◌∷◌, ◌++◌, ℕ, ◌≤◌, ◌<◌, length, drop};
 ghost use Rattle.card.specs.Format.{line_count};
 ghost use Rattle.card.specs.Verdict.{told, first_of};
+ghost use Rattle.card.specs.Inner.Checks.{Framed};
 ghost use Rattle.card.specs.Sheet.{marks_of};
 ghost use Rattle.scope.specs.Inner.Sets.{word_items};
 ghost use Rattle.marks.specs.Marks.{mark_fault};
 ghost use Rattle.marks.specs.Inner.Used.{Gathers, mark_by};
 
-use card::sound::Card;
+use card::format::{byte, line_byte};
 use card::{Fault, Place, Refusal, refuse};
 use lines::LineWord;
 
@@ -36,11 +37,12 @@ fn listed(list: &[u8], rules: usize) -> LineWord
 }
 
 // The mark of line i, where the lines used stand in the list and those of `sure` are surely used.
-fn mark(card: &Card<'_>, used: LineWord, sure: LineWord, i: usize) -> u8
+fn mark(card: &[u8], used: LineWord, sure: LineWord, i: usize) -> u8
+    requires framed { Framed card.now }
     requires a_line { i < line_count card.now }
     ensures { result ≡ mark_by card.now used sure i }
 {
-    let must = card.is_must(i);
+    let must = line_byte(card, i) == 1;
     if used.has(i) {
         if sure.has(i) { 1 } else { 3 }
     } else if must {
@@ -51,32 +53,29 @@ fn mark(card: &Card<'_>, used: LineWord, sure: LineWord, i: usize) -> u8
 }
 
 // The marks of all lines, where those of `sure` are surely used.
-pub fn write_marks(card: &Card<'_>, list: &[u8], sure: LineWord, marks: &mut [u8])
+pub fn write_marks(card: &[u8], list: &[u8], sure: LineWord, marks: &mut [u8])
+    requires framed { Framed card.now }
     requires room { line_count card.now ≤ length marks.old }
     ensures { marks.new
         ≡ marks_of card.now (word_items card.now sure) list.now
         ++ drop (line_count card.now) marks.old }
 {
-    let used = listed(list, card.rules());
-    for i in 0..card.lines() {
+    let used = listed(list, byte(card, 3));
+    for i in 0..byte(card, 4) {
         marks[i] = mark(card, used, sure, i);
     }
 }
 
 // 14, by rising index: a mark that is not the true one, where the lines of `sure` are surely used.
-pub fn marks_check(
-    card: &Card<'_>,
-    list: &[u8],
-    sure: LineWord,
-    marks: &[u8],
-) -> Result<(), Refusal>
+pub fn marks_check(card: &[u8], list: &[u8], sure: LineWord, marks: &[u8]) -> Result<(), Refusal>
+    requires framed { Framed card.now }
     requires marked { line_count card.now ≤ length marks.now }
     ensures { told result
         ≡ first_of (line_count card.now)
         (mark_fault card.now (word_items card.now sure) list.now marks.now) }
 {
-    let used = listed(list, card.rules());
-    for i in 0..card.lines() {
+    let used = listed(list, byte(card, 3));
+    for i in 0..byte(card, 4) {
         let asked = mark(card, used, sure, i);
         refuse(marks[i] != asked, Fault::Mark, Place::Mark(i as u16))?;
     }

@@ -11,7 +11,7 @@ fn plan_sound(card: &Card<'_>, sheet: &mut [u8]) -> Result<u8, Refusal>
     ensures { Planning card.now sheet.old (told_plan result) sheet.new }
 {
     let bytes = card.bytes();
-    planning::room_for(card, sheet.len())?;
+    planning::room_for(bytes, sheet.len())?;
     let mut tape = [0u8; 255];
     let Some(k) = search::first_list(bytes, &mut tape) else {
         return Err(Refusal {

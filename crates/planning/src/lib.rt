@@ -10,16 +10,17 @@ ghost use Rattle.scope.specs.Inner.Sets.{SureLines};
 ghost use Rattle.planning.specs.Inner.Room.{room_fault};
 ghost use Rattle.planning.specs.Plan.{planned, room_of, Planning};
 
-use card::sound::Card;
+use card::format::byte;
 use card::{Fault, Place, Refusal, refuse};
 use lines::LineWord;
 
 // 10: the buffer's length against 5 + s + T, so that it holds any sheet that the step limit lets a card have.
-pub fn room_for(card: &Card<'_>, size: usize) -> Result<(), Refusal>
+pub fn room_for(card: &[u8], size: usize) -> Result<(), Refusal>
+    requires { 11 ≤ length card.now }
     ensures { told result ≡ room_fault card.now size }
 {
-    let s = card.steps();
-    let t = card.lines();
+    let s = byte(card, 10);
+    let t = byte(card, 4);
     refuse(size < 5 + s + t, Fault::NoRoom, Place::Sheet)
 }
 
@@ -31,6 +32,6 @@ pub fn write_plan(card: &[u8], list: &[u8], sure: LineWord, sheet: &mut [u8]) ->
     requires room { room_of card.now ≤ length sheet.old }
     ensures { Planning card.now sheet.old (planned result) sheet.new }
 {
-    sheet::write(&Card::new(card), list, sure, sheet);
+    sheet::write(card, list, sure, sheet);
     list.len() as u8
 }

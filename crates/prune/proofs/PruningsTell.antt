@@ -2,9 +2,7 @@
 use Prim.Native.Nat.{ℕ, ◌-◌}
 use native.Mathlib.Omega.{arith}
 use mathlib.Core.Path.{◌≡◌, ◌∙◌, ap}
-use mathlib.Core.Logic.{inr, ⊎_elim}
 use mathlib.Core.List.{List}
-use lib.ListN.{length}
 use Rattle.calculus.specs.Derivation.{Scope}
 use Rattle.card.specs.Decode.{job_of}
 use Rattle.entries.specs.Inner.Entries.{scope_in}

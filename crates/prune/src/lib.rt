@@ -2,11 +2,11 @@
 // hopeless, the memory which were found dead. A first run has neither: it counts its dead ends and gives up after so many.
 #![tactic(auto)]
 
-ghost use Rattle.std.specs.Prelude.{ℕ, List, ◌≡◌, true, ◌↔◌, ⊤};
+ghost use Rattle.std.specs.Prelude.{ℕ, List, ◌≡◌, ◌-◌, true, ◌↔◌, ⊤, IfSome};
 ghost use Rattle.card.specs.Fault.{Sound};
 ghost use Rattle.entries.specs.Inner.Entries.{scope_in};
 ghost use Rattle.dead.specs.Inner.Barren.{BarrenIn};
-ghost use Rattle.prune.specs.Inner.Prune.{job_count, PruneAsks, StockedWith, Doom};
+ghost use Rattle.prune.specs.Inner.Prune.{job_count, PruneAsks, SettledTable, StockedWith, Doom};
 
 use branch::Branch;
 use card::format::byte;
@@ -55,6 +55,18 @@ pub struct Patience {
     pub left: u64,
 }
 
+impl Patience {
+    // One dead end more: whether no more are put up with.
+    fn tired(&mut self) -> bool
+        ensures tired { (result ≡ true) ↔ (self.old.left ≡ 0) }
+        ensures counted { self.new.left ≡ self.old.left - 1 }
+    {
+        let left = self.left;
+        self.left = left.saturating_sub(1);
+        left == 0
+    }
+}
+
 impl Prune for Patience {
     ghost stocked = { λ s card. ⊤ };
 
@@ -72,48 +84,68 @@ impl Prune for Patience {
         _open: bool,
         _b: Branch,
     ) -> bool {
-        let left = self.left;
-        self.left = left.saturating_sub(1);
-        left == 0
+        self.tired()
     }
 }
 
-// A later run: the table of bounds, asked if it is settled, and a memory of dead states, which is of the job's scope alone. It does not give up.
+// A table of bounds that is settled: where its names begin, its cells, and the lines of each class.
+#[derive(Clone, Copy)]
+pub struct Table<'a> {
+    pub names: &'a [u16; 1577],
+    pub cells: &'a [u8; 66177],
+    pub masks: &'a [u64; 64],
+}
+
+impl<'a> Table<'a> {
+    // Whether it tells that nothing is to be found.
+    #[inline(always)]
+    fn hopeless(self, card: &[u8], nodes: &[u16; 256], agenda: &[u16; 104], b: Branch) -> bool
+        requires prune_asks { PruneAsks card.now nodes.now agenda.now b }
+        requires settled { SettledTable card.now self }
+        ensures { result ≡ true → Doom card.now nodes.now agenda.now b }
+    {
+        let names = self.names;
+        let cells = self.cells;
+        let masks = self.masks;
+        let room = b.limit - b.at;
+        bounds::hopeless(
+            true, card, names, cells, masks, nodes, agenda, b.len, b.count, b.strict, b.lax, room,
+        )
+    }
+}
+
+// A later run: a table of bounds, where there is one, and a memory of dead states, which is of the job's scope alone. It does not give up.
 #[derive(Drop)]
 pub struct Stock<'a> {
-    pub settled: bool,
-    pub names: &'a [u16; 1577],
-    pub table: &'a [u8; 66177],
-    pub masks: &'a [u64; 64],
+    pub table: Option<Table<'a>>,
     pub codes: [u16; 16384],
     pub words: [u64; 9216],
 }
 
+impl<'a> Stock<'a> {
+    // Whether the table, where there is one, tells that nothing is to be found.
+    #[inline(always)]
+    fn hopeless(&self, card: &[u8], nodes: &[u16; 256], agenda: &[u16; 104], b: Branch) -> bool
+        requires prune_asks { PruneAsks card.now nodes.now agenda.now b }
+        requires settled { IfSome self.now.table (SettledTable card.now) }
+        ensures { result ≡ true → Doom card.now nodes.now agenda.now b }
+    {
+        let Some(table) = self.table else {
+            return false;
+        };
+        table.hopeless(card, nodes, agenda, b)
+    }
+}
+
 impl<'a> Prune for Stock<'a> {
-    ghost stocked = { λ s card. StockedWith card s.settled s.names.now s.table.now s.masks.now s.codes s.words };
+    ghost stocked = { λ s card. StockedWith card s.table s.codes s.words };
 
     ghost gives_up = { ⊥ };
 
     #[inline(always)]
     fn doomed(&self, card: &[u8], nodes: &[u16; 256], agenda: &[u16; 104], b: Branch) -> bool {
-        let names = self.names;
-        let table = self.table;
-        let masks = self.masks;
-        let room = b.limit - b.at;
-        bounds::hopeless(
-            self.settled,
-            card,
-            names,
-            table,
-            masks,
-            nodes,
-            agenda,
-            b.len,
-            b.count,
-            b.strict,
-            b.lax,
-            room,
-        ) || (unlent(card, b.count) && dead::known(&self.codes, &self.words, agenda, b))
+        self.hopeless(card, nodes, agenda, b)
+            || (unlent(card, b.count) && dead::known(&self.codes, &self.words, agenda, b))
     }
 
     fn dead_end(

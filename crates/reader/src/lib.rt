@@ -12,11 +12,11 @@ fn read_sheet(card: &Card<'_>, sheet: &[u8]) -> Result<u8, Refusal>
     ensures { Reading card.now sheet.now (told_read result) }
 {
     let bytes = card.bytes();
-    sheet_front::front_check(card, sheet)?;
+    sheet_front::front_check(bytes, sheet)?;
     let k = byte(sheet, 3);
     let steps = &sheet[5..5 + k];
     let sure = trace::steps_check(bytes, steps, k)?;
-    marks::marks_check(card, steps, sure, &sheet[5 + k..])?;
+    marks::marks_check(bytes, steps, sure, &sheet[5 + k..])?;
     Ok(k as u8)
 }
 

@@ -199,6 +199,21 @@ module _ {bs zeros codes : List ℕ} {b : Branch} {goal depth : ℕ} (s : Sound 
         at Stuck y = none_found s zeros a.room tape nodes e y refl
         at Tired y = tt
 
+    -- what a run starts from is there behind it too
+    pub started : {waits : List ℕ} → Starts bs waits tape nodes heads → Starts bs waits tape' nodes' heads'
+    unfolding start_b
+    started {waits} q = at answered
+      where
+        at : Solving bs (goal_codes s zeros a.room) no_floor (start_b bs) tape tape' nodes nodes' heads heads' r → Starts bs waits tape' nodes' heads'
+        at y = record {
+          sound = q.sound;
+          waiting = q.waiting;
+          tape_room = y.tape_kept.size ∙ q.tape_room;
+          entered = entered_kept nodes' heads' q.entered (y.node_kept.size ∙ q.entered.node_room)
+              (y.head_kept.size ∙ q.entered.head_room) (sym y.node_kept.same) (sym y.head_kept.same);
+          scope = scope_kept bs nodes' nodes (rule_count bs + line_count bs) y.node_kept.same ∙ q.scope;
+        }
+
 -- what a run says is what is found
 pub says_finds : (bs tape : List ℕ) (w : Way) (r : Outcome) (s : Option ℕ) → Ran bs tape (answer_in r w) → FoundSays w r s → Finds bs tape s
 unfolding Ran FoundSays Finds answer_in

@@ -1,21 +1,21 @@
 // The search: the first list of a sound card (01, "Steps, nesting, order, marks").
 #![tactic(auto)]
 
-ghost use Rattle.std.specs.Prelude.{◌≡◌, ◌+◌, true, length};
+ghost use Rattle.std.specs.Prelude.{◌≡◌, ◌+◌, length, IfSome};
 ghost use Rattle.card.specs.Format.{rule_count, line_count};
 ghost use Rattle.card.specs.Fault.{Sound};
 ghost use Rattle.card.specs.Decode.{job_of};
 ghost use Rattle.entries.specs.Inner.Entries.{Entered, scope_in};
 ghost use Rattle.entries.specs.Inner.Masks.{Waiting};
 ghost use Rattle.branch.specs.Inner.Values.{answer_in, Awake};
-ghost use Rattle.bounds.specs.Inner.Table.{TableHeld, Settled};
+ghost use Rattle.prune.specs.Inner.Prune.{SettledTable};
 ghost use Rattle.engine.specs.Inner.Engine.{Weary};
 ghost use Rattle.search.specs.Inner.Found.{Finds, Ran, FoundSays, Starts};
 
 use branch::{Outcome, Way};
 use engine::{Job, Search};
 use lines::{LineSet, LineWord};
-use prune::{Patience, Prune, Stock};
+use prune::{Patience, Prune, Stock, Table};
 
 // A search at its start: the job's entries stand in scope.
 fn at_start<P: Prune>(card: &[u8], prune: P) -> Search<P>
@@ -48,6 +48,7 @@ fn run<P: Prune>(search: &mut Search<P>, job: &Job<'_>) -> Outcome
     requires starts { Starts job.now.card.now job.now.waits.now search.old.tape search.old.nodes search.old.heads }
     requires stocked { P.stocked search.old.prune job.now.card.now }
     ensures ran { Ran job.now.card.now search.new.tape (answer_in result search.new.way) }
+    ensures starts { Starts job.now.card.now job.now.waits.now search.new.tape search.new.nodes search.new.heads }
     ensures weary { Weary result P.gives_up }
 {
     let card = job.card;
@@ -71,25 +72,15 @@ fn list_of(way: &Way, r: Outcome) -> Option<usize>
     }
 }
 
-// A run with a memory of dead states, which is empty at first, and with the table, if it is settled.
-fn remembering(
-    job: &Job<'_>,
-    tape: &mut [u8; 255],
-    settled: bool,
-    names: &[u16; 1577],
-    table: &[u8; 66177],
-    masks: &[u64; 64],
-) -> Option<usize>
+// A run with a memory of dead states, which is empty at first, and with the table, where there is one.
+fn remembering(job: &Job<'_>, tape: &mut [u8; 255], table: Option<Table<'_>>) -> Option<usize>
     requires sound { Sound job.now.card.now }
     requires waiting { Waiting job.now.card.now job.now.waits.now }
-    requires tabled { settled ≡ true → TableHeld job.now.card.now names.now table.now × Settled job.now.card.now names.now table.now masks.now }
+    requires settled { IfSome table (SettledTable job.now.card.now) }
     ensures { Finds job.now.card.now tape.new result }
 {
     let stock = Stock {
-        settled,
-        names,
         table,
-        masks,
         codes: [0; 16384],
         words: [0; 9216],
     };
@@ -99,17 +90,29 @@ fn remembering(
     list_of(&search.way, r)
 }
 
-// A run with the table of bounds and a memory. So the room for their arrays is not taken up by a first run that answers.
-fn pruned(job: &Job<'_>, tape: &mut [u8; 255]) -> Option<usize>
+// A run with the table of bounds, if it is asked for and settled, and a memory. It calls itself where the table is not settled, so the
+// room for its arrays is not taken up by a first run that answers.
+fn pruned(job: &Job<'_>, tape: &mut [u8; 255], bounded: bool) -> Option<usize>
     requires sound { Sound job.now.card.now }
     requires waiting { Waiting job.now.card.now job.now.waits.now }
     ensures { Finds job.now.card.now tape.new result }
 {
     let mut names = [0u16; 1577];
-    let mut table = [0u8; 66177];
+    let mut cells = [0u8; 66177];
     let mut masks = [0u64; 64];
-    let settled = tables::prepare(job.card, &mut names, &mut table, &mut masks);
-    remembering(job, tape, settled, &names, &table, &masks)
+    if !bounded {
+        return remembering(job, tape, None);
+    }
+    let settled = tables::prepare(job.card, &mut names, &mut cells, &mut masks);
+    if !settled {
+        return pruned(job, tape, false);
+    }
+    let table = Table {
+        names: &names,
+        cells: &cells,
+        masks: &masks,
+    };
+    remembering(job, tape, Some(table))
 }
 
 // The first list, as the first steps of the tape, if there is one. A first run, which has neither table nor memory, gives up after 100 dead
@@ -129,5 +132,5 @@ pub fn first_list(card: &[u8], tape: &mut [u8; 255]) -> Option<usize>
         *tape = search.tape;
         return list_of(&search.way, r);
     };
-    pruned(&job, tape)
+    pruned(&job, tape, true)
 }

@@ -3,10 +3,11 @@
 
 ghost use Rattle.std.specs.Prelude.{◌≡◌, ◌∷◌, ◌++◌, ◌+◌, ◌≤◌, length, drop};
 ghost use Rattle.card.specs.Format.{line_count};
+ghost use Rattle.card.specs.Inner.Checks.{Framed};
 ghost use Rattle.card.specs.Sheet.{word, sheet_of};
 ghost use Rattle.scope.specs.Inner.Sets.{word_items};
 
-use card::sound::Card;
+use card::format::byte;
 use lines::LineWord;
 
 // The five bytes before the steps.
@@ -22,7 +23,8 @@ fn write_front(k: usize, t: usize, sheet: &mut [u8])
 }
 
 // Writes the sheet of the list, where the lines of `sure` are surely used. Bytes past the sheet keep what they held.
-pub fn write(card: &Card<'_>, list: &[u8], sure: LineWord, sheet: &mut [u8])
+pub fn write(card: &[u8], list: &[u8], sure: LineWord, sheet: &mut [u8])
+    requires framed { Framed card.now }
     requires few_steps { length list.now ≤ 255 }
     requires room { 5 + length list.now + line_count card.now ≤ length sheet.old }
     ensures { sheet.new
@@ -30,7 +32,7 @@ pub fn write(card: &Card<'_>, list: &[u8], sure: LineWord, sheet: &mut [u8])
         ++ drop (5 + length list.now + line_count card.now) sheet.old }
 {
     let start = 5 + list.len();
-    write_front(list.len(), card.lines(), sheet);
+    write_front(list.len(), byte(card, 4), sheet);
     sheet[5..start].copy_from_slice(list);
     marks::write_marks(card, list, sure, &mut sheet[start..]);
 }

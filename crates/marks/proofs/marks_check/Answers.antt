@@ -16,8 +16,8 @@ pub loop-i-preserved : goal.loop-i-preserved
 unfolding where_of
 loop-i-preserved c =
     let s = c.args in
-    let gathered : Gathers s.list.now (rule_count s.card.now) c.listed-used.result = rw c.rules.ensures.0 at c.listed-used.ensures in
-    let same = fault_by_lem s.card.now gathered s.sure c.loop-i.i (omega (arith, c.lines-i-end.ensures)) s.marks.now in
+    let gathered : Gathers s.list.now (rule_count s.card.now) c.listed-used.result = rw c.byte.ensures.0 at c.listed-used.ensures in
+    let same = fault_by_lem s.card.now gathered s.sure c.loop-i.i (omega (arith, c.byte-i-end.ensures.0, c.requires.framed.lines)) s.marks.now in
     passed_at _ _ c.loop-i.invariant refl (rw c.mark-asked.ensures at c.in_ok-refuse.ensures ∙ same)
 
 pub returns-in_err-refuse : goal.returns-in_err-refuse
@@ -25,13 +25,13 @@ unfolding where_of
 returns-in_err-refuse c =
     let s = c.args in
     let p = err_from_is_err_and c.from_residual.result c.from_residual.ensures.1 in
-    let below : c.loop-i.i < line_count s.card.now = omega (arith, c.lines-i-end.ensures) in
-    let gathered : Gathers s.list.now (rule_count s.card.now) c.listed-used.result = rw c.rules.ensures.0 at c.listed-used.ensures in
-    let same = fault_by_lem s.card.now gathered s.sure c.loop-i.i (omega (arith, c.lines-i-end.ensures)) s.marks.now in
+    let below : c.loop-i.i < line_count s.card.now = omega (arith, c.byte-i-end.ensures.0) in
+    let gathered : Gathers s.list.now (rule_count s.card.now) c.listed-used.result = rw c.byte.ensures.0 at c.listed-used.ensures in
+    let same = fault_by_lem s.card.now gathered s.sure c.loop-i.i (omega (arith, c.byte-i-end.ensures.0, c.requires.framed.lines)) s.marks.now in
     rw (p.1, p.2) (refused_at _ _ c.loop-i.invariant _ below refl (rw c.mark-asked.ensures at c.in_err-refuse.ensures ∙ same))
 
 pub returns : goal.returns
 unfolding told
 returns c =
-    let e : c.loop-i.i ≡ line_count c.args.card.now = omega (arith, c.lines-i-end.ensures) in
+    let e : c.loop-i.i ≡ line_count c.args.card.now = omega (arith, c.byte-i-end.ensures.0) in
     sym (rw e at c.loop-i.invariant)

@@ -16,14 +16,14 @@ pub loop-i-preserved : goal.loop-i-preserved
 loop-i-preserved c =
     let s = c.args in
     let i = c.loop-i.i in
-    let below : c.loop-i.i < line_count s.card.now = omega (arith, c.lines-i-end.ensures) in
-    let gathered : Gathers s.list.now (rule_count s.card.now) c.listed-used.result = rw c.rules.ensures.0 at c.listed-used.ensures in
+    let below : c.loop-i.i < line_count s.card.now = omega (arith, c.byte-i-end.ensures.0) in
+    let gathered : Gathers s.list.now (rule_count s.card.now) c.listed-used.result = rw c.byte.ensures.0 at c.listed-used.ensures in
     let more = listing_more (mark_of s.card.now (word_items s.card.now s.sure) s.list.now) i s.marks.now (omega (arith, below)) in
-    let true_mark = c.mark.ensures ∙ mark_by_lem s.card.now gathered s.sure i (omega (arith, below)) in
+    let true_mark = c.mark.ensures ∙ mark_by_lem s.card.now gathered s.sure i (omega (arith, below, c.requires.framed.lines)) in
     rw (c.loop-i.invariant, true_mark, add-one) more
 
 pub returns : goal.returns
 unfolding marks_of
 returns c =
-    let e : c.loop-i.i ≡ line_count c.args.card.now = omega (arith, c.lines-i-end.ensures) in
+    let e : c.loop-i.i ≡ line_count c.args.card.now = omega (arith, c.byte-i-end.ensures.0) in
     rw e at c.loop-i.invariant

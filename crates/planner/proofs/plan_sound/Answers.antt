@@ -3,20 +3,24 @@ use Rattle.std.proofs.Common.{arith}
 use Rattle.std.proofs.lemmas.List.{length-take}
 use Rattle.std.proofs.lemmas.Result.{err_from_is_err_and}
 use Rattle.card.specs.Verdict.{where_of}
+use Rattle.card.proofs.CardChecked.{front_here}
 use Rattle.planning.specs.Plan.{told_plan, none_within}
 use Rattle.planning.proofs.SheetPlanned.{room_enough, room_short}
 use Rattle.planner.proofs.PlannerExits.{list_found, none_found}
 use Rattle.planner.proofs.plan_sound.Goals as goal
 
+pub room_for-requires : goal.room_for-requires
+room_for-requires c = rw c.bytes-bytes.ensures.value (front_here c.bytes-bytes.ensures.sound)
+
 pub returns-in_err-room_for : goal.returns-in_err-room_for
 returns-in_err-room_for c =
     let p = err_from_is_err_and c.from_residual.result c.from_residual.ensures.1 in
-    rw (p.1, p.2) (room_short _ _ _ c.bytes-bytes.ensures.sound c.in_err-room_for.ensures)
+    rw (p.1, p.2) (room_short _ _ _ c.bytes-bytes.ensures.sound (rw c.bytes-bytes.ensures.value at c.in_err-room_for.ensures))
 
 pub returns-in_default : goal.returns-in_default
 unfolding told_plan where_of
 returns-in_default c =
-    none_within c.bytes-bytes.ensures.sound (room_enough _ _ _ c.in_ok-room_for.ensures)
+    none_within c.bytes-bytes.ensures.sound (room_enough _ _ _ (rw c.bytes-bytes.ensures.value at c.in_ok-room_for.ensures))
     (none_found _ _ (rw (c.in_default.is, c.bytes-bytes.ensures.value) at c.first_list.ensures))
 
 pub sure_lines-sure-requires : goal.sure_lines-sure-requires
@@ -34,7 +38,7 @@ pub write_plan-requires-clause-first : goal.write_plan-requires-clause-first
 write_plan-requires-clause-first c = let f = list_found _ _ _ c.in-Some.ensures in f.first
 
 pub write_plan-requires-clause-room : goal.write_plan-requires-clause-room
-write_plan-requires-clause-room c = rw c.bytes-bytes.ensures.value (room_enough _ _ _ c.in_ok-room_for.ensures)
+write_plan-requires-clause-room c = room_enough _ _ _ c.in_ok-room_for.ensures
 
 pub returns : goal.returns
 unfolding told_plan

@@ -5,4 +5,4 @@ use Rattle.planning.proofs.room_for.Goals as goal
 
 pub returns : goal.returns
 unfolding room_fault where_of
-returns c = rw (c.steps-s.ensures.0, c.lines-t.ensures.0) at c.refuse.ensures
+returns c = rw (c.byte-s.ensures.0, c.byte-t.ensures.0) at c.refuse.ensures

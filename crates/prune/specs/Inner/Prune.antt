@@ -1,5 +1,5 @@
 -- What the prunings ask of a branch, what they are stocked with, and what they tell.
-use Rattle.std.specs.Prelude.{ℕ, ◌+◌, ◌-◌, ◌≤◌, ◌<◌, ◌≡◌, Bool, true, List, length, get_or}
+use Rattle.std.specs.Prelude.{ℕ, ◌+◌, ◌-◌, ◌≤◌, ◌<◌, ◌≡◌, true, List, length, get_or, Option, IfSome}
 use Rattle.card.specs.Format.{rule_count, line_count, node_count, kind_at, left_at}
 use Rattle.card.specs.Fault.{Sound, clause_part}
 use Rattle.card.specs.Decode.{job_of}
@@ -12,6 +12,7 @@ use Rattle.branch.specs.declared.Branch.{Branch}
 use Rattle.segment.specs.Inner.Tasks.{agenda_of, Laid}
 use Rattle.dead.specs.Inner.Barren.{Honest}
 use Rattle.bounds.specs.Inner.Table.{TableHeld, Settled}
+use Rattle.prune.specs.declared.Table.{Table}
 
 -- how many entries the job's scope has: the rules, then the lines
 abbrev pub job_count : List ℕ → ℕ
@@ -42,9 +43,14 @@ pub record PruneAsks (bs nodes agenda : List ℕ) (b : Branch) : Type 0 where
   pub limit : b.limit ≤ 255
   pub rooted : Rooted bs nodes b.count
 
--- What a later run is stocked with: a table of bounds that is settled, if it is asked, and a memory of dead states of the job's scope.
-pub record StockedWith (bs : List ℕ) (ready : Bool) (names table masks codes words : List ℕ) : Type 0 where
-  pub settled : ready ≡ true → TableHeld bs names table × Settled bs names table masks
+-- The table of bounds is the card's, and settled.
+pub record SettledTable (bs : List ℕ) (t : Table) : Type 0 where
+  pub held : TableHeld bs t.names.now t.cells.now
+  pub settled : Settled bs t.names.now t.cells.now t.masks.now
+
+-- What a later run is stocked with: a table of bounds that is settled, where there is one, and a memory of dead states of the job's scope.
+pub record StockedWith (bs : List ℕ) (table : Option Table) (codes words : List ℕ) : Type 0 where
+  pub settled : IfSome table (SettledTable bs)
   pub memory : Honest bs (job_of bs).scope codes words
 
 -- Nothing is sought for the agenda in the branch, from any floor on.

@@ -1,5 +1,4 @@
 -- A run whose memory is empty at first, and which never gives up.
-use Rattle.std.proofs.Common.{refl}
 use Rattle.branch.specs.declared.Outcome.{Outcome}
 use Rattle.branch.specs.declared.Outcome.TheVariants.{Solved as IsSolved, Stuck as IsStuck, Tired as IsTired}
 use Rattle.branch.specs.Inner.Values.{Awake}
@@ -25,7 +24,7 @@ run-r-requires c =
         entered = s.entered;
         scope = s.scope;
       };
-      stocked = rw s.stock (record { settled = c.requires.tabled; memory = honest_new });
+      stocked = rw s.stock (record { settled = c.requires.settled; memory = honest_new });
     }
 
 pub list_of-requires : goal.list_of-requires

@@ -6,7 +6,7 @@ use Rattle.card.proofs.CardChecked.{sound_front}
 use Rattle.prune.proofs.RootsKept.{rooted_start}
 use Rattle.engine.proofs.WaysSaid.{equipped_at}
 use Rattle.engine.proofs.CountIsScan.{count_is_scan}
-use Rattle.search.proofs.StartFindsFirst.{goal_code, at_goal, asked, ran, start_count, start_limit}
+use Rattle.search.proofs.StartFindsFirst.{goal_code, at_goal, asked, ran, started, start_count, start_limit}
 use Rattle.search.proofs.run.Goals as goal
 
 pub word-goal-requires : goal.word-goal-requires
@@ -43,4 +43,8 @@ returns g c =
     let small = start_limit _ c.start-b.ensures.value c.start-b.ensures.short in
     let goal = at_goal (replicate 104 0) c.start-b.ensures.value c.word-goal.ensures.0 c.byte-depth.ensures.0
     c.put.ensures refl in
-    let stays = c.solve.ensures.stays in record { ran = ran q.sound goal c.solve.ensures.solving q.scope (omega arith); weary = stays.weary }
+    let stays = c.solve.ensures.stays in record {
+      ran = ran q.sound goal c.solve.ensures.solving q.scope (omega arith);
+      starts = started q.sound goal c.solve.ensures.solving q;
+      weary = stays.weary;
+    }

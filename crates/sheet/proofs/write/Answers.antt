@@ -13,5 +13,5 @@ returns c =
     let U = word_items s.card.now s.sure in
     let front = c.write_front in
     let set = part_set 5 k front.new.sheet s.list.now c.copy_from_slice.new.self c.copy_from_slice.ensures.after in
-    whole_sheet s.card.now U s.list.now s.sheet.now front.new.sheet _ _ k refl (rw c.lines.ensures.0 at front.ensures) set
+    whole_sheet s.card.now U s.list.now s.sheet.now front.new.sheet _ _ k refl (rw c.byte.ensures.0 at front.ensures) set
     (part_back (5 + k) (line_count s.card.now) _ (marks_of s.card.now U s.list.now) c.write_marks.new.marks (omega arith) c.write_marks.ensures)
