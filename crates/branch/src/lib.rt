@@ -130,12 +130,11 @@ impl Branch {
         ensures value { result ≡ freed_b self }
         ensures counted { Counted result }
     {
-        Branch {
-            due: 0,
-            strict: LineSet::empty(),
-            lax: self.strict.join(self.lax),
-            ..self
-        }
+        let mut b = self;
+        b.strict = LineSet::empty();
+        b.lax = self.strict.join(self.lax);
+        b.due = 0;
+        b
     }
 
     // ⊤ takes whatever is left: nothing has to be used any more.
@@ -145,11 +144,10 @@ impl Branch {
         ensures value { result ≡ eased_b self }
         ensures counted { Counted result }
     {
-        Branch {
-            len: self.len - 1,
-            slack: true,
-            ..self.freed()
-        }
+        let mut b = self.freed();
+        b.len -= 1;
+        b.slack = true;
+        b
     }
 
     // A segment of its own in the same window.
@@ -158,12 +156,11 @@ impl Branch {
         ensures value { result ≡ own_b self }
         ensures counted { Counted result }
     {
-        Branch {
-            len: 1,
-            used: LineSet::empty(),
-            slack: false,
-            ..self
-        }
+        let mut b = self;
+        b.len = 1;
+        b.used = LineSet::empty();
+        b.slack = false;
+        b
     }
 
     // A part with more behind it: any item may be used, none has to be.
@@ -184,28 +181,21 @@ impl Branch {
         ensures counted { Counted result }
     {
         let gone = w.used;
-        let rest = Branch {
-            at: w.at,
-            len: self.len - 1,
-            used: self.used.join(gone),
-            seen: w.seen,
-            slack: self.slack || w.slack,
-            ..self
-        };
+        let mut b = self;
+        b.at = w.at;
+        b.len -= 1;
+        b.used = self.used.join(gone);
+        b.seen = w.seen;
+        b.slack = self.slack || w.slack;
         if w.slack {
-            let free = rest.freed();
-            return Branch {
-                lax: free.lax.cut(gone),
-                ..free
-            };
+            b = b.freed();
+            b.lax = b.lax.cut(gone);
+            return b;
         }
-        let strict = self.strict.cut(gone);
-        Branch {
-            due: strict.count(),
-            strict,
-            lax: self.lax.cut(gone),
-            ..rest
-        }
+        b.strict = self.strict.cut(gone);
+        b.lax = self.lax.cut(gone);
+        b.due = b.strict.count();
+        b
     }
 
     // The right part of a &, a segment of its own.
@@ -216,26 +206,19 @@ impl Branch {
         ensures counted { Counted result }
     {
         let gone = w.used;
-        let right = Branch {
-            at: w.at,
-            seen: w.seen,
-            ..self.own()
-        };
+        let mut b = self.own();
+        b.at = w.at;
+        b.seen = w.seen;
         if w.slack {
-            let strict = self.strict.join(gone);
-            return Branch {
-                due: strict.count(),
-                strict,
-                lax: self.lax.cut(gone),
-                ..right
-            };
+            b.strict = self.strict.join(gone);
+            b.lax = self.lax.cut(gone);
+            b.due = b.strict.count();
+            return b;
         }
-        Branch {
-            due: gone.count(),
-            strict: gone,
-            lax: LineSet::empty(),
-            ..right
-        }
+        b.strict = gone;
+        b.lax = LineSet::empty();
+        b.due = gone.count();
+        b
     }
 
     // The goal of a ⊸: the lent clause is one more item, and strict.
@@ -248,13 +231,12 @@ impl Branch {
         ensures value { result ≡ lent_b self item }
         ensures counted { Counted result }
     {
-        Branch {
-            count: self.count + 1,
-            len: 1,
-            due: self.due + 1,
-            strict: self.strict.add(item),
-            ..self
-        }
+        let mut b = self;
+        b.count += 1;
+        b.len = 1;
+        b.due += 1;
+        b.strict = self.strict.add(item);
+        b
     }
 
     // How many strict items are left once the item is used: one fewer where it is strict.

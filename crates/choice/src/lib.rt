@@ -174,6 +174,7 @@ fn found(
 }
 
 // The least usable entry from the given one on: a rule, a line, or a lent clause.
+#[inline(always)]
 pub fn seek(
     card: &[u8],
     waits: &[u64; 64],

@@ -1,8 +1,9 @@
 -- Laws of places compared and put, and of the row of a key.
-use Rattle.std.proofs.Common.{ℕ, ◌+◌, ◌-◌, ◌*◌, ◌≤◌, ◌<◌, ◌≡◌, sym, ◌∙◌, ap, Bool, true, List, length, get_or, take, drop, ◌++◌, arith}
+use Rattle.std.proofs.Common.{ℕ, ◌+◌, ◌-◌, ◌*◌, ◌≤◌, ◌<◌, ◌≡◌, refl, sym, ◌∙◌, ap, Bool, true, List, length, get_or, set, take, drop, ◌++◌, arith}
 use native.Mathlib.Decide.{dec_lt}
-use mathlib.Core.Logic.{◌↔◌, ⊎_elim}
-use lib.ListN.{length-drop}
+use mathlib.Core.Logic.{◌↔◌, ⊎_elim, inl, inr}
+use lib.ListN.{length-drop, length-set}
+use lib.Seq.{get_or-set_same, get_or-set_other}
 use lib.Bits.{and_le_r}
 use borrow.Rule.Slice.PartMut.{put_mid}
 use Rattle.std.specs.Bool.{Decides}
@@ -55,6 +56,25 @@ part_put {xs} {ys} {zs} {at} {n} {k} h l p e = record {
 
     behind : (i : ℕ) → at + n ≤ i → get_or (put_mid at k xs zs) i 0 ≡ get_or xs i 0
     behind i m = grind (arith, places, long, front)
+
+-- nothing is put; one place more
+pub put_none : {xs : List ℕ} {at : ℕ} {ys : List ℕ} → Put xs xs at ys 0
+put_none = record { room = refl; here = record { same = λ i l. absurd (omega (arith, l)) }; others = λ k h. refl }
+
+pub put_more : {xs xs' : List ℕ} {at : ℕ} {ys : List ℕ} {n : ℕ} → Put xs xs' at ys n → at + n < length xs
+    → Put xs (set xs' (at + n) (get_or ys n 0)) at ys (n + 1)
+put_more {xs} {xs'} {at} {ys} {n} p h = record {
+  room = length-set xs' (at + n) (get_or ys n 0) ∙ p.room;
+  here = record { same = λ i l. there i l (dec_lt i n) };
+  others = λ k o. get_or-set_other xs' (at + n) k (get_or ys n 0) 0 (λ q. ⊎_elim (λ l. omega arith) (λ l. omega arith) o)
+      ∙ p.others k (⊎_elim (λ l. inl l) (λ l. inr (omega arith)) o);
+}
+  where
+    there : (i : ℕ) → i < n + 1 → Dec (i < n) → get_or (set xs' (at + n) (get_or ys n 0)) (at + i) 0 ≡ get_or ys i 0
+    there i l (yes m) = get_or-set_other xs' (at + n) (at + i) (get_or ys n 0) 0 (λ q. omega arith) ∙ p.here.same i m
+    there i l (no m) =
+        let e : i ≡ n = omega arith in
+        rw e (get_or-set_same xs' (at + n) (get_or ys n 0) 0 (omega (arith, p.room)))
 
 -- ten bits are a number below 1024
 pub row_below : (agenda : List ℕ) (b : Branch) → key_row agenda b < row_count

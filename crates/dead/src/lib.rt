@@ -3,8 +3,8 @@
 // one memory is for one scope. A row is overwritten by the next key that falls on it. A row without tasks is free.
 #![tactic(auto)]
 
-ghost use Rattle.std.specs.Prelude.{◌≡◌, true, ◌↔◌, ◌≤◌, ◌<◌};
-ghost use Rattle.dead.specs.Inner.Rows.{mix, key_row, row_count, row_width, Stored, Recorded};
+ghost use Rattle.std.specs.Prelude.{◌≡◌, ◌+◌, true, ◌↔◌, ◌≤◌, ◌<◌, length};
+ghost use Rattle.dead.specs.Inner.Rows.{mix, key_row, row_count, row_width, Put, Stored, Recorded};
 ghost use Rattle.dead.specs.Inner.Barren.{Asking};
 
 use branch::Branch;
@@ -34,6 +34,17 @@ fn row_of(agenda: &[u16; 104], b: Branch) -> usize
         sum = mixed(sum, agenda[i] as u64);
     }
     (sum & 1023) as usize
+}
+
+// The first n codes of the agenda, put from a place on. One by one: a copy of so many at once would ask an archive for C for `memmove`.
+fn put_codes(codes: &mut [u16], at: usize, agenda: &[u16; 104], n: usize)
+    requires inside { at + n ≤ length codes.old }
+    requires from_inside { n ≤ 104 }
+    ensures { Put codes.old codes.new at agenda.now n }
+{
+    for i in 0..n {
+        codes[at + i] = agenda[i];
+    }
 }
 
 // Whether it is remembered, with as much room, that nothing is readable for the agenda in this branch. Where it is not, nothing is said of the
@@ -66,8 +77,7 @@ pub fn remember(codes: &mut [u16], words: &mut [u64], agenda: &[u16; 104], b: Br
         return;
     }
     let row = row_of(agenda, b);
-    let first = row * WIDTH;
-    codes[first..first + b.len].copy_from_slice(&agenda[..b.len]);
+    put_codes(codes, row * WIDTH, agenda, b.len);
     let at = row * WORDS;
     words[at..at + WORDS].copy_from_slice(&words_of(b));
 }

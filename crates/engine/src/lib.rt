@@ -350,6 +350,7 @@ impl<P: Prune> Search<P> {
     }
 
     // The next task is & or ⊸, a segment of its own: the rest behind its first list; where that finds nothing, behind its next.
+    #[inline(always)]
     #[cycle(engine_search)]
     fn behind(&mut self, job: &Job<'_>, agenda: &[u16; 104], f: Floor, b: Branch) -> Outcome
         requires ready { Ready job.now.card.now job.now.waits.now self.old.tape self.old.nodes self.old.heads f b }

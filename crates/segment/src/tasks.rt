@@ -50,6 +50,7 @@ fn split(card: &[u8], agenda: &mut [u16; 104], i: usize)
 }
 
 // The agenda, until its next task is a name, &, ⊸, ⊕ or 0: past each ⊤ and 1, and each ⊗ parted.
+#[inline(always)]
 pub fn unwind(card: &[u8], agenda: &mut [u16; 104], b: Branch) -> Branch
     requires sound { Sound card.now }
     requires laid { Laid card.now agenda.old b.len b.count }
@@ -59,15 +60,15 @@ pub fn unwind(card: &[u8], agenda: &mut [u16; 104], b: Branch) -> Branch
 {
     let mut c = b;
     while 0 < c.len {
-        c = match kind_of(card, node(agenda, c.len - 1)) {
-            Kind::Top => c.eased(),
-            Kind::One => c.dropped(),
+        match kind_of(card, node(agenda, c.len - 1)) {
+            Kind::Top => c = c.eased(),
+            Kind::One => c.len -= 1,
             Kind::Tensor => {
                 split(card, agenda, c.len - 1);
-                c.longer()
+                c.len += 1;
             }
             _ => return c,
-        };
+        }
     }
     c
 }

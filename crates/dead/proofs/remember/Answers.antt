@@ -15,14 +15,11 @@ pub returns : goal.returns
 returns c =
     let row = c.row_of-row.ensures.1 in
     let e = c.row_of-row.ensures.0 in
-    let tasks = part_put {xs = c.args.codes.now} {ys = c.args.agenda.now} {at = c.row_of-row.result * 16} {n = c.args.b.len}
-    {k = c.row_of-row.result * 16 + c.args.b.len - c.row_of-row.result * 16}
-    (omega (arith, c.requires.code_room)) (omega arith) (omega arith) c.copy_from_slice.ensures.after in
     let key = part_put {xs = c.args.words.now} {ys = key_words c.args.b} {at = c.row_of-row.result * 9} {n = 9}
     {k = c.row_of-row.result * 9 + 9 - c.row_of-row.result * 9}
-    (omega (arith, c.requires.word_room)) (omega arith) (omega arith) (c.copy_from_slice-2.ensures.after ∙ c.words_of.ensures) in
+    (omega (arith, c.requires.word_room)) (omega arith) (omega arith) (c.copy_from_slice.ensures.after ∙ c.words_of.ensures) in
     record {
-      tasks = λ h. rw (sym e) tasks;
+      tasks = λ h. rw (sym e) c.put_codes.ensures;
       key = λ h. rw (sym e) key;
       long = λ h. absurd (omega (arith, h, c.if-b-gt-WIDTH.false));
     }

@@ -12,7 +12,7 @@ use Rattle.branch.specs.declared.Branch.{Branch}
 use Rattle.segment.specs.Inner.Tasks.{node_of, Laid, Unwound, Opened}
 use Rattle.segment.proofs.KindsNumbered.{named, numbered_is}
 use Rattle.segment.proofs.TasksAreAgendas.{laid_short}
-use Rattle.segment.proofs.TurnsTell.{Turning, unwound_self, unwound_trans, rest_turn, done_turn, both_turn, both_short, both_splits}
+use Rattle.segment.proofs.TurnsTell.{Turning, unwound_self, unwound_trans, rest_turn, done_turn, both_turn, both_splits}
 use Rattle.segment.proofs.tasks.unwind.Goals as goal
 
 turning : {bs codes₀ codes : List ℕ} {b₀ b : Branch} → Unwound bs codes₀ codes b₀ b → 0 < b.len → Turning bs codes b
@@ -69,33 +69,27 @@ loop-c-preserved-in-Top c =
 pub loop-c-smaller-in-One : goal.loop-c-smaller-in-One
 loop-c-smaller-in-One c =
     let t = turning c.loop-c.invariant c.loop-c-test.true in
-    rw c.dropped-c.ensures.value (done_turn c.requires.sound t (rw c.node.ensures at c.in-One.ensures)).1
+    (done_turn c.requires.sound t (rw c.node.ensures at c.in-One.ensures)).1
 
 pub loop-c-preserved-in-One : goal.loop-c-preserved-in-One
 loop-c-preserved-in-One c =
     let t = turning c.loop-c.invariant c.loop-c-test.true in
-    rw c.dropped-c.ensures.value
-    (unwound_trans c.loop-c.invariant (done_turn c.requires.sound t (rw c.node.ensures at c.in-One.ensures)).0)
+    unwound_trans c.loop-c.invariant (done_turn c.requires.sound t (rw c.node.ensures at c.in-One.ensures)).0
 
 pub split-requires-clause-splitting : goal.split-requires-clause-splitting
 split-requires-clause-splitting c =
     let t = turning c.loop-c.invariant c.loop-c-test.true in
     both_splits c.requires.sound t (rw c.node.ensures at c.in-Tensor.ensures)
 
-pub longer-c-requires-clause-len_bound : goal.longer-c-requires-clause-len_bound
-longer-c-requires-clause-len_bound c =
-    let t = turning c.loop-c.invariant c.loop-c-test.true in
-    both_short c.requires.sound t (rw c.node.ensures at c.in-Tensor.ensures)
-
 pub loop-c-smaller : goal.loop-c-smaller
 loop-c-smaller c =
     let t = turning c.loop-c.invariant c.loop-c-test.true in
-    rw (c.longer-c.ensures.value, c.split.ensures) (both_turn c.requires.sound t (rw c.node.ensures at c.in-Tensor.ensures)).1
+    rw c.split.ensures (both_turn c.requires.sound t (rw c.node.ensures at c.in-Tensor.ensures)).1
 
 pub loop-c-preserved : goal.loop-c-preserved
 loop-c-preserved c =
     let t = turning c.loop-c.invariant c.loop-c-test.true in
-    rw (c.longer-c.ensures.value, c.split.ensures)
+    rw c.split.ensures
     (unwound_trans c.loop-c.invariant (both_turn c.requires.sound t (rw c.node.ensures at c.in-Tensor.ensures)).0)
 
 pub returns-in_default : goal.returns-in_default
