@@ -1,7 +1,7 @@
 // What the programs share: reading the input and its records, and printing sheets and bytes.
 #![tactic(auto)]
 
-ghost use Rattle.std.specs.Prelude.{◌≡◌, ◌+◌, ◌≤◌, ◌<◌, ℕ, List, length, take, drop, Some, IfOk, MatchOption};
+ghost use Rattle.std.specs.Prelude.{◌≡◌, ◌+◌, ◌^◌, ◌≤◌, ◌<◌, ℕ, List, length, take, drop, Some, IfOk, MatchOption};
 ghost use Rattle.std.specs.Iterator.{at_most};
 ghost use Rattle.std.specs.Int.{from_be_bytes, w16};
 ghost use Rattle.std.specs.Io.KnownBytes.{Consumes, IsAtEnd};
@@ -121,8 +121,10 @@ impl<'a, T, R: Fn(&mut Input<'a>) -> Option<T>> Iterator for Records<'a, R> {
 }
 
 // Each byte as a number, a space before it.
+// Of this and of all that is printed here: an Err is the writer's own. What is lent to be printed is as it was, and what was written
+// before the error stays written.
 #[derive(Drop)]
-struct Numbers<'a>(&'a [u8]);
+pub struct Numbers<'a>(pub &'a [u8]);
 
 impl fmt::Display for Numbers<'_> {
     fn fmt<W: fmt::Write>(&self, f: &mut fmt::Formatter<W>) -> fmt::Result {
@@ -146,15 +148,26 @@ impl fmt::Display for Hex<'_> {
     }
 }
 
-// A sheet's steps and marks, of each fewer than 256.
+// A sheet's steps and marks, few enough that its end is a usize.
 #[derive(Drop)]
 pub struct Sheet<'a> {
     pub steps: &'a [u8],
     pub marks: &'a [u8],
-    ghost counted: { (length steps.now < 256) × (length marks.now < 256) },
+    ghost fits: { 5 + length steps.now + length marks.now < 2 ^ 64 },
 }
 
 impl<'a> Sheet<'a> {
+    // The sheet at the buffer's start, of k steps and t marks.
+    pub fn of(buffer: &'a [u8], k: usize, t: usize) -> Self
+        requires { 5 + k + t ≤ length buffer.now }
+        ensures steps { result.steps.now ≡ take k (drop 5 buffer.now) }
+        ensures marks { result.marks.now ≡ take t (drop (5 + k) buffer.now) }
+    {
+        let (steps, rest) = buffer[5..].split_at(k);
+        let marks = &rest[..t];
+        Sheet { steps, marks }
+    }
+
     // The sheet at the buffer's start, of k steps; its byte 4 says how many marks it has.
     pub fn new(buffer: &'a [u8], k: u8) -> Self
         requires { 5 + k + byte_at buffer.now 4 ≤ length buffer.now }
@@ -162,9 +175,7 @@ impl<'a> Sheet<'a> {
         ensures marks { result.marks.now ≡ take (byte_at buffer.now 4) (drop (5 + k) buffer.now) }
     {
         let t = buffer[4] as usize;
-        let (steps, rest) = buffer[5..].split_at(k as usize);
-        let marks = &rest[..t];
-        Sheet { steps, marks }
+        Sheet::of(buffer, k as usize, t)
     }
 
     // Where it ends.
