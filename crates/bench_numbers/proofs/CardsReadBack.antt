@@ -3,15 +3,18 @@ use Prim.Native.Nat.{ℕ, ◌+◌, ◌*◌, ◌^◌, ◌≤◌, ◌<◌}
 use native.Mathlib.Omega.{arith}
 use mathlib.Core.Path.{◌≡◌, refl, ap, ap₂, ◌∙◌}
 use mathlib.Core.List.{List}
+use Rattle.std.specs.Prelude.{Result, Ok, Err, IfErr}
 use Rattle.card.specs.Format.{Bytes}
 use Rattle.card.specs.Fault.{Placed}
-use Rattle.card.specs.Verdict.{Where, card, line, sheet}
+use Rattle.card.specs.Verdict.{Where, card, line, sheet, number_of}
 use Rattle.numbers.specs.Numbers.{number_in, card_in, place_in, index_in, places, place_of, said_by}
 use Rattle.numbers.proofs.NumbersReadBack.{said_fine, said_refused, pack, number_back, place_back, index_back, no_card, pack_low, Numbered}
 use Rattle.numbers.proofs.NumbersReadBack.{numbered}
 use Rattle.benched.specs.Benched.{Owner, neither, first, second}
 use Rattle.bench.specs.Bench.{JoinVerdict, joined, refused, SourceVerdict, held, unheld, Owned, of_first, of_second}
-use Rattle.bench.specs.Bench.{of_neither, JoinDecided, whole, by_card, too_short, SourceDecided, in_first, in_second, unasked, beyond}
+use Rattle.benched.specs.declared.BenchRefusal.{BenchRefusal}
+use Rattle.bench.specs.declared.LineSource.{LineSource}
+use Rattle.bench.specs.Bench.{told_join, told_source, of_neither, JoinDecided, whole, by_card, too_short, SourceDecided, in_first, in_second, unasked, beyond}
 use Rattle.bench_numbers.specs.BenchNumbers.{owners, owner_at, owner_in, join_in, source_in}
 
 -- a card beside a number that tells none changes no other part of it
@@ -37,6 +40,36 @@ owned_nonzero : {a b : List ℕ} {o : Owner} {n : ℕ} {w : Where} → Owned a b
 owned_nonzero (of_first h p) = h.0
 owned_nonzero (of_second h p) = h.0
 owned_nonzero of_neither = omega arith
+
+join_numbers : {a b old new : List ℕ} {v : JoinVerdict} {o : Owner} {n : ℕ} {w : Where} → JoinDecided a b old new v
+    → v ≡ refused o n w → 1 ≤ n
+join_numbers (whole h k) e = let z : ◌≡◌ {A = ℕ} 0 1 = cc in absurd (omega arith)
+join_numbers {n = m} (by_card {n} x e) q = let z : n ≡ m = cc in omega (arith, owned_nonzero x)
+join_numbers {n = m} (too_short e) q = let z : 10 ≡ m = cc in omega arith
+
+pub join_nonzero : {a b old new : List ℕ} (r : Result ℕ BenchRefusal) → JoinDecided a b old new (told_join r)
+    → IfErr r (λ s. 1 ≤ number_of s.refusal.fault)
+unfolding told_join
+join_nonzero (Ok n) d = tt
+join_nonzero (Err s) d = join_numbers d refl
+
+source_numbers : {a b : List ℕ} {i : ℕ} {v : SourceVerdict} {o : Owner} {n : ℕ} {w : Where} → SourceDecided a b i v
+    → v ≡ unheld o n w → 1 ≤ n
+source_numbers (in_first h k) e = let z : ◌≡◌ {A = ℕ} 0 1 = cc in absurd (omega arith)
+source_numbers (in_second h k) e = let z : ◌≡◌ {A = ℕ} 0 1 = cc in absurd (omega arith)
+source_numbers {n = m} (unasked {n} x) q = let z : n ≡ m = cc in omega (arith, owned_nonzero x)
+source_numbers {n = m} beyond q = let z : 16 ≡ m = cc in omega arith
+
+pub source_nonzero : {a b : List ℕ} {i : ℕ} (r : Result LineSource BenchRefusal) → SourceDecided a b i (told_source r)
+    → IfErr r (λ s. 1 ≤ number_of s.refusal.fault)
+unfolding told_source
+source_nonzero (Ok x) d = tt
+source_nonzero (Err s) d = source_numbers d refl
+
+-- the refusal of an answer that is known has a number that is not 0
+pub some_number : {A : Type 0} {r : Result A BenchRefusal} {s : BenchRefusal} → r ≡ Err s
+    → IfErr r (λ s. 1 ≤ number_of s.refusal.fault) → 1 ≤ number_of s.refusal.fault
+some_number e h = rw e at h
 
 -- a refusal has a number of 32 bits that tells its card
 record StopBack (o : Owner) (n : ℕ) (w : Where) : Type 0 where

@@ -1,7 +1,7 @@
 // The answers of the calls over two cards packed into one number (include/kit_planner.h).
 #![tactic(auto)]
 
-ghost use Rattle.std.specs.Prelude.{◌≡◌, ◌<◌};
+ghost use Rattle.std.specs.Prelude.{◌≡◌, ◌<◌, ◌≤◌, IfErr};
 ghost use Rattle.card.specs.Verdict.{number_of, where_of};
 ghost use Rattle.numbers.specs.Numbers.{number_in, card_in, place_in, index_in, place_of, Plain};
 ghost use Rattle.benched.specs.Benched.{owner_of};
@@ -48,9 +48,10 @@ fn packed_stop(stop: BenchRefusal) -> u32
     with_card(stop.card, packed_refusal(stop.refusal))
 }
 
-// What joining answers.
+// What joining answers; a refusal has a number: 0 is none.
 #[tactic(auto, unfolding(crate::specs::BenchNumbers::owners))]
 pub fn packed_join(answer: Result<u16, BenchRefusal>) -> u32
+    requires { IfErr answer (λ stop. 1 ≤ number_of stop.refusal.fault) }
     ensures join { join_in result ≡ told_join answer }
     ensures plain { Plain result }
     ensures carded { Carded result }
@@ -62,8 +63,9 @@ pub fn packed_join(answer: Result<u16, BenchRefusal>) -> u32
     }
 }
 
-// What asking answers.
+// What asking answers; so has its refusal.
 pub fn packed_source(answer: Result<LineSource, BenchRefusal>) -> u32
+    requires { IfErr answer (λ stop. 1 ≤ number_of stop.refusal.fault) }
     ensures source { source_in result ≡ told_source answer }
     ensures plain { Plain result }
     ensures carded { Carded result }

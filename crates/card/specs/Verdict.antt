@@ -43,7 +43,7 @@ where_of Steps = steps
 where_of (Mark i) = mark i
 where_of (Step i) = step i
 
--- 01's number for each case of the enum `Fault`
+-- 01's number for each case of the enum `Fault`; of a fault of another's, the number that it holds
 abbrev pub number_of : Fault → ℕ
 number_of faults.Short = 1
 number_of faults.LengthField = 2
@@ -64,6 +64,7 @@ number_of faults.NoLine = 16
 number_of faults.Depth = 17
 number_of faults.StepCount = 18
 number_of faults.Undivided = 19
+number_of (faults.Other n) = n
 
 -- 01's number and place of the refusal that a check answers
 unfoldable pub told : Result ⊤ Refusal → Verdict

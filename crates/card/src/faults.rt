@@ -46,6 +46,8 @@ pub enum Fault {
     Depth,
     StepCount,
     Undivided,
+    // A number that no check here tells: of who builds on these.
+    Other(u8),
 }
 
 impl Fault {
@@ -53,7 +55,28 @@ impl Fault {
     pub fn number(self) -> u8
         ensures { result ≡ number_of self }
     {
-        self as u8 + 1
+        match self {
+            Fault::Short => 1,
+            Fault::LengthField => 2,
+            Fault::Version => 3,
+            Fault::Range => 4,
+            Fault::Size => 5,
+            Fault::Node => 6,
+            Fault::Goal => 7,
+            Fault::Rule => 8,
+            Fault::Line => 9,
+            Fault::NoRoom => 10,
+            Fault::NoList => 11,
+            Fault::SheetFront => 12,
+            Fault::Step => 13,
+            Fault::Mark => 14,
+            Fault::Overfull => 15,
+            Fault::NoLine => 16,
+            Fault::Depth => 17,
+            Fault::StepCount => 18,
+            Fault::Undivided => 19,
+            Fault::Other(number) => number,
+        }
     }
 }
 

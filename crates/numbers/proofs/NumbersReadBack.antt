@@ -5,37 +5,15 @@ use mathlib.Core.Path.{◌≡◌, refl, ap, ap₂, ◌∙◌}
 use mathlib.Core.Logic.{◌⊎◌, inl, inr}
 use mathlib.Core.List.{List}
 use borrow.Author.Tests.{eq-eqb, ne_eqb}
-use Rattle.card.specs.declared.faults.Fault.{Fault}
-use Rattle.card.specs.declared.faults.Fault.TheVariants as faults
+use Rattle.std.specs.Prelude.{Result, Ok, Err, IfErr}
+use Rattle.card.specs.declared.faults.Refusal.{Refusal}
 use Rattle.card.specs.Format.{Bytes}
 use Rattle.card.specs.Fault.{Placed}
 use Rattle.card.specs.Verdict.{Where, card, node, rule, line, sheet, steps, mark, step, number_of}
-use Rattle.planning.specs.Plan.{PlanVerdict, planned, refused, PlanDecided, is_planned, is_refused}
-use Rattle.reader.specs.Read.{ReadVerdict, accepted, refused as not_accepted, ReadDecided, is_accepted}
+use Rattle.planning.specs.Plan.{PlanVerdict, planned, refused, told_plan, PlanDecided, is_planned, is_refused}
+use Rattle.reader.specs.Read.{ReadVerdict, accepted, refused as not_accepted, told_read, ReadDecided, is_accepted}
 use Rattle.reader.specs.Read.{is_refused as is_not_accepted}
 use Rattle.numbers.specs.Numbers.{number_in, card_in, place_in, index_in, places, place_of, said_by, plan_in, read_in}
-
--- every refusal has a number of its own
-pub number_positive : (f : Fault) → 1 ≤ number_of f
-number_positive faults.Short = omega arith
-number_positive faults.LengthField = omega arith
-number_positive faults.Version = omega arith
-number_positive faults.Range = omega arith
-number_positive faults.Size = omega arith
-number_positive faults.Node = omega arith
-number_positive faults.Goal = omega arith
-number_positive faults.Rule = omega arith
-number_positive faults.Line = omega arith
-number_positive faults.NoRoom = omega arith
-number_positive faults.NoList = omega arith
-number_positive faults.SheetFront = omega arith
-number_positive faults.Step = omega arith
-number_positive faults.Mark = omega arith
-number_positive faults.Overfull = omega arith
-number_positive faults.NoLine = omega arith
-number_positive faults.Depth = omega arith
-number_positive faults.StepCount = omega arith
-number_positive faults.Undivided = omega arith
 
 -- what a number says, once its parts are known
 module _ {A : Type 0} (fine : ℕ → A) (refusal : ℕ → Where → A) (r : ℕ) where
@@ -137,3 +115,27 @@ unfolding read_in
 read_back b (is_accepted {k} h) = fine_back accepted not_accepted k (omega (arith, b.byte 10))
 read_back b (is_not_accepted {n} {w} h p) =
     refused_back accepted not_accepted b n w p (read_low h) (read_high h)
+
+-- a decision's refusal has a number that is not 0
+plan_numbers : {bs old new : List ℕ} {v : PlanVerdict} {n : ℕ} {w : Where} → PlanDecided bs old new v → v ≡ refused n w → 1 ≤ n
+plan_numbers (is_planned h) e = let z : ◌≡◌ {A = ℕ} 0 1 = cc in absurd (omega arith)
+plan_numbers {n = m} (is_refused {n} h p e) q = let z : n ≡ m = cc in omega (arith, h.0)
+
+pub plan_nonzero : {bs old new : List ℕ} (a : Result ℕ Refusal) → PlanDecided bs old new (told_plan a)
+    → IfErr a (λ r. 1 ≤ number_of r.fault)
+unfolding told_plan
+plan_nonzero (Ok k) d = tt
+plan_nonzero (Err r) d = plan_numbers d refl
+
+read_numbers : {bs : List ℕ} {v : ReadVerdict} {n : ℕ} {w : Where} → ReadDecided bs v → v ≡ not_accepted n w → 1 ≤ n
+read_numbers (is_accepted h) e = let z : ◌≡◌ {A = ℕ} 0 1 = cc in absurd (omega arith)
+read_numbers {n = m} (is_not_accepted {n} h p) q = let z : n ≡ m = cc in omega (arith, read_low h)
+
+pub read_nonzero : {bs : List ℕ} (a : Result ℕ Refusal) → ReadDecided bs (told_read a) → IfErr a (λ r. 1 ≤ number_of r.fault)
+unfolding told_read
+read_nonzero (Ok k) d = tt
+read_nonzero (Err r) d = read_numbers d refl
+
+-- and so has the refusal of an answer that is known
+pub some_number : {a : Result ℕ Refusal} {r : Refusal} → a ≡ Err r → IfErr a (λ r. 1 ≤ number_of r.fault) → 1 ≤ number_of r.fault
+some_number e h = rw e at h

@@ -1,7 +1,7 @@
 // An answer packed into one number (include/kit_planner.h).
 #![tactic(auto)]
 
-ghost use Rattle.std.specs.Prelude.{◌≡◌, ◌<◌};
+ghost use Rattle.std.specs.Prelude.{◌≡◌, ◌<◌, ◌≤◌, IfErr};
 ghost use Rattle.card.specs.Verdict.{number_of, where_of};
 ghost use Rattle.planning.specs.Plan.{told_plan};
 ghost use Rattle.reader.specs.Read.{told_read};
@@ -49,8 +49,9 @@ pub fn packed_refusal(refusal: Refusal) -> u32
     packed(refusal.fault.number(), place, index)
 }
 
-// The planner's answer, or the reader's.
+// The planner's answer, or the reader's, whose refusal has a number: 0 is none.
 pub fn packed_answer(answer: Result<u8, Refusal>) -> u32
+    requires { IfErr answer (λ refusal. 1 ≤ number_of refusal.fault) }
     ensures plan { plan_in result ≡ told_plan answer }
     ensures read { read_in result ≡ told_read answer }
     ensures plain { Plain result }

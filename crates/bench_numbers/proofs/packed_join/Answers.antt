@@ -1,8 +1,8 @@
 -- `packed_join` meets its contract: the length, or the refusal with its card, is told as a number that reads as it.
-use Rattle.numbers.proofs.NumbersReadBack.{number_positive, said_fine}
+use Rattle.numbers.proofs.NumbersReadBack.{said_fine}
 use Rattle.bench.specs.Bench.{joined, refused, told_join}
 use Rattle.bench_numbers.specs.BenchNumbers.{owner_in, join_in}
-use Rattle.bench_numbers.proofs.CardsReadBack.{said_stopped}
+use Rattle.bench_numbers.proofs.CardsReadBack.{said_stopped, some_number}
 use Rattle.bench_numbers.proofs.packed_join.Goals as goal
 
 pub returns-in-Ok-clause-join : goal.returns-in-Ok-clause-join
@@ -14,4 +14,4 @@ pub returns-in-Err-clause-join : goal.returns-in-Err-clause-join
 unfolding told_join join_in
 returns-in-Err-clause-join c =
     let told = c.packed_stop.ensures in
-    rw c.in-Err.is (said_stopped (λ x. joined) refused c.packed_stop.result (number_positive c.in-Err.stop.refusal.fault) told.parts told.owner)
+    rw c.in-Err.is (said_stopped (λ x. joined) refused c.packed_stop.result (some_number c.in-Err.is c.requires) told.parts told.owner)

@@ -1,10 +1,10 @@
 -- `packed_source` meets its contract: the card and the offset, or the refusal with its card, is told as a number that reads as it.
 use Rattle.std.proofs.Common.{ap, ◌∙◌}
-use Rattle.numbers.proofs.NumbersReadBack.{number_positive, said_fine}
+use Rattle.numbers.proofs.NumbersReadBack.{said_fine}
 use Rattle.benched.specs.Benched.{Owner}
 use Rattle.bench.specs.Bench.{held, unheld, told_source}
 use Rattle.bench_numbers.specs.BenchNumbers.{owner_in, source_in}
-use Rattle.bench_numbers.proofs.CardsReadBack.{said_stopped}
+use Rattle.bench_numbers.proofs.CardsReadBack.{said_stopped, some_number}
 use Rattle.bench_numbers.proofs.packed_source.Goals as goal
 
 pub returns-in-Ok-clause-source : goal.returns-in-Ok-clause-source
@@ -21,4 +21,4 @@ pub returns-in-Err-clause-source : goal.returns-in-Err-clause-source
 unfolding told_source source_in
 returns-in-Err-clause-source c =
     let told = c.packed_stop.ensures in
-    rw c.in-Err.is (said_stopped held unheld c.packed_stop.result (number_positive c.in-Err.stop.refusal.fault) told.parts told.owner)
+    rw c.in-Err.is (said_stopped held unheld c.packed_stop.result (some_number c.in-Err.is c.requires) told.parts told.owner)

@@ -9,14 +9,14 @@ pub returns-in_err-about : goal.returns-in_err-about
 unfolding bench_fault owner_of told_bench
 returns-in_err-about c =
     let p = err_from_is_err_and c.from_residual.result c.from_residual.ensures.1 in
-    rw (p.1, p.2) (sym (stops _ refl (rw c.check.ensures at c.in_err-about.ensures)))
+    rw (p.1, p.2) (sym (stops _ {r = c.in_err-about.field-0.0} refl (rw c.check.ensures at c.in_err-about.ensures)))
 
 pub returns-in_err-about-2 : goal.returns-in_err-about-2
 unfolding bench_fault owner_of told_bench
 returns-in_err-about-2 c =
     let p = err_from_is_err_and c.from_residual-in_err-about-2.result c.from_residual-in_err-about-2.ensures.1 in
     rw (p.1, p.2)
-    (sym (onward (passed refl (rw c.check.ensures at c.in_ok-about.ensures)) (stops _ refl (rw c.check-2.ensures at c.in_err-about-2.ensures))))
+    (sym (onward (passed refl (rw c.check.ensures at c.in_ok-about.ensures)) (stops _ {r = c.in_err-about-2.field-0.0} refl (rw c.check-2.ensures at c.in_err-about-2.ensures))))
 
 pub new-a-requires : goal.new-a-requires
 unfolding owner_of

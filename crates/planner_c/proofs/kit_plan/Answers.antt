@@ -1,7 +1,12 @@
--- `kit_plan` meets its contract: the answer is an outcome, and its number reads as it.
+-- `kit_plan` meets its contract: the answer is an outcome, a refusal has a number, and the number reads as the outcome.
 use Rattle.std.proofs.Common.{sym, subst}
 use Rattle.planning.specs.Plan.{PlanVerdict, Planning}
+use Rattle.planner.proofs.PlannedExactly.{plan_decided}
+use Rattle.numbers.proofs.NumbersReadBack.{plan_nonzero}
 use Rattle.planner_c.proofs.kit_plan.Goals as goal
+
+pub packed_answer-requires : goal.packed_answer-requires
+packed_answer-requires c = plan_nonzero _ (plan_decided c.plan-answer.ensures)
 
 pub returns-clause-planning : goal.returns-clause-planning
 returns-clause-planning c =
