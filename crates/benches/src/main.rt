@@ -51,15 +51,16 @@ impl<'a> Record<'a> {
 
     // Joins the cards into the buffer and prints the outcome.
     fn print_joined(&self, out: &mut impl Write, buffer: &mut [u8]) -> io::Result<()> {
+        out.write_all(b"  ")?;
         match bench::join(self.first, self.second, buffer) {
             Ok(n) => {
                 let (joined, rest) = buffer.split_at(n as usize);
-                writeln!(out, "  joined {n}:{}", Hex(joined))?;
+                writeln!(out, "joined {n}:{}", Hex(joined))?;
                 print_kept(out, rest)?;
                 print_plan(out, joined)
             }
             Err(refusal) => {
-                writeln!(out, "  {refusal}")?;
+                writeln!(out, "{refusal}")?;
                 print_kept(out, buffer)
             }
         }
@@ -90,9 +91,11 @@ fn print_kept(out: &mut impl Write, rest: &[u8]) -> io::Result<()> {
 // Plans the card and prints the outcome.
 fn print_plan(out: &mut impl Write, card: &[u8]) -> io::Result<()> {
     let mut buffer = [FILL; 324];
+    // Before the card is planned, which can take long.
+    out.write_all(b"  ")?;
     match planner::plan(card, &mut buffer) {
-        Ok(k) => writeln!(out, "  {}", Sheet::new(&buffer, k)),
-        Err(refusal) => writeln!(out, "  {refusal}"),
+        Ok(k) => writeln!(out, "{}", Sheet::new(&buffer, k)),
+        Err(refusal) => writeln!(out, "{refusal}"),
     }
 }
 

@@ -27,9 +27,10 @@ impl<'a> Record<'a> {
     // An Err is the writer's own; what was written before it stays written.
     fn print(&self, out: &mut impl Write) -> io::Result<()> {
         out.write_all(self.label)?;
+        out.write_all(b": ")?;
         match checks::check(self.card) {
-            Ok(()) => writeln!(out, ": sound"),
-            Err(refusal) => writeln!(out, ": {refusal}"),
+            Ok(()) => writeln!(out, "sound"),
+            Err(refusal) => writeln!(out, "{refusal}"),
         }
     }
 }

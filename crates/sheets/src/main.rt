@@ -30,9 +30,10 @@ impl<'a> Record<'a> {
     // An Err is the writer's own; what was written before it stays written.
     fn print(&self, out: &mut impl Write) -> io::Result<()> {
         out.write_all(self.label)?;
+        out.write_all(b": ")?;
         match reader::read(self.card, self.sheet) {
-            Ok(k) => writeln!(out, ": accepted {k}"),
-            Err(refusal) => writeln!(out, ": {refusal}"),
+            Ok(k) => writeln!(out, "accepted {k}"),
+            Err(refusal) => writeln!(out, "{refusal}"),
         }
     }
 }

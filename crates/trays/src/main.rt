@@ -34,15 +34,17 @@ impl<'a> Record<'a> {
         let mut buffer = [FILL; 324];
         let size = self.size.min(buffer.len());
         let lent = &mut buffer[..size];
+        // What stands before the outcome is written before the card is planned, which can take long.
         out.write_all(self.label)?;
+        out.write_all(b": ")?;
         let end = match planner::plan(self.card, lent) {
             Ok(k) => {
                 let sheet = Sheet::new(lent, k);
-                write!(out, ": {sheet}")?;
+                write!(out, "{sheet}")?;
                 sheet.end()
             }
             Err(refusal) => {
-                write!(out, ": {refusal}")?;
+                write!(out, "{refusal}")?;
                 0
             }
         };
