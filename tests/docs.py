@@ -17,7 +17,7 @@ import tempfile
 
 DEFINED = ("docs/PROOFS.md", "docs/GLOSSARY.md", "docs/ARCHITECTURE.md")
 PORT = "docs/PORT.md"
-GONE = ("docs/CHANGES.md", "docs/DESIGN-PASS.md", PORT)
+GONE = ("docs/CHANGES.md", "docs/DESIGN-PASS.md", "docs/LOOK-BACK.md", PORT)
 CODE = ("crates/", "include/", "rust/", "tests/", "examples/", "man/")
 NOT_OURS = {".git", "target", "out", "__pycache__"}
 KEYWORDS = set("requires ensures ghost let else match enum struct impl mut unsafe record data u8 u16 u32 u64 usize bool".split())

@@ -204,7 +204,8 @@ module _ {bs zeros codes : List ℕ} {b : Branch} {goal depth : ℕ} (s : Sound 
     unfolding start_b
     started {waits} q = at answered
       where
-        at : Solving bs (goal_codes s zeros a.room) no_floor (start_b bs) tape tape' nodes nodes' heads heads' r → Starts bs waits tape' nodes' heads'
+        at : Solving bs (goal_codes s zeros a.room) no_floor (start_b bs) tape tape' nodes nodes' heads heads' r
+            → Starts bs waits tape' nodes' heads'
         at y = record {
           sound = q.sound;
           waiting = q.waiting;

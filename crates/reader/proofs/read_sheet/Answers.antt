@@ -34,10 +34,12 @@ returns-in_err-sure c =
     rw (p.1, p.2) (found_wrong _ _ _ c.bytes-bytes.ensures.sound fits c.byte-k.ensures.0 _ (rw c.bytes-bytes.ensures.value at c.in_err-sure.ensures.following))
 
 pub slice_bounds-marks_check-count : goal.slice_bounds-marks_check-count
-slice_bounds-marks_check-count c = let f = fitting _ _ (passed _ _ refl (rw c.bytes-bytes.ensures.value at c.in_ok-front_check.ensures)) in omega arith
+slice_bounds-marks_check-count c =
+    let f = fitting _ _ (passed _ _ refl (rw c.bytes-bytes.ensures.value at c.in_ok-front_check.ensures)) in omega arith
 
 pub slice_bounds-marks_check-start : goal.slice_bounds-marks_check-start
-slice_bounds-marks_check-start c = let f = fitting _ _ (passed _ _ refl (rw c.bytes-bytes.ensures.value at c.in_ok-front_check.ensures)) in omega arith
+slice_bounds-marks_check-start c =
+    let f = fitting _ _ (passed _ _ refl (rw c.bytes-bytes.ensures.value at c.in_ok-front_check.ensures)) in omega arith
 
 pub marks_check-requires : goal.marks_check-requires
 marks_check-requires c =
