@@ -51,7 +51,7 @@ pub enum Fault {
 }
 
 impl Fault {
-    // 01's number.
+    // 01's number, or another's.
     pub fn number(self) -> u8
         ensures { result ≡ number_of self }
     {

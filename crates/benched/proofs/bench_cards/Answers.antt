@@ -16,7 +16,8 @@ unfolding bench_fault owner_of told_bench
 returns-in_err-about-2 c =
     let p = err_from_is_err_and c.from_residual-in_err-about-2.result c.from_residual-in_err-about-2.ensures.1 in
     rw (p.1, p.2)
-    (sym (onward (passed refl (rw c.check.ensures at c.in_ok-about.ensures)) (stops _ {r = c.in_err-about-2.field-0.0} refl (rw c.check-2.ensures at c.in_err-about-2.ensures))))
+    (sym (onward (passed refl (rw c.check.ensures at c.in_ok-about.ensures))
+    (stops _ {r = c.in_err-about-2.field-0.0} refl (rw c.check-2.ensures at c.in_err-about-2.ensures))))
 
 pub new-a-requires : goal.new-a-requires
 unfolding owner_of
