@@ -90,8 +90,9 @@ fn remembering(job: &Job<'_>, tape: &mut [u8; 255], table: Option<Table<'_>>) ->
     list_of(&search.way, r)
 }
 
-// A run with the table of bounds, if it is asked for and settled, and a memory. It calls itself where the table is not settled, so the
-// room for its arrays is not taken up by a first run that answers.
+// A run with the table of bounds, if it is asked for and settled, and a memory. It calls itself where the table is not settled. It is not merged
+// into its caller, so the room for its arrays is not taken up by a first run that answers.
+#[inline(never)]
 fn pruned(job: &Job<'_>, tape: &mut [u8; 255], bounded: bool) -> Option<usize>
     requires sound { Sound job.now.card.now }
     requires waiting { Waiting job.now.card.now job.now.waits.now }
