@@ -22,7 +22,7 @@
  *   - Nothing else writes these bytes during a call, nor reads those of the buffer that it writes.
  *
  * Any lengths and any bytes are allowed. A call keeps nothing and takes no memory but the stack: on the deepest
- * cards tried 551 KB for kit_plan, 60 KB for kit_read and 2 KB for the others. It may run in several threads at
+ * cards tried 552 KB for kit_plan, 60 KB for kit_read and 2 KB for the others. It may run in several threads at
  * once, each with a buffer of its own to write.
  *
  * Checking, reading, joining and asking for a source take time by the length of card and sheet. kit_plan can take

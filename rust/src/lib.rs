@@ -15,7 +15,7 @@
 //! # Ok::<(), kit_planner::Refusal>(())
 //! ```
 //!
-//! A call takes nothing but stack: at most 551 KB to plan on the deepest cards tried. Any bytes of any length may be
+//! A call takes nothing but stack: at most 552 KB to plan on the deepest cards tried. Any bytes of any length may be
 //! lent. Planning can take long on a hard card and cannot be stopped, so run it in a thread or process of its own
 //! where that matters; the other calls take time by the length of what is lent.
 //!
