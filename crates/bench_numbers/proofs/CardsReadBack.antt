@@ -1,15 +1,15 @@
 -- A number that tells a card reads as the outcome that it tells.
-use Prim.Native.Nat.{ℕ, ◌+◌, ◌*◌, ◌^◌, ◌≤◌, ◌<◌}
+use Prim.Native.Nat.{ℕ, zero, suc, ◌+◌, ◌*◌, ◌^◌, ◌≤◌, ◌<◌}
 use native.Mathlib.Omega.{arith}
 use mathlib.Core.Path.{◌≡◌, refl, ap, ap₂, ◌∙◌}
 use mathlib.Core.List.{List}
-use Rattle.std.specs.Prelude.{Result, Ok, Err, IfErr}
+use Rattle.std.specs.Prelude.{Result, Ok, Err, IfErr, length}
 use Rattle.card.specs.Format.{Bytes}
 use Rattle.card.specs.Fault.{Placed}
 use Rattle.card.specs.Verdict.{Where, card, line, sheet, number_of}
 use Rattle.numbers.specs.Numbers.{number_in, card_in, place_in, index_in, places, place_of, said_by}
 use Rattle.numbers.proofs.NumbersReadBack.{said_fine, said_refused, pack, number_back, place_back, index_back, no_card, pack_low, Numbered}
-use Rattle.numbers.proofs.NumbersReadBack.{numbered}
+use Rattle.numbers.proofs.NumbersReadBack.{numbered, said_unnumbered}
 use Rattle.benched.specs.Benched.{Owner, neither, first, second}
 use Rattle.bench.specs.Bench.{JoinVerdict, joined, refused, SourceVerdict, held, unheld, Owned, of_first, of_second}
 use Rattle.benched.specs.declared.BenchRefusal.{BenchRefusal}
@@ -34,6 +34,21 @@ pub said_stopped : {A : Type 0} (fine : Owner → ℕ → A) (refusal : Owner �
     → said_by (fine (owner_in r)) (refusal (owner_in r)) r ≡ refusal o n w
 said_stopped fine refusal r {o} {n} {w} s h e =
     said_refused (fine (owner_in r)) (refusal (owner_in r)) r s h ∙ ap (λ (x : Owner). refusal x n w) e
+
+-- and so does one with the number 0, which has a place
+pub said_unnumbered_stop : {A : Type 0} (fine : Owner → ℕ → A) (refusal : Owner → ℕ → Where → A) (r : ℕ) {o : Owner} {w : Where}
+    → 1 ≤ place_in r → (number_in r ≡ 0) × (place_of (place_in r) (index_in r) ≡ w) → owner_in r ≡ o
+    → said_by (fine (owner_in r)) (refusal (owner_in r)) r ≡ refusal o 0 w
+said_unnumbered_stop fine refusal r {o} {w} s h e =
+    said_unnumbered (fine (owner_in r)) (refusal (owner_in r)) r s h ∙ ap (λ (x : Owner). refusal x 0 w) e
+
+-- the number that reads as neither card is 0
+pub neither_zero : (c : ℕ) → c < length owners → owner_at c ≡ neither → c ≡ 0
+unfolding owner_at owners
+neither_zero zero h e = refl
+neither_zero (suc zero) h e = cc
+neither_zero (suc (suc zero)) h e = cc
+neither_zero (suc (suc (suc c))) h e = absurd (omega (arith, h))
 
 -- a decision's refusal has a number that is not 0
 owned_nonzero : {a b : List ℕ} {o : Owner} {n : ℕ} {w : Where} → Owned a b o n w → 1 ≤ n

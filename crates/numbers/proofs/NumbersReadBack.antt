@@ -1,11 +1,13 @@
 -- A number reads as the outcome that it tells, and every decision has a number.
-use Prim.Native.Nat.{ℕ, ◌+◌, ◌*◌, ◌^◌, ◌≤◌, ◌<◌}
+use Prim.Native.Nat.{ℕ, zero, suc, ◌+◌, ◌*◌, ◌^◌, ◌≤◌, ◌<◌}
 use native.Mathlib.Omega.{arith}
 use mathlib.Core.Path.{◌≡◌, refl, ap, ap₂, ◌∙◌}
 use mathlib.Core.Logic.{◌⊎◌, inl, inr}
 use mathlib.Core.List.{List}
 use borrow.Author.Tests.{eq-eqb, ne_eqb}
 use Rattle.std.specs.Prelude.{Result, Ok, Err, IfErr}
+use Rattle.card.specs.declared.faults.Fault.{Fault}
+use Rattle.card.specs.declared.faults.Fault.TheVariants as faults
 use Rattle.card.specs.declared.faults.Refusal.{Refusal}
 use Rattle.card.specs.Format.{Bytes}
 use Rattle.card.specs.Fault.{Placed}
@@ -14,6 +16,30 @@ use Rattle.planning.specs.Plan.{PlanVerdict, planned, refused, told_plan, PlanDe
 use Rattle.reader.specs.Read.{ReadVerdict, accepted, refused as not_accepted, told_read, ReadDecided, is_accepted}
 use Rattle.reader.specs.Read.{is_refused as is_not_accepted}
 use Rattle.numbers.specs.Numbers.{number_in, card_in, place_in, index_in, places, place_of, said_by, plan_in, read_in}
+
+-- every fault but one has a number that is not 0
+pub number_positive : (f : Fault) → (f ≡ faults.Other 0 → ⊥) → 1 ≤ number_of f
+number_positive faults.Short k = omega arith
+number_positive faults.LengthField k = omega arith
+number_positive faults.Version k = omega arith
+number_positive faults.Range k = omega arith
+number_positive faults.Size k = omega arith
+number_positive faults.Node k = omega arith
+number_positive faults.Goal k = omega arith
+number_positive faults.Rule k = omega arith
+number_positive faults.Line k = omega arith
+number_positive faults.NoRoom k = omega arith
+number_positive faults.NoList k = omega arith
+number_positive faults.SheetFront k = omega arith
+number_positive faults.Step k = omega arith
+number_positive faults.Mark k = omega arith
+number_positive faults.Overfull k = omega arith
+number_positive faults.NoLine k = omega arith
+number_positive faults.Depth k = omega arith
+number_positive faults.StepCount k = omega arith
+number_positive faults.Undivided k = omega arith
+number_positive (faults.Other zero) k = absurd (k refl)
+number_positive (faults.Other (suc n)) k = omega arith
 
 -- what a number says, once its parts are known
 module _ {A : Type 0} (fine : ℕ → A) (refusal : ℕ → Where → A) (r : ℕ) where
@@ -25,6 +51,12 @@ module _ {A : Type 0} (fine : ℕ → A) (refusal : ℕ → Where → A) (r : �
       → said_by fine refusal r ≡ refusal n w
   unfolding said_by
   said_refused g h = simp (ne_eqb (number_in r) 0 (λ z. omega (arith, h.0))) (ap₂ refusal h.0 h.1)
+
+  pub said_unnumbered : {w : Where} → 1 ≤ place_in r → (number_in r ≡ 0) × (place_of (place_in r) (index_in r) ≡ w)
+      → said_by fine refusal r ≡ refusal 0 w
+  unfolding said_by
+  said_unnumbered g h =
+      simp (eq-eqb (number_in r) 0 h.0, ne_eqb (place_in r) 0 (λ z. omega (arith, g))) (ap₂ refusal h.0 h.1)
 
 -- the parts of a number, packed
 unfoldable pub pack : ℕ → ℕ → ℕ → ℕ

@@ -49,8 +49,33 @@ pub fn packed_refusal(refusal: Refusal) -> u32
     packed(refusal.fault.number(), place, index)
 }
 
-// The planner's answer, or the reader's, whose refusal has a number: 0 is none.
+// A refusal with the number 0, at this place. It is not read as none: the card's place, which is 0, is told as 8, and read as the card too.
+#[tactic(auto, unfolding(crate::specs::Numbers::place_of, crate::specs::Numbers::places))]
+pub fn packed_unnumbered(place: Place) -> u32
+    ensures parts { (number_in result ≡ 0) × (place_of (place_in result) (index_in result) ≡ where_of place) }
+    ensures placed { 1 ≤ place_in result }
+    ensures plain { Plain result }
+    ensures no_card { card_in result ≡ 0 }
+{
+    let (p, index) = place_parts(place);
+    packed(0, if p == 0 { 8 } else { p }, index)
+}
+
+// The planner's answer, or the reader's. Its refusal may have any number.
 pub fn packed_answer(answer: Result<u8, Refusal>) -> u32
+    ensures plan { plan_in result ≡ told_plan answer }
+    ensures read { read_in result ≡ told_read answer }
+    ensures plain { Plain result }
+    ensures no_card { card_in result ≡ 0 }
+{
+    match answer {
+        Err(refusal) if refusal.fault.number() == 0 => packed_unnumbered(refusal.place),
+        _ => packed_numbered(answer),
+    }
+}
+
+// The planner's answer, or the reader's, whose refusal has a number that is not 0.
+pub fn packed_numbered(answer: Result<u8, Refusal>) -> u32
     requires { IfErr answer (λ refusal. 1 ≤ number_of refusal.fault) }
     ensures plan { plan_in result ≡ told_plan answer }
     ensures read { read_in result ≡ told_read answer }
@@ -60,5 +85,34 @@ pub fn packed_answer(answer: Result<u8, Refusal>) -> u32
     match answer {
         Ok(k) => packed(0, 0, u16::from(k)),
         Err(refusal) => packed_refusal(refusal),
+    }
+}
+
+#[cfg(test)]
+mod tests {
+    use super::*;
+    use card::Fault;
+
+    #[test]
+    fn any_number_is_told(rt: HostRuntime) {
+        let refused = |fault, place| Err(Refusal { fault, place });
+        let answers = [
+            (Ok(0), 0),
+            (Ok(7), 7),
+            (refused(Fault::NoList, Place::Card), 11 << 24),
+            (
+                refused(Fault::Step, Place::Step(3)),
+                (13 << 24) + (7 << 16) + 3,
+            ),
+            (refused(Fault::Other(0), Place::Card), 8 << 16),
+            (refused(Fault::Other(0), Place::Sheet), 4 << 16),
+            (
+                refused(Fault::Other(200), Place::Node(300)),
+                (200 << 24) + (1 << 16) + 300,
+            ),
+        ];
+        for (answer, number) in answers {
+            assert_eq!(rt; packed_answer(answer), number);
+        }
     }
 }

@@ -16,7 +16,7 @@ pub extern "C" fn kit_plan(card: &[u8], sheet: &mut [u8]) -> u32
     ensures no_card { card_in result ≡ 0 }
 {
     let answer = planner::plan(card, sheet);
-    numbers::packed_answer(answer)
+    numbers::packed_numbered(answer)
 }
 
 // Reads the sheet against the card: reader::read, its answer as a number that reads as the outcome.
@@ -28,7 +28,7 @@ pub extern "C" fn kit_read(card: &[u8], sheet: &[u8]) -> u32
     ensures no_card { card_in result ≡ 0 }
 {
     let answer = reader::read(card, sheet);
-    numbers::packed_answer(answer)
+    numbers::packed_numbered(answer)
 }
 
 // Joins two cards into the lent buffer: bench::join, its answer as a number that reads as the outcome.
@@ -41,7 +41,7 @@ pub extern "C" fn kit_join(first: &[u8], second: &[u8], joined: &mut [u8]) -> u3
     ensures uncarded { Uncarded result }
 {
     let answer = bench::join(first, second, joined);
-    bench_numbers::packed_join(answer)
+    bench_numbers::packed_numbered_join(answer)
 }
 
 // Which card holds joined line i, and where its three bytes begin there: bench::locate, its answer as a number that reads as the outcome.
@@ -52,5 +52,5 @@ pub extern "C" fn kit_source(first: &[u8], second: &[u8], i: u16) -> u32
     ensures carded { Carded result }
 {
     let answer = bench::locate(first, second, i);
-    bench_numbers::packed_source(answer)
+    bench_numbers::packed_numbered_source(answer)
 }

@@ -148,15 +148,61 @@ impl fmt::Display for Hex<'_> {
     }
 }
 
-// A sheet's steps and marks, few enough that its end is a usize.
+// A sheet's steps and marks, of each fewer than 256.
 #[derive(Drop)]
 pub struct Sheet<'a> {
+    pub steps: &'a [u8],
+    pub marks: &'a [u8],
+    ghost counted: { (length steps.now < 256) × (length marks.now < 256) },
+}
+
+impl<'a> Sheet<'a> {
+    // The sheet at the buffer's start, of k steps; its byte 4 says how many marks it has.
+    pub fn new(buffer: &'a [u8], k: u8) -> Self
+        requires { 5 + k + byte_at buffer.now 4 ≤ length buffer.now }
+        ensures steps { result.steps.now ≡ take k (drop 5 buffer.now) }
+        ensures marks { result.marks.now ≡ take (byte_at buffer.now 4) (drop (5 + k) buffer.now) }
+    {
+        let sheet = LongSheet::new(buffer, k);
+        Sheet {
+            steps: sheet.steps,
+            marks: sheet.marks,
+        }
+    }
+
+    // The same as one that may be longer.
+    fn long(&self) -> LongSheet<'a>
+        ensures { (result.steps ≡ self.now.steps) × (result.marks ≡ self.now.marks) }
+    {
+        LongSheet {
+            steps: self.steps,
+            marks: self.marks,
+        }
+    }
+
+    // Where it ends.
+    pub fn end(&self) -> usize
+        ensures { result ≡ 5 + length self.now.steps.now + length self.now.marks.now }
+    {
+        self.long().end()
+    }
+}
+
+impl fmt::Display for Sheet<'_> {
+    fn fmt<W: fmt::Write>(&self, f: &mut fmt::Formatter<W>) -> fmt::Result {
+        self.long().fmt(f)
+    }
+}
+
+// Steps and marks of any number, few enough that their sheet's end is a usize.
+#[derive(Drop)]
+pub struct LongSheet<'a> {
     pub steps: &'a [u8],
     pub marks: &'a [u8],
     ghost fits: { 5 + length steps.now + length marks.now < 2 ^ 64 },
 }
 
-impl<'a> Sheet<'a> {
+impl<'a> LongSheet<'a> {
     // The sheet at the buffer's start, of k steps and t marks.
     pub fn of(buffer: &'a [u8], k: usize, t: usize) -> Self
         requires { 5 + k + t ≤ length buffer.now }
@@ -165,7 +211,7 @@ impl<'a> Sheet<'a> {
     {
         let (steps, rest) = buffer[5..].split_at(k);
         let marks = &rest[..t];
-        Sheet { steps, marks }
+        LongSheet { steps, marks }
     }
 
     // The sheet at the buffer's start, of k steps; its byte 4 says how many marks it has.
@@ -175,7 +221,7 @@ impl<'a> Sheet<'a> {
         ensures marks { result.marks.now ≡ take (byte_at buffer.now 4) (drop (5 + k) buffer.now) }
     {
         let t = buffer[4] as usize;
-        Sheet::of(buffer, k as usize, t)
+        LongSheet::of(buffer, k as usize, t)
     }
 
     // Where it ends.
@@ -186,7 +232,7 @@ impl<'a> Sheet<'a> {
     }
 }
 
-impl fmt::Display for Sheet<'_> {
+impl fmt::Display for LongSheet<'_> {
     fn fmt<W: fmt::Write>(&self, f: &mut fmt::Formatter<W>) -> fmt::Result {
         let k = self.steps.len();
         write!(
@@ -195,5 +241,22 @@ impl fmt::Display for Sheet<'_> {
             Numbers(self.steps),
             Numbers(self.marks)
         )
+    }
+}
+
+#[cfg(test)]
+mod tests {
+    use super::*;
+
+    #[test]
+    fn sheets_have_their_parts(rt: HostRuntime) {
+        let buffer = [0, 9, 1, 2, 2, 3, 4, 1, 0, 9];
+        let sheet = Sheet::new(&buffer, 2);
+        assert_eq!(rt; sheet.steps, [3, 4].as_slice());
+        assert_eq!(rt; sheet.marks, [1, 0].as_slice());
+        assert_eq!(rt; sheet.end(), 9);
+        let long = LongSheet::new(&buffer, 2);
+        assert_eq!(rt; long.end(), 9);
+        assert_eq!(rt; LongSheet::of(&[7; 600], 1, 594).end(), 600);
     }
 }

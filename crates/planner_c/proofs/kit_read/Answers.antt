@@ -5,11 +5,11 @@ use Rattle.reader.proofs.AcceptedExactly.{read_decided}
 use Rattle.numbers.proofs.NumbersReadBack.{read_nonzero}
 use Rattle.planner_c.proofs.kit_read.Goals as goal
 
-pub packed_answer-requires : goal.packed_answer-requires
-packed_answer-requires c = read_nonzero _ (read_decided c.read-answer.ensures.reading)
+pub packed_numbered-requires : goal.packed_numbered-requires
+packed_numbered-requires c = read_nonzero _ (read_decided c.read-answer.ensures.reading)
 
 pub returns-clause-reading : goal.returns-clause-reading
-returns-clause-reading c = subst (Reading _ _) (sym c.packed_answer.ensures.read) c.read-answer.ensures.reading
+returns-clause-reading c = subst (Reading _ _) (sym c.packed_numbered.ensures.read) c.read-answer.ensures.reading
 
 pub returns-clause-accepts_exactly : goal.returns-clause-accepts_exactly
-returns-clause-accepts_exactly c = subst (AcceptsExactly _ _) (sym c.packed_answer.ensures.read) c.read-answer.ensures.accepts_exactly
+returns-clause-accepts_exactly c = subst (AcceptsExactly _ _) (sym c.packed_numbered.ensures.read) c.read-answer.ensures.accepts_exactly
