@@ -8,8 +8,8 @@ use Rattle.card.specs.Format.{Bytes}
 use Rattle.card.specs.Fault.{Placed}
 use Rattle.card.specs.Verdict.{Where, card, line, sheet, number_of}
 use Rattle.numbers.specs.Numbers.{number_in, card_in, place_in, index_in, places, place_of, said_by}
-use Rattle.numbers.proofs.NumbersReadBack.{said_fine, said_refused, pack, number_back, place_back, index_back, no_card, pack_low, Numbered}
-use Rattle.numbers.proofs.NumbersReadBack.{numbered, said_unnumbered}
+use Rattle.numbers.proofs.NumbersReadBack.{said_fine, said_apart, pack, number_back, place_back, index_back, no_card, pack_low, Numbered}
+use Rattle.numbers.proofs.NumbersReadBack.{numbered}
 use Rattle.benched.specs.Benched.{Owner, neither, first, second}
 use Rattle.bench.specs.Bench.{JoinVerdict, joined, refused, SourceVerdict, held, unheld, Owned, of_first, of_second}
 use Rattle.benched.specs.declared.BenchRefusal.{BenchRefusal}
@@ -28,19 +28,17 @@ module _ (bare c : ℕ) (n : card_in bare ≡ 0) (h : c < 3) where
   pub card_told : card_in with ≡ c
   card_told = omega (arith, n, h)
 
--- a refusal that is told with its card reads as the call's
+-- a refusal that is told with its card, and has a place that is not 0 where its number is 0, reads as the call's
+pub said_apart_stop : {A : Type 0} (fine : Owner → ℕ → A) (refusal : Owner → ℕ → Where → A) (r : ℕ) {o : Owner} {n : ℕ} {w : Where}
+    → (n ≡ 0 → 1 ≤ place_in r) → (number_in r ≡ n) × (place_of (place_in r) (index_in r) ≡ w) → owner_in r ≡ o
+    → said_by (fine (owner_in r)) (refusal (owner_in r)) r ≡ refusal o n w
+said_apart_stop fine refusal r {o} {n} {w} s h e =
+    said_apart (fine (owner_in r)) (refusal (owner_in r)) r s h ∙ ap (λ (x : Owner). refusal x n w) e
+
 pub said_stopped : {A : Type 0} (fine : Owner → ℕ → A) (refusal : Owner → ℕ → Where → A) (r : ℕ) {o : Owner} {n : ℕ} {w : Where} → 1 ≤ n
     → (number_in r ≡ n) × (place_of (place_in r) (index_in r) ≡ w) → owner_in r ≡ o
     → said_by (fine (owner_in r)) (refusal (owner_in r)) r ≡ refusal o n w
-said_stopped fine refusal r {o} {n} {w} s h e =
-    said_refused (fine (owner_in r)) (refusal (owner_in r)) r s h ∙ ap (λ (x : Owner). refusal x n w) e
-
--- and so does one with the number 0, which has a place
-pub said_unnumbered_stop : {A : Type 0} (fine : Owner → ℕ → A) (refusal : Owner → ℕ → Where → A) (r : ℕ) {o : Owner} {w : Where}
-    → 1 ≤ place_in r → (number_in r ≡ 0) × (place_of (place_in r) (index_in r) ≡ w) → owner_in r ≡ o
-    → said_by (fine (owner_in r)) (refusal (owner_in r)) r ≡ refusal o 0 w
-said_unnumbered_stop fine refusal r {o} {w} s h e =
-    said_unnumbered (fine (owner_in r)) (refusal (owner_in r)) r s h ∙ ap (λ (x : Owner). refusal x 0 w) e
+said_stopped fine refusal r s h e = said_apart_stop fine refusal r (λ z. absurd (omega (arith, s, z))) h e
 
 -- the number that reads as neither card is 0
 pub neither_zero : (c : ℕ) → c < length owners → owner_at c ≡ neither → c ≡ 0

@@ -1,11 +1,11 @@
 -- A number reads as the outcome that it tells, and every decision has a number.
 use Prim.Native.Nat.{ℕ, zero, suc, ◌+◌, ◌*◌, ◌^◌, ◌≤◌, ◌<◌}
 use native.Mathlib.Omega.{arith}
-use mathlib.Core.Path.{◌≡◌, refl, ap, ap₂, ◌∙◌}
+use mathlib.Core.Path.{◌≡◌, refl, sym, ap, ap₂, ◌∙◌}
 use mathlib.Core.Logic.{◌⊎◌, inl, inr}
 use mathlib.Core.List.{List}
 use borrow.Author.Tests.{eq-eqb, ne_eqb}
-use Rattle.std.specs.Prelude.{Result, Ok, Err, IfErr}
+use Rattle.std.specs.Prelude.{false, ◌&&◌, eqb, Result, Ok, Err, IfErr}
 use Rattle.card.specs.declared.faults.Fault.{Fault}
 use Rattle.card.specs.declared.faults.Fault.TheVariants as faults
 use Rattle.card.specs.declared.faults.Refusal.{Refusal}
@@ -41,22 +41,26 @@ number_positive faults.Undivided k = omega arith
 number_positive (faults.Other zero) k = absurd (k refl)
 number_positive (faults.Other (suc n)) k = omega arith
 
+apart : (a b : ℕ) → (a ≡ 0 → 1 ≤ b) → eqb a 0 && eqb b 0 ≡ false
+apart zero zero h = absurd (omega (arith, h refl))
+apart zero (suc b) h = ne_eqb (suc b) 0 (λ z. omega (arith, z))
+apart (suc a) b h = simp (ne_eqb (suc a) 0 (λ z. omega (arith, z))) refl
+
 -- what a number says, once its parts are known
 module _ {A : Type 0} (fine : ℕ → A) (refusal : ℕ → Where → A) (r : ℕ) where
   pub said_fine : {k : ℕ} → (number_in r ≡ 0) × (place_in r ≡ 0) × (index_in r ≡ k) → said_by fine refusal r ≡ fine k
   unfolding said_by
   said_fine h = simp (eq-eqb (number_in r) 0 h.0, eq-eqb (place_in r) 0 h.1) (ap fine h.2)
 
-  pub said_refused : {n : ℕ} {w : Where} → 1 ≤ n → (number_in r ≡ n) × (place_of (place_in r) (index_in r) ≡ w)
+  -- a refusal, which has a place that is not 0 where its number is 0
+  pub said_apart : {n : ℕ} {w : Where} → (n ≡ 0 → 1 ≤ place_in r) → (number_in r ≡ n) × (place_of (place_in r) (index_in r) ≡ w)
       → said_by fine refusal r ≡ refusal n w
   unfolding said_by
-  said_refused g h = simp (ne_eqb (number_in r) 0 (λ z. omega (arith, h.0))) (ap₂ refusal h.0 h.1)
+  said_apart g h = simp (apart (number_in r) (place_in r) (λ z. g (sym h.0 ∙ z))) (ap₂ refusal h.0 h.1)
 
-  pub said_unnumbered : {w : Where} → 1 ≤ place_in r → (number_in r ≡ 0) × (place_of (place_in r) (index_in r) ≡ w)
-      → said_by fine refusal r ≡ refusal 0 w
-  unfolding said_by
-  said_unnumbered g h =
-      simp (eq-eqb (number_in r) 0 h.0, ne_eqb (place_in r) 0 (λ z. omega (arith, g))) (ap₂ refusal h.0 h.1)
+  pub said_refused : {n : ℕ} {w : Where} → 1 ≤ n → (number_in r ≡ n) × (place_of (place_in r) (index_in r) ≡ w)
+      → said_by fine refusal r ≡ refusal n w
+  said_refused g h = said_apart (λ z. absurd (omega (arith, g, z))) h
 
 -- the parts of a number, packed
 unfoldable pub pack : ℕ → ℕ → ℕ → ℕ

@@ -5,7 +5,7 @@ use Rattle.card.specs.Verdict.{number_of}
 use Rattle.benched.specs.Benched.{neither, owner_of}
 use Rattle.bench.specs.Bench.{joined, refused, told_join}
 use Rattle.bench_numbers.specs.BenchNumbers.{join_in}
-use Rattle.bench_numbers.proofs.CardsReadBack.{said_unnumbered_stop, neither_zero}
+use Rattle.bench_numbers.proofs.CardsReadBack.{said_apart_stop, neither_zero}
 use Rattle.bench_numbers.proofs.packed_join.Goals as goal
 
 pub returns-in-Err-clause-join : goal.returns-in-Err-clause-join
@@ -13,7 +13,7 @@ unfolding told_join join_in
 returns-in-Err-clause-join c =
     let told = c.packed_unnumbered_stop.ensures in
     rw (c.in-Err.is, sym c.number.ensures, c.if-number-eq0.true)
-    (said_unnumbered_stop (λ x. joined) refused c.packed_unnumbered_stop.result told.placed told.parts told.owner)
+    (said_apart_stop (λ x. joined) refused c.packed_unnumbered_stop.result (λ z. told.placed) told.parts told.owner)
 
 pub returns-in-Err-clause-uncarded : goal.returns-in-Err-clause-uncarded
 returns-in-Err-clause-uncarded c h =
